@@ -1,0 +1,4 @@
+pub mod Slots
+pub mod Sub
+pub mod Holding
+pub mod Outcome

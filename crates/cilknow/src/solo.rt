@@ -1,0 +1,28 @@
+ghost use Rattle.std.specs.Prelude.{IfOk};
+ghost use Rattle.cilknow.specs.Outcome.{IsOutcomeOf};
+
+use crate::evaluate::evaluate;
+use crate::fault::SoloFault;
+use kind_check::check;
+use serial_meaning::{Job, Outcome};
+use std::alloc::Global;
+use task_syntax::parse;
+
+/// The outcome of a program's text on an input, run on one node and one thread: of the ready frames the newest of the
+/// greatest level runs, and each body is one turn. The refusals come in this order: the text (E2 to E6), its kinds (E10 to
+/// E18), the count of inputs (E21), and then E95 where the run would take more than `turns` turns. E9 comes for want of
+/// memory.
+pub fn solo(
+    alloc: Global,
+    text: &[u8],
+    input: Vec<i64>,
+    job: u64,
+    turns: u64,
+) -> Result<Outcome, SoloFault>
+    ensures { IfOk result (IsOutcomeOf text.now input.items) }
+{
+    let program = parse(alloc, text)?;
+    let checked = check(alloc, program)?;
+    let job = Job::new(checked, input, job)?;
+    evaluate(alloc, &job, turns)
+}

@@ -1,0 +1,97 @@
+ghost use Rattle.std.specs.Prelude.{◌≡◌, ◌≤◌, ◌<◌, ◌↔◌, [], ◌∷◌, zero, length, IfOk, IsErrOf};
+ghost use Rattle.ids.specs.Place.{level_of, IsPlace};
+
+use std::alloc::{AllocError, Global};
+use std::marker::Model;
+use thiserror::Error;
+
+/// A place has at most so many steps.
+pub const MOST_STEPS: usize = 1024;
+
+/// Why a place isn't made.
+#[derive(Clone, Copy, Debug, PartialEq, Eq, Error)]
+pub enum PlaceError {
+    /// The place has 1,024 steps.
+    #[error("E1")]
+    Full,
+    /// There is no memory.
+    #[error("E9")]
+    Memory,
+}
+
+/// Where a task stands in the tree of a run: the steps from the root, at most 1,024 of them. Step 0 goes to the
+/// successor of a task, step i of 1 to 8 to the kid of its hole i. Contracts see the list of steps, the last step
+/// first.
+#[derive(Drop)]
+pub struct Place {
+    steps: Vec<u8>,
+}
+
+impl Model for Place {
+    ghost use Rattle.std.specs.Prelude.{ℕ, List, reverse};
+
+    ghost Value = { List ℕ };
+
+    ghost use Rattle.ids.specs.Place.{IsPlace};
+
+    ghost view = { λ p. reverse p.steps.items };
+
+    ghost invariant = { λ p. IsPlace (reverse p.steps.items) };
+}
+
+impl Place {
+    /// The place of the root task: no step. It takes no memory.
+    pub fn root(alloc: Global) -> Place
+        ensures { result ≡ [] }
+    {
+        Place {
+            steps: Vec::new(alloc),
+        }
+    }
+
+    /// The place of the kid of a hole, 1 to 8. `Full` comes only at 1,024 steps.
+    pub fn child(&self, alloc: Global, hole: u8) -> Result<Place, PlaceError>
+        requires { hole < 9 }
+        ensures place { IfOk result (λ p. p ≡ hole ∷ self.now) }
+        ensures full { IsErrOf result PlaceError.Full ↔ (1024 ≤ length self.now) }
+        ensures short { length self.now ≤ 1024 }
+    {
+        if self.steps.len() >= MOST_STEPS {
+            return Err(PlaceError::Full);
+        }
+        let mut steps = Vec::with_capacity(alloc, self.steps.len() + 1).map_err(memory)?;
+        steps.extend_from_slice(&self.steps).map_err(memory)?;
+        steps.push(hole).map_err(|_| PlaceError::Memory)?;
+        Ok(Place { steps })
+    }
+
+    /// The place of the successor. `Full` comes only at 1,024 steps.
+    pub fn next(&self, alloc: Global) -> Result<Place, PlaceError>
+        ensures place { IfOk result (λ p. p ≡ zero ∷ self.now) }
+        ensures full { IsErrOf result PlaceError.Full ↔ (1024 ≤ length self.now) }
+        ensures short { length self.now ≤ 1024 }
+    {
+        self.child(alloc, 0)
+    }
+
+    /// How many levels the place is below the root: the count of its steps to kids.
+    pub fn level(&self) -> u16
+        ensures { result ≡ level_of self.now }
+    {
+        self.steps.iter().filter(|step| **step != 0).count() as u16
+    }
+
+    /// The count of steps.
+    pub fn len(&self) -> u16
+        ensures steps { result ≡ length self.now }
+        ensures place { IsPlace self.now }
+    {
+        self.steps.len() as u16
+    }
+}
+
+fn memory(_refused: AllocError) -> PlaceError
+    ensures { result ≡ PlaceError.Memory }
+{
+    PlaceError::Memory
+}

@@ -1,0 +1,9 @@
+pub mod Accepted
+pub mod Ends
+pub mod First
+pub mod FirstPlaces
+pub mod Known
+pub mod Leasts
+pub mod Places
+pub mod Scopes
+pub mod Steps

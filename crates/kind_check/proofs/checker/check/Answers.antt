@@ -1,0 +1,15 @@
+use Rattle.std.proofs.Common.{◌≡◌, None, Some}
+use Rattle.kind_check.specs.Faults.{faults}
+use Rattle.kind_check.specs.Least.{least_with}
+use Rattle.kind_check.proofs.First.{least_none, least_is}
+use Rattle.kind_check.proofs.checker.check.Goals as goal
+
+pub new-requires : goal.new-requires
+new-requires c =
+    let e : least_with None (faults c.args.program) ≡ None = cc (c.in-Ok.ensures, c.in-None.ensures) in
+    least_none _ e
+
+pub returns-in-Some-clause-refused : goal.returns-in-Some-clause-refused
+returns-in-Some-clause-refused c =
+    let e : least_with None (faults c.args.program) ≡ Some (c.in-Some.offset, c.in-Some.fault) = cc (c.in-Ok.ensures, c.in-Some.ensures) in
+    least_is _ _ e

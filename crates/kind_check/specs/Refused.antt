@@ -1,0 +1,10 @@
+-- What is said of a refused program.
+use Rattle.std.specs.Prelude.{List}
+use Rattle.kind_check.specs.declared.checked.KindError.{KindError}
+use Rattle.kind_check.specs.declared.checked.KindError.TheVariants as error
+use Rattle.kind_check.specs.Faults.{Fault, IsLeast}
+
+-- the answer is the least fault; nothing is said for want of memory
+abbrev pub RefusedFor : List Fault → KindError → Type 0
+RefusedFor fs (error.Fault kind at) = IsLeast fs (at, kind)
+RefusedFor fs error.Memory = Unit {0}

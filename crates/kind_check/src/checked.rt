@@ -1,0 +1,112 @@
+ghost use Rattle.std.specs.Prelude.{◌≡◌, ◌<◌, [], length};
+ghost use Rattle.kind_check.specs.Total.{IsTotal};
+ghost use Rattle.kind_check.specs.Faults.{faults, number_of_fault};
+
+use std::marker::Model;
+use task_syntax::Program;
+use thiserror::Error;
+
+/// What is wrong with the kinds of a program. Of all faults the one at the smallest offset is answered, at one offset the
+/// one that stands first here.
+#[derive(Clone, Copy, PartialEq, Eq, Debug)]
+pub enum KindFault {
+    /// E10: no thread `main`; at the text's length.
+    NoMain,
+    /// E11: a thread, parameter, `let` or hole of a name that is already there; at the second name.
+    NameTwice,
+    /// E12: a spawned thread isn't there; at its name.
+    UnknownThread,
+    /// E13: a name that isn't in scope; at the name.
+    UnknownName,
+    /// E14: a wrong count of arguments, the first thread of that name counting; at the spawned name.
+    Arity,
+    /// E15: a number where a continuation stands, or the reverse; at the name.
+    KindMismatch,
+    /// E16: a hole that isn't used; at the closing brace of its block.
+    ContUnused,
+    /// E17: a hole used again, or the own continuation used after `spawn_next` took it; at the second use.
+    ContTwice,
+    /// E18: the 65th thread or the 9th number parameter; at its name.
+    Limit,
+}
+
+impl KindFault {
+    /// The number of the refusal, 10 to 18.
+    pub fn number(self) -> u8
+        ensures { result ≡ number_of_fault self }
+    {
+        match self {
+            KindFault::NoMain => 10,
+            KindFault::NameTwice => 11,
+            KindFault::UnknownThread => 12,
+            KindFault::UnknownName => 13,
+            KindFault::Arity => 14,
+            KindFault::KindMismatch => 15,
+            KindFault::ContUnused => 16,
+            KindFault::ContTwice => 17,
+            KindFault::Limit => 18,
+        }
+    }
+}
+
+/// Why a program isn't accepted.
+#[derive(Clone, Copy, Debug, PartialEq, Eq, Error)]
+pub enum KindError {
+    /// The least kind fault of the program, and its byte offset in the text.
+    #[error("E{number} at {1}", number = .0.number())]
+    Fault(KindFault, u32),
+    /// E9: there is no memory.
+    #[error("E9")]
+    Memory,
+}
+
+/// An accepted program: no kind is wrong, and so every body reaches an end on any numbers.
+#[derive(Drop)]
+pub struct Checked {
+    program: Program,
+}
+
+impl Model for Checked {
+    ghost use Rattle.std.specs.Coded.{codes};
+    ghost use Rattle.task_syntax.specs.contracts.tree.Expr as expr;
+    ghost use Rattle.task_syntax.specs.contracts.tree.Block as block;
+    ghost use Rattle.task_syntax.specs.contracts.tree.End as end;
+    ghost use Rattle.task_syntax.specs.declared.tree.Program.{Program};
+
+    ghost Value = { Program };
+
+    ghost coded = { Prim.hlevel (codes, expr.the_row.coded, block.the_row.coded, end.the_row.coded) };
+
+    ghost use Rattle.kind_check.specs.Total.{IsAccepted};
+
+    ghost view = { λ c. c.program };
+
+    ghost invariant = { λ c. IsAccepted c.program };
+}
+
+impl Checked {
+    /// A program that has no kind fault.
+    pub(crate) fn new(program: Program) -> Checked
+        requires { faults program ≡ [] }
+        ensures { result ≡ program }
+    {
+        Checked { program }
+    }
+
+    /// The program's tree.
+    pub fn program(&self) -> &Program
+        ensures same { result.now ≡ self.now }
+        ensures accepted { faults self.now ≡ [] }
+        ensures total { IsTotal self.now }
+    {
+        &self.program
+    }
+
+    /// How many threads the program has, 1 to 64. It takes no memory.
+    pub fn threads(&self) -> usize
+        ensures count { result ≡ length self.now.threads }
+        ensures few { result < 65 }
+    {
+        self.program.threads.len()
+    }
+}

@@ -1,0 +1,27 @@
+ghost use Rattle.std.specs.Prelude.{◌≡◌, [], IfOk, IfErr, OnOk};
+ghost use Rattle.kind_check.specs.Faults.{faults};
+ghost use Rattle.kind_check.specs.Refused.{RefusedFor};
+
+use crate::checked::{Checked, KindError};
+use crate::walk::least_fault;
+use std::alloc::Global;
+use task_syntax::Program;
+
+/// Accepts a program with no kind fault, else answers its least fault: by its offset, then by its number. It takes
+/// memory for the names in scope, and a nesting of blocks and operators is walked by recursion.
+///
+/// # Errors
+/// The least fault and its offset; `Memory` for want of memory alone.
+pub fn check(alloc: Global, program: Program) -> Result<Checked, KindError>
+    ensures accepted { IfOk result (λ c. c ≡ program) }
+    ensures faultless { OnOk result (faults program ≡ []) }
+    ensures refused { IfErr result (RefusedFor (faults program)) }
+{
+    let Ok(least) = least_fault(alloc, &program) else {
+        return Err(KindError::Memory);
+    };
+    match least.fault() {
+        None => Ok(Checked::new(program)),
+        Some((offset, fault)) => Err(KindError::Fault(fault, offset)),
+    }
+}

@@ -1,0 +1,20 @@
+//! The kinds of names in a task program: an accepted program's bodies are never stuck.
+#![tactic(auto)]
+
+mod checked;
+mod checker;
+mod expressions;
+mod index;
+mod least;
+mod names;
+mod scope;
+mod statements;
+mod tables;
+#[cfg(test)]
+mod tests;
+mod turn;
+mod walk;
+
+pub use checked::{Checked, KindError, KindFault};
+pub use checker::check;
+pub use turn::{Kid, Slot, Turn};

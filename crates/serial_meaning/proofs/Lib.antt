@@ -1,0 +1,4 @@
+pub mod FrameLaws
+pub mod JobLaws
+pub mod MeaningLaws
+pub mod SerialLaws

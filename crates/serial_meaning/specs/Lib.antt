@@ -1,0 +1,5 @@
+pub mod Serial
+pub mod Places
+pub mod Job
+pub mod Agrees
+pub mod Count

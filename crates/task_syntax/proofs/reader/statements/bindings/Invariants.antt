@@ -1,0 +1,9 @@
+use Rattle.std.proofs.Common.{◌≤◌, length}
+use Rattle.task_syntax.specs.Grammar.{Many, IsLet}
+use Rattle.task_syntax.proofs.reader.statements.bindings.Given as goal
+
+abbrev pub invariant-loop-alloc : goal.invariant-loop-alloc
+invariant-loop-alloc l = record { read : Many IsLet l.tokens l.rest l.all; shorter : length l.rest ≤ length l.tokens }
+
+abbrev pub decreases-loop-alloc : goal.decreases-loop-alloc
+decreases-loop-alloc l = length l.rest

@@ -1,0 +1,9 @@
+use Rattle.std.proofs.Common.{◌≤◌, length}
+use Rattle.task_syntax.specs.Grammar.{Further, Many, IsName}
+use Rattle.task_syntax.proofs.reader.threads.further_names.Given as goal
+
+abbrev pub invariant-loop-after : goal.invariant-loop-after
+invariant-loop-after l = record { read : Many (Further IsName) l.tokens l.rest l.all; shorter : length l.rest ≤ length l.tokens }
+
+abbrev pub decreases-loop-after : goal.decreases-loop-after
+decreases-loop-after l = length l.rest

@@ -1,0 +1,88 @@
+ghost use Rattle.std.specs.Prelude.{◌≡◌};
+ghost use Rattle.task_syntax.specs.declared.error.ParseError.TheVariants.{Memory};
+
+use std::alloc::{AllocError, AllocFailed};
+use thiserror::Error;
+
+/// Why a text isn't read, with the byte offset in the text.
+#[derive(Clone, Copy, Debug, PartialEq, Eq, Error)]
+pub enum ParseError {
+    /// E2: a token or byte that can't stand there; the text's length at its end.
+    #[error("E2 at {0}")]
+    Unexpected(u32),
+    /// E3: a text of more than 65,536 bytes, at 65,536; or a name of more than 31 bytes, at its start.
+    #[error("E3 at {0}")]
+    TooLong(u32),
+    /// E4: an open parenthesis inside 64 others of its expression; the `{` of a block 65 deep; an operator whose tree is
+    /// over 64 levels, met once its right operand was read.
+    #[error("E4 at {0}")]
+    TooDeepNest(u32),
+    /// E5: a number over 9223372036854775807.
+    #[error("E5 at {0}")]
+    NumberRange(u32),
+    /// E6: the first byte over 7F.
+    #[error("E6 at {0}")]
+    NotAscii(u32),
+    /// E9: there is no memory.
+    #[error("E9")]
+    Memory,
+}
+
+impl From<AllocError> for ParseError {
+    ghost from_gives = { λ _ e. e ≡ Memory };
+
+    fn from(_e: AllocError) -> ParseError {
+        ParseError::Memory
+    }
+}
+
+impl<T: Drop> From<AllocFailed<T>> for ParseError {
+    ghost from_gives = { λ _ e. e ≡ Memory };
+
+    fn from(_e: AllocFailed<T>) -> ParseError {
+        ParseError::Memory
+    }
+}
+
+impl ParseError {
+    ghost use Rattle.task_syntax.specs.Errors.{number_of_error, offset_of_error};
+
+    /// The number of the refusal: 2 to 6, or 9.
+    pub fn number(&self) -> u8
+        ensures { result ≡ number_of_error self.now }
+    {
+        match self {
+            ParseError::Unexpected(_) => 2,
+            ParseError::TooLong(_) => 3,
+            ParseError::TooDeepNest(_) => 4,
+            ParseError::NumberRange(_) => 5,
+            ParseError::NotAscii(_) => 6,
+            ParseError::Memory => 9,
+        }
+    }
+
+    /// The byte offset in the text; none for want of memory.
+    pub fn offset(&self) -> Option<u32>
+        ensures { result ≡ offset_of_error self.now }
+    {
+        match self {
+            ParseError::Unexpected(at)
+            | ParseError::TooLong(at)
+            | ParseError::TooDeepNest(at)
+            | ParseError::NumberRange(at)
+            | ParseError::NotAscii(at) => Some(*at),
+            ParseError::Memory => None,
+        }
+    }
+}
+
+/// Why a program isn't printed.
+#[derive(Clone, Copy, Debug, PartialEq, Eq, Error)]
+pub enum PrintError {
+    /// E3: the printed text would be over 65,536 bytes.
+    #[error("E3")]
+    TooLong,
+    /// E9: there is no memory.
+    #[error("E9")]
+    Memory,
+}

@@ -1,0 +1,16 @@
+//! Task programs: their tree, the reader of their texts, and the printer.
+#![tactic(auto)]
+
+mod error;
+mod parsing;
+mod printing;
+mod reader;
+#[cfg(test)]
+mod tests;
+mod tree;
+
+pub use error::{ParseError, PrintError};
+pub use parsing::{LONGEST_TEXT, parse};
+pub use printing::print;
+pub use task_tokens::Operator;
+pub use tree::{Argument, Block, End, Expr, Given, Let, Name, Program, Thread, Use};

@@ -1,0 +1,33 @@
+ghost use Rattle.std.specs.Prelude.{◌<◌, length, All, IfOk, MatchOption};
+ghost use Rattle.task_syntax.specs.Grammar.{Reads};
+
+use crate::error::ParseError;
+use crate::reader::program;
+use crate::tree::Program;
+use std::alloc::Global;
+use task_tokens::tokenize;
+
+/// The longest text, in bytes.
+pub const LONGEST_TEXT: usize = 65536;
+
+/// Reads a program's text. A text over 65,536 bytes is refused first, then a byte over 7F, then the first fault that a
+/// reader from left to right meets.
+pub fn parse(alloc: Global, text: &[u8]) -> Result<Program, ParseError>
+    ensures reading { IfOk result (λ p. Reads text.now p) }
+{
+    if text.len() > LONGEST_TEXT {
+        return Err(ParseError::TooLong(LONGEST_TEXT as u32));
+    }
+    if let Some(at) = beyond_ascii(text) {
+        return Err(ParseError::NotAscii(at as u32));
+    }
+    let tokens = tokenize(alloc, text)?;
+    program(alloc, tokens.as_slice())
+}
+
+/// The place of the first byte over 7F.
+fn beyond_ascii(text: &[u8]) -> Option<usize>
+    ensures { MatchOption result (All (λ b. b < 128) text.now) (λ i. i < length text.now) }
+{
+    text.iter().position(|b| *b >= 128)
+}

@@ -1,0 +1,88 @@
+ghost use Rattle.std.specs.Prelude.{◌≤◌, ◌<◌, [], length, IfOk};
+ghost use Rattle.task_tokens.specs.declared.kinds.TokenKind.TheVariants as kind;
+ghost use Rattle.task_syntax.specs.Grammar.{BeginsAt, IsName, IsThread, IsProgram, Many, Further};
+
+use crate::error::ParseError;
+use crate::reader::blocks::block;
+use crate::reader::tokens::{expect_mark, expect_word, first, mark, name, offset, word};
+use crate::tree::{Name, Program, Thread};
+use ids::Listed;
+use std::alloc::Global;
+use task_tokens::{Sign, Token, TokenKind, Word};
+
+/// The most blocks inside each other.
+const DEEPEST: u8 = 64;
+
+/// All tokens of a text, the last of them its end.
+pub fn program(alloc: Global, tokens: &[Token]) -> Result<Program, ParseError>
+    ensures read { IfOk result (λ p. IsProgram tokens.now p) }
+{
+    let (threads, rest) = threads(alloc, tokens)?;
+    let length = end(rest)?;
+    Ok(Program { threads, length })
+}
+
+/// The place of the end, which has to stand here.
+fn end(tokens: &[Token]) -> Result<u32, ParseError>
+    ensures ok { IfOk result (λ at. BeginsAt kind.End at tokens.now []) }
+{
+    match tokens {
+        [
+            Token {
+                kind: TokenKind::End,
+                offset,
+            },
+        ] => Ok(*offset),
+        _ => Err(ParseError::Unexpected(offset(tokens))),
+    }
+}
+
+/// The threads that stand here.
+fn threads(alloc: Global, tokens: &[Token]) -> Result<(Listed<Thread>, &[Token]), ParseError>
+    ensures read { IfOk result (λ x. Many IsThread tokens.now x.1.now x.0) }
+{
+    let mut all = Listed::new(alloc);
+    let mut rest = tokens;
+    while word(Word::Thread, rest).is_some() {
+        let (one, behind) = thread(alloc, rest)?;
+        all.push(one)?;
+        rest = behind;
+    }
+    Ok((all, rest))
+}
+
+/// `thread name(continuation, numbers) block`
+fn thread(alloc: Global, tokens: &[Token]) -> Result<(Thread, &[Token]), ParseError>
+    ensures read { IfOk result (λ x. IsThread tokens.now x.1.now x.0) }
+    ensures shorter { IfOk result (λ x. length x.1.now < length tokens.now) }
+{
+    let rest = expect_word(Word::Thread, tokens)?;
+    let (title, rest) = name(alloc, rest)?;
+    let rest = expect_mark(Sign::Open, rest)?;
+    let (continuation, rest) = name(alloc, rest)?;
+    let (numbers, rest) = further_names(alloc, rest)?;
+    let rest = expect_mark(Sign::Close, rest)?;
+    let (body, rest) = block(alloc, DEEPEST, rest)?;
+    let thread = Thread {
+        name: title,
+        continuation,
+        numbers,
+        body,
+    };
+    Ok((thread, rest))
+}
+
+/// `, name` as often as it stands here.
+fn further_names(alloc: Global, tokens: &[Token]) -> Result<(Listed<Name>, &[Token]), ParseError>
+    ensures read { IfOk result (λ x. Many (Further IsName) tokens.now x.1.now x.0) }
+    ensures shorter { IfOk result (λ x. length x.1.now ≤ length tokens.now) }
+{
+    let mut all = Listed::new(alloc);
+    let mut rest = tokens;
+    while let Some(after) = mark(Sign::Comma, rest) {
+        let (one, behind) = name(alloc, after)?;
+        all.push(one)?;
+        rest = behind;
+    }
+    Ok((all, rest))
+}
