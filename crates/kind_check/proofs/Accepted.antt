@@ -60,12 +60,14 @@ record BindKnown (s : Scope) (ns : List Name) (vs : List ℤ) : Type 0 where
   is : bind ns vs ≡ Some env
   covers : (name : List ℕ) → kind_of (after_parameters s ns) name ≡ Some Value → (kind_of s name ≡ Some Value) ⊎ Defined (number_of env name)
 
+-- one parameter more in front
 parameter_step : (o : Option Kind) (t : Bool) (m : Option ℤ) (v : ℤ) → (or_else o (if t then Some Value else None) ≡ Some Value) ⊎ Defined m → (o ≡ Some Value) ⊎ Defined (if t then Some v else m)
 parameter_step o true m v h = inr (record { value = v; is = refl })
 parameter_step o false m v (inr d) = inr d
 parameter_step (Some k) false m v (inl e) = inl e
 parameter_step None false m v (inl e) = absurd cc
 
+-- as many numbers as parameters are bound
 bind_known : (s : Scope) (ns : List Name) (vs : List ℤ) → length ns ≡ length vs → BindKnown s ns vs
 bind_known s [] [] h = record { env = []; is = refl; covers = λ name e. inl e }
 bind_known s [] (v ∷ vs) h = absurd (omega arith)
@@ -86,9 +88,11 @@ own_covers continuation name e = at_test (bytes_eq continuation name) e
     at_test true e = cc
     at_test false e = cc
 
+-- what follows parameters that are bound
 behind_bind : (p : Program) (o : Option Env) (f : Env → Option _) (env : Env) → o ≡ Some env → EndKnown p (f env) → EndKnown p (o >>= f)
 behind_bind p o f env e k = rw e k
 
+-- a thread without fault reaches an end on as many numbers as it takes
 thread_known : (p : Program) → Few p → (t : Thread) (numbers : List ℤ) → thread_faults p.threads t ≡ [] → length t.numbers ≡ length numbers → EndKnown p (thread_turn p.threads t numbers)
 thread_known p few t numbers h e =
     let s = own_scope t in
@@ -107,6 +111,7 @@ record ThreadAt (p : Program) (i count : ℕ) : Type 0 where
   is : slice_get p.threads i ≡ Some thread
   arity : length thread.numbers ≡ count
 
+-- a thread that takes a count of numbers is there
 thread_at : (p : Program) (i count : ℕ) → Takes p i count → ThreadAt p i count
 thread_at p i count k = at_thread (slice_get p.threads i) refl k.arity
   where

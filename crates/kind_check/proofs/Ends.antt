@@ -32,6 +32,7 @@ record Named (ts : List Thread) (name : List ℕ) (thread : Thread) : Type 0 whe
   is : (i : ℕ) → thread_from i ts name ≡ Some (i + number)
   at : slice_get ts number ≡ Some thread
 
+-- the first thread of a name has a number
 named_at : (ts : List Thread) (name : List ℕ) (thread : Thread) → thread_named ts name ≡ Some thread → Named ts name thread
 named_at [] name thread e = absurd cc
 named_at (t ∷ ts) name thread e = at_test (bytes_eq t.name.text name) refl (named_at ts name thread) e
@@ -48,6 +49,7 @@ pub record CallKnown (p : Program) (name : Name) (count : ℕ) : Type 0 where
   pub is : thread_of p.threads name.text ≡ Some number
   pub takes : Takes p number count
 
+-- a call without fault is of a thread that is there
 pub call_known : (p : Program) (name : Name) (count : ℕ) → call_faults p.threads name count ≡ [] → CallKnown p name count
 call_known p name count h = at_thread (thread_named p.threads name.text) refl h
   where
@@ -82,6 +84,7 @@ record SlotKnown (p : Program) (env : Env) (i : ℕ) (given : Given) : Type 0 wh
   is : slot_for p.threads env i given ≡ Some slot
   fits : SlotFits p slot
 
+-- what is given to a hole without fault makes a slot
 slot_known : (p : Program) (s : Scope) (env : Env) (i : ℕ) (given : Given) → Covers s env → given_faults p.threads s given ≡ [] → SlotKnown p env i given
 slot_known p s env i (Sent e) c h =
     let v = expr_known s env e c h in
@@ -92,6 +95,7 @@ slot_known p s env i (Spawned name es) c h =
     let vs = exprs_known s env es c n.1 in
     record { slot = Awaits (record { hole = i; thread = t.number; arguments = vs.values }); is = rw (t.is, vs.is) refl; fits = rw vs.count t.takes }
 
+-- the slots where a hole stands first, step by step
 hole_first : (t : Bool) (o : Option Given) (f : Given → Option Slot) (r : Option (List Slot)) (given : Given) (slot : Slot) (slots : List Slot) → t ≡ false → o ≡ Some given → f given ≡ Some slot → r ≡ Some slots → (if t then None else (o >>= λ g. f g >>= λ x. r >>= λ xs. Some (x ∷ xs))) ≡ Some (slot ∷ slots)
 hole_first t o f r given slot slots a b d e = rw (a, b, d, e) refl
 
@@ -102,6 +106,7 @@ pub record SlotsKnown (p : Program) (env : Env) (uses : List Use) (i : ℕ) (arg
   pub fit : SlotsFit p slots
   pub count : length slots ≡ length args
 
+-- a hole without the fault of an unused one is used
 is_used : (close : ℕ) (o : Option Given) → used_faults close o ≡ [] → Defined o
 is_used close None h = absurd cc
 is_used close (Some given) h = record { value = given; is = refl }
@@ -140,16 +145,20 @@ pub record EndKnown (p : Program) (o : Option Turn) : Type 0 where
   pub is : o ≡ Some turn
   pub fits : TurnFits p turn
 
+-- whichever end a condition picks is reached
 one_of : (p : Program) (t : Bool) (a b : Option Turn) → EndKnown p a → EndKnown p b → EndKnown p (if t then a else b)
 one_of p true a b x y = x
 one_of p false a b x y = y
 
+-- what follows lets that have values
 behind_lets : (p : Program) (o : Option Env) (f : Env → Option Turn) (env : Env) → o ≡ Some env → EndKnown p (f env) → EndKnown p (o >>= f)
 behind_lets p o f env e k = rw e k
 
+-- what follows a condition that has a value
 behind_value : (p : Program) (o : Option ℤ) (f : ℤ → Option Turn) (v : ℤ) → o ≡ Some v → EndKnown p (f v) → EndKnown p (o >>= f)
 behind_value p o f v e k = rw e k
 
+-- an end without fault is reached
 pub end_known : (p : Program) → Few p → (s : Scope) (env : Env) (close : ℕ) (end : End) → Covers s env → end_faults p.threads s close end ≡ [] → EndKnown p (end_turn p.threads env end)
 end_known p few s env close (If' e pa lets1 end1 close1 pb lets2 end2 close2) c h =
     let n = none_left (expr_faults s e) ((lets_faults s lets1 ++ end_faults p.threads (after_names s lets1) close1 end1) ++ (lets_faults s lets2 ++ end_faults p.threads (after_names s lets2) close2 end2)) h in
@@ -179,6 +188,7 @@ end_known p few s env close (Next name k args uses) c h =
     let r = slots_known p (after_arguments s args) env close uses (covers_arguments s env args c) y.0 s 1 args c x.0 y.1 (omega arith) in
     record { turn = Joins t.number r.slots; is = rw (t.is, r.is) refl; fits = (rw r.count t.takes, r.fit) }
 
+-- a block without fault reaches an end
 pub block_known : (p : Program) → Few p → (s : Scope) (env : Env) (b : Block) → Covers s env → block_faults p.threads s b ≡ [] → EndKnown p (block_turn p.threads env b)
 block_known p few s env b c h =
     let n = none_left (lets_faults s b.lets) (end_faults p.threads (after_names s b.lets) b.close b.end) h in

@@ -10,6 +10,7 @@ use Rattle.kind_check.specs.Least.{is_before, least_with}
 no_later_self : (f : Fault) → IsNoLater f f
 no_later_self f = inr (refl, omega arith)
 
+-- the order of faults is transitive
 no_later_trans : (f g h : Fault) → IsNoLater f g → IsNoLater g h → IsNoLater f h
 no_later_trans f g h (inl a) (inl b) = inl (omega arith)
 no_later_trans f g h (inl a) (inr b) = inl (omega (arith, b.0))
@@ -26,6 +27,7 @@ before_true f g e = by_tests (nat_lt f.0 g.0) (f.0 == g.0) (nat_lt (number_of_fa
     by_tests false true false ea eb ec e = absurd cc
     by_tests false false c ea eb ec e = absurd cc
 
+-- and what its failing says
 before_false : (f g : Fault) → is_before f g ≡ false → IsNoLater g f
 before_false f g e = by_tests (nat_lt f.0 g.0) (f.0 == g.0) (nat_lt (number_of_fault f.1) (number_of_fault g.1)) refl refl refl e
   where
@@ -41,12 +43,15 @@ record Kept (o : Option Fault) (fs : List Fault) (f : Fault) : Type 0 where
   before : (g : Fault) → o ≡ Some g → IsNoLater f g
   all : All (IsNoLater f) fs
 
+-- a list has its first fault
 contains_head : (f : Fault) (fs : List Fault) → Contains (f ∷ fs) f
 contains_head f fs = (0, omega arith, refl)
 
+-- a list has the faults behind its first
 contains_tail : (f g : Fault) (fs : List Fault) → Contains fs f → Contains (g ∷ fs) f
 contains_tail f g fs c = (suc c.0, omega (arith, c.1), c.2)
 
+-- the fold keeps what is known of the least
 least_kept : (o : Option Fault) (fs : List Fault) (f : Fault) → least_with o fs ≡ Some f → Kept o fs f
 least_kept o [] f e = record { from = inl e; before = λ g h. at_same g cc; all = All-nil (IsNoLater f) }
   where

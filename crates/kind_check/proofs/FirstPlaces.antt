@@ -144,6 +144,7 @@ is_last o f place n t a b d e =
     let y : f ≡ place = grind (arith, nat_tests) in
     cc
 
+-- and what its failing says
 pub isnt_last : (o : Option ℕ) (f place n : ℕ) (t : Bool) → Some f ≡ o → t ≡ (f == place) → t ≡ false → place ≡ n → o ≢ Some n
 isnt_last o f place n t a b d e h =
     let z : (f == place) ≡ false = cc in

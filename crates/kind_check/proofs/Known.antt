@@ -43,6 +43,7 @@ kind_of_more (b ∷ s) n k name = at_test (bytes_eq b.0 name) (kind_of_more s n 
     at_test true h = refl
     at_test false h = h
 
+-- so is the number of a further name
 pub number_of_more : (env : Env) (n : List ℕ) (v : ℤ) (name : List ℕ) → number_of (env ++ (n, v) ∷ []) name ≡ or_else (number_of env name) (if bytes_eq n name then Some v else None)
 number_of_more [] n v name = refl
 number_of_more (b ∷ env) n v name = at_test (bytes_eq b.0 name) (number_of_more env n v name)
@@ -51,6 +52,7 @@ number_of_more (b ∷ env) n v name = at_test (bytes_eq b.0 name) (number_of_mor
     at_test true h = refl
     at_test false h = h
 
+-- a `let`, by what each name stands for
 value_step : (o : Option Kind) (m : Option ℤ) (t : Bool) (v : ℤ) → (o ≡ Some Value → Defined m) → or_else o (if t then Some Value else None) ≡ Some Value → Defined (or_else m (if t then Some v else None))
 value_step o (Some x) t v h e = record { value = x; is = refl }
 value_step (Some k) None t v h e = absurd (let d = h e in let z = d.is in cc)
@@ -61,6 +63,7 @@ value_step None None false v h e = absurd cc
 pub covers_value : (s : Scope) (env : Env) (n : List ℕ) (v : ℤ) → Covers s env → Covers (with_name s n Value) (env ++ (n, v) ∷ [])
 covers_value s env n v c = record { there = λ name e. rw number_of_more (value_step (kind_of s name) (number_of env name) (bytes_eq n name) v (c.there name) (rw kind_of_more at e)) }
 
+-- a hole, by what a name stands for
 hole_step : (o : Option Kind) (t : Bool) → or_else o (if t then Some Waits else None) ≡ Some Value → o ≡ Some Value
 hole_step (Some k) t e = e
 hole_step None true e = absurd cc
@@ -70,12 +73,14 @@ hole_step None false e = absurd cc
 pub covers_hole : (s : Scope) (env : Env) (n : List ℕ) → Covers s env → Covers (with_name s n Waits) env
 covers_hole s env n c = record { there = λ name e. c.there name (hole_step (kind_of s name) (bytes_eq n name) (rw kind_of_more at e)) }
 
+-- a name without fault where a number stands is one of a number
 number_there : (at : ℕ) (o : Option Kind) → number_faults at o ≡ [] → o ≡ Some Value
 number_there at None e = absurd cc
 number_there at (Some Value) e = refl
 number_there at (Some Own) e = absurd cc
 number_there at (Some Waits) e = absurd cc
 
+-- an operator on two values has a value
 both_known : (f : ℤ → ℤ → ℤ) (a b : Option ℤ) → Defined a → Defined b → Defined (both f a b)
 both_known f a b x y = record { value = f x.value y.value; is = rw (x.is, y.is) refl }
 
@@ -93,6 +98,7 @@ pub record AllKnown (env : Env) (es : List Expr) : Type 0 where
   pub is : values_of env es ≡ Some values
   pub count : length values ≡ length es
 
+-- expressions without faults have values
 pub exprs_known : (s : Scope) (env : Env) (es : List Expr) → Covers s env → exprs_faults s es ≡ [] → AllKnown env es
 exprs_known s env [] c h = record { values = []; is = refl; count = refl }
 exprs_known s env (e ∷ es) c h =
@@ -107,6 +113,7 @@ pub record LetsKnown (s : Scope) (env : Env) (ls : List Let) : Type 0 where
   pub is : after_lets env ls ≡ Some after
   pub covers : Covers (after_names s ls) after
 
+-- lets without faults have values
 pub lets_known : (s : Scope) (env : Env) (ls : List Let) → Covers s env → lets_faults s ls ≡ [] → LetsKnown s env ls
 lets_known s env [] c h = record { after = env; is = refl; covers = c }
 lets_known s env (l ∷ ls) c h =

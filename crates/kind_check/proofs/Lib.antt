@@ -7,3 +7,4 @@ pub mod Leasts
 pub mod Places
 pub mod Scopes
 pub mod Steps
+pub mod Once

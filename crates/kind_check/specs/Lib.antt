@@ -6,3 +6,4 @@ pub mod Least
 pub mod Places
 pub mod Refused
 pub mod FindsFirst
+pub mod Holes

@@ -1,5 +1,6 @@
 ghost use Rattle.std.specs.Prelude.{◌≡◌, ◌<◌, [], length};
 ghost use Rattle.kind_check.specs.Total.{IsTotal};
+ghost use Rattle.kind_check.specs.Holes.{HolesUsedOnce};
 ghost use Rattle.kind_check.specs.Faults.{faults, number_of_fault};
 
 use std::marker::Model;
@@ -94,10 +95,12 @@ impl Checked {
     }
 
     /// The program's tree.
+    #[tactic(auto, using(crate::proofs::Once::holes_once))]
     pub fn program(&self) -> &Program
         ensures same { result.now ≡ self.now }
         ensures accepted { faults self.now ≡ [] }
         ensures total { IsTotal self.now }
+        ensures once { HolesUsedOnce self.now }
     {
         &self.program
     }

@@ -17,6 +17,7 @@ pub struct Threads<'a> {
 }
 
 impl<'a> Threads<'a> {
+    /// Takes memory for the names alone.
     pub fn new(alloc: Global, all: &'a [Thread]) -> Result<Threads<'a>, AllocError>
         ensures { IfOk result (λ t. t.all.now ≡ all.now) }
     {
@@ -28,7 +29,7 @@ impl<'a> Threads<'a> {
     }
 
     /// The first thread of a name.
-    #[tactic(auto, using(crate::proofs::Places::thread_placed, crate::proofs::Places::place_within))]
+    #[tactic(auto, using(crate::proofs::Places::thread_placed))]
     pub fn named(&self, name: &[u8]) -> Option<&'a Thread>
         ensures { option_copied result ≡ thread_named self.now.all.now name.now }
     {
@@ -59,6 +60,7 @@ pub struct Uses<'a> {
 }
 
 impl<'a> Uses<'a> {
+    /// Takes memory for the names alone.
     pub fn new(alloc: Global, all: &'a [Use]) -> Result<Uses<'a>, AllocError>
         ensures { IfOk result (λ u. u.all.now ≡ all.now) }
     {

@@ -70,3 +70,13 @@ fn the_least_fault_is_answered(rt: HostRuntime) -> Result<(), Fail> {
     );
     Ok(())
 }
+
+#[test]
+fn refusals_are_printed_with_their_number_and_offset(rt: HostRuntime) -> Result<(), Fail> {
+    let alloc = rt.alloc();
+    let fault = format!(in alloc; "{}", KindError::Fault(KindFault::KindMismatch, 33))?;
+    assert_eq!(rt; fault.as_str(), "E15 at 33");
+    let memory = format!(in alloc; "{}", KindError::Memory)?;
+    assert_eq!(rt; memory.as_str(), "E9");
+    Ok(())
+}

@@ -21,19 +21,19 @@ fn block<'a>(
     alloc: Global,
     threads: &Threads<'_>,
     scope: &mut Scope<'a>,
-    block: &'a Block,
+    body: &'a Block,
     least: &mut Least,
 ) -> Result<(), AllocError>
     ensures scope { OnOk result (scope.new ≡ scope.old) }
-    ensures least { OnOk result (least.new ≡ least_with least.old (block_faults threads.now.all.now scope.old block.now)) }
+    ensures least { OnOk result (least.new ≡ least_with least.old (block_faults threads.now.all.now scope.old body.now)) }
 {
     let outside = scope.len();
-    lets(scope, &block.lets, least)?;
-    match &block.end {
+    lets(scope, &body.lets, least)?;
+    match &body.end {
         End::If(condition, first, second) => {
             expression(scope, condition, least);
-            self::block(alloc, threads, scope, first, least)?;
-            self::block(alloc, threads, scope, second, least)?;
+            block(alloc, threads, scope, first, least)?;
+            block(alloc, threads, scope, second, least)?;
         }
         End::Send(continuation, value) => {
             own_name(scope, continuation, least);
@@ -45,7 +45,7 @@ fn block<'a>(
             arguments(scope, slots, least)?;
             let given = Uses::new(alloc, given.as_slice())?;
             uses(threads, scope, &given, least);
-            unused(&given, block.close, slots, least);
+            unused(&given, body.close, slots, least);
         }
     }
     scope.truncate(outside);
