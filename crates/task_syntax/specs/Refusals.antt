@@ -1,11 +1,11 @@
 -- What the first of some tokens lacks, and the refusal at it.
-use Rattle.std.specs.Prelude.{◌≡◌, ℕ, ◌≤◌, List, [], ◌∷◌, Option, Some, None}
+use Rattle.std.specs.Prelude.{◌≡◌, ℕ, ◌<◌, ◌≤◌, List, [], ◌∷◌, Option, Some, None}
 use Rattle.task_tokens.specs.declared.kinds.Operator.{Operator}
 use Rattle.task_tokens.specs.declared.kinds.TokenKind.{TokenKind}
 use Rattle.task_tokens.specs.declared.kinds.TokenKind.TheVariants as kind
 use Rattle.task_tokens.specs.declared.kinds.Token.{Token}
 use Rattle.task_syntax.specs.declared.error.ParseError.{ParseError}
-use Rattle.task_syntax.specs.declared.error.ParseError.TheVariants.{Unexpected, TooLong, NumberRange, Memory}
+use Rattle.task_syntax.specs.declared.error.ParseError.TheVariants.{Unexpected, TooLong, NumberRange}
 use Rattle.task_syntax.specs.Grammar.{Begins, BeginsAt, level_of}
 
 -- the place of the first token
@@ -16,6 +16,10 @@ offset_of (t ∷ ts) = t.offset
 -- no such token stands first
 pub record Lacks (k : TokenKind) (from : List Token) : Type 0 where
   pub lacks : (to : List Token) → Begins k from to → ⊥
+
+-- such a token stands first
+pub data Stands (k : TokenKind) (from : List Token) : Type 0 where
+  stands : {to : List Token} → Begins k from to → Stands k from
 
 -- another token stands where this one is wanted
 pub record Misses (k : TokenKind) (from : List Token) (e : ParseError) : Type 0 where
@@ -31,6 +35,10 @@ pub record IsInfix (level tightest : ℕ) (op : Operator) (at : ℕ) (from to : 
 -- no operator of such a level stands first
 pub record LacksInfix (level tightest : ℕ) (from : List Token) : Type 0 where
   pub lacks : (op : Operator) (to : List Token) → Begins (kind.Infix op) from to → level ≤ level_of op → level_of op ≤ tightest → ⊥
+
+-- no operator of this level or a tighter one stands first
+pub record Stops (level : ℕ) (from : List Token) : Type 0 where
+  pub stops : (op : Operator) (to : List Token) → Begins (kind.Infix op) from to → level_of op < level
 
 -- the refusal of a token where a name is wanted; none at a name
 abbrev pub name_refusal : TokenKind → ℕ → Option ParseError
@@ -50,8 +58,3 @@ leaf_refusal _ at = Some (Unexpected at)
 abbrev pub first_refusal : (TokenKind → ℕ → Option ParseError) → List Token → Option ParseError
 first_refusal refusal [] = Some (Unexpected 0)
 first_refusal refusal (t ∷ ts) = refusal t.kind t.offset
-
--- there was no memory, or the first token is refused
-pub data IsRefused (refusal : TokenKind → ℕ → Option ParseError) (from : List Token) : ParseError → Type 0 where
-  memory : IsRefused refusal from Memory
-  refused : {e : ParseError} → first_refusal refusal from ≡ Some e → IsRefused refusal from e

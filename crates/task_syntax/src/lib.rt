@@ -10,7 +10,7 @@ mod tests;
 mod tree;
 
 pub use error::{ParseError, PrintError};
-pub use parsing::{LONGEST_TEXT, parse};
+pub use parsing::{LONGEST_TEXT, answers_are_exact, parse};
 pub use printing::print;
 pub use task_tokens::Operator;
 pub use tree::{Argument, Block, End, Expr, Given, Let, Name, Program, Thread, Use};

@@ -1,5 +1,8 @@
-ghost use Rattle.std.specs.Prelude.{◌<◌, length, All, IfOk, MatchOption};
+ghost use Rattle.std.specs.Prelude.{◌≡◌, ◌≢◌, ℕ, List, ◌<◌, ◌≤◌, length, take, slice_index, All, IfOk, IfErr, MatchOption};
 ghost use Rattle.task_syntax.specs.Grammar.{Reads};
+ghost use Rattle.task_syntax.specs.declared.error.ParseError.{ParseError};
+ghost use Rattle.task_syntax.specs.declared.tree.Program.{Program};
+ghost use Rattle.task_syntax.specs.Meeting.{MeetsText};
 
 use crate::error::ParseError;
 use crate::reader::program;
@@ -14,6 +17,7 @@ pub const LONGEST_TEXT: usize = 65536;
 /// reader from left to right meets.
 pub fn parse(alloc: Global, text: &[u8]) -> Result<Program, ParseError>
     ensures reading { IfOk result (λ p. Reads text.now p) }
+    ensures refused { IfErr result (λ e. e ≢ ParseError.Memory → MeetsText text.now e) }
 {
     if text.len() > LONGEST_TEXT {
         return Err(ParseError::TooLong(LONGEST_TEXT as u32));
@@ -27,7 +31,14 @@ pub fn parse(alloc: Global, text: &[u8]) -> Result<Program, ParseError>
 
 /// The place of the first byte over 7F.
 fn beyond_ascii(text: &[u8]) -> Option<usize>
-    ensures { MatchOption result (All (λ b. b < 128) text.now) (λ i. i < length text.now) }
+    ensures { MatchOption result (All (λ b. b < 128) text.now) (λ i. (i < length text.now) × All (λ b. b < 128) (take i text.now) × (128 ≤ slice_index text.now i)) }
 {
     text.iter().position(|b| *b >= 128)
 }
+
+/// That the answer of `parse` is the only one, but for want of memory: a text that is read meets no refusal, and
+/// another meets one alone. Does nothing.
+pub fn answers_are_exact()
+    ensures one_refusal { (text : List ℕ) (e f : ParseError) → MeetsText text e → MeetsText text f → e ≡ f }
+    ensures not_both { (text : List ℕ) (p : Program) (e : ParseError) → Reads text p → MeetsText text e → ⊥ }
+{}

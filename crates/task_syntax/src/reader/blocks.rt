@@ -1,11 +1,12 @@
-ghost use Rattle.std.specs.Prelude.{◌<◌, length, IfOk};
+ghost use Rattle.std.specs.Prelude.{◌≢◌, ◌<◌, length, IfOk, IfErr};
 ghost use Rattle.task_syntax.specs.Grammar.{IsBlock};
 ghost use Rattle.task_syntax.specs.Parts.{IsEnd};
+ghost use Rattle.task_syntax.specs.Meeting.{block_part, end_part, branches_part};
 
 use crate::error::ParseError;
 use crate::reader::expressions::value;
 use crate::reader::statements::{bindings, send, spawn_next, uses};
-use crate::reader::tokens::{closing_brace, expect_mark, expect_word, offset, word};
+use crate::reader::tokens::{begins, closing_brace, expect_mark, expect_word, offset};
 use crate::tree::{Block, End};
 use std::alloc::Global;
 use task_tokens::{Sign, Token, Word};
@@ -15,6 +16,8 @@ use task_tokens::{Sign, Token, Word};
 pub fn block(alloc: Global, deep: u8, tokens: &[Token]) -> Result<(Block, &[Token]), ParseError>
     ensures read { IfOk result (λ x. IsBlock deep tokens.now x.1.now x.0) }
     ensures shorter { IfOk result (λ x. length x.1.now < length tokens.now) }
+    ensures parts { IfOk result (λ x. (block_part deep).reads tokens.now x.1.now) }
+    ensures met { IfErr result (λ e. e ≢ ParseError.Memory → (block_part deep).meets tokens.now e) }
 {
     let inside = expect_mark(Sign::OpenBrace, tokens)?;
     if deep == 0 {
@@ -31,11 +34,13 @@ pub fn block(alloc: Global, deep: u8, tokens: &[Token]) -> Result<(Block, &[Toke
 fn ending(alloc: Global, inside: u8, tokens: &[Token]) -> Result<(End, &[Token]), ParseError>
     ensures read { IfOk result (λ x. IsEnd inside tokens.now x.1.now x.0) }
     ensures shorter { IfOk result (λ x. length x.1.now < length tokens.now) }
+    ensures parts { IfOk result (λ x. (end_part (block_part inside)).reads tokens.now x.1.now) }
+    ensures met { IfErr result (λ e. e ≢ ParseError.Memory → (end_part (block_part inside)).meets tokens.now e) }
 {
-    if word(Word::If, tokens).is_some() {
+    if begins(Word::If, tokens) {
         return branches(alloc, inside, tokens);
     }
-    if word(Word::SendArgument, tokens).is_some() {
+    if begins(Word::SendArgument, tokens) {
         let (continuation, sent, rest) = send(alloc, tokens)?;
         return Ok((End::Send(continuation, sent), rest));
     }
@@ -49,6 +54,8 @@ fn ending(alloc: Global, inside: u8, tokens: &[Token]) -> Result<(End, &[Token])
 fn branches(alloc: Global, inside: u8, tokens: &[Token]) -> Result<(End, &[Token]), ParseError>
     ensures read { IfOk result (λ x. IsEnd inside tokens.now x.1.now x.0) }
     ensures shorter { IfOk result (λ x. length x.1.now < length tokens.now) }
+    ensures parts { IfOk result (λ x. (branches_part (block_part inside)).reads tokens.now x.1.now) }
+    ensures met { IfErr result (λ e. e ≢ ParseError.Memory → (branches_part (block_part inside)).meets tokens.now e) }
 {
     let rest = expect_word(Word::If, tokens)?;
     let (condition, rest) = value(alloc, rest)?;

@@ -1,6 +1,8 @@
-ghost use Rattle.std.specs.Prelude.{◌≡◌, ℕ, ◌≤◌, ◌<◌, length, IfOk};
+ghost use Rattle.std.specs.Prelude.{◌≡◌, ◌≢◌, ℕ, ◌+◌, ◌≤◌, ◌<◌, max, length, IfOk, IfErr, Some};
 ghost use Rattle.task_syntax.specs.Grammar.{height_of, ReadsExpr, IsExpr};
 ghost use Rattle.task_syntax.specs.Parts.{Joins};
+ghost use Rattle.task_syntax.specs.Refusals.{Stops, first_refusal, leaf_refusal};
+ghost use Rattle.task_syntax.specs.Meeting.{MeetsExpr};
 
 use crate::error::ParseError;
 use crate::reader::tokens::{expect_mark, first, infix, level, mark, name, offset};
@@ -27,6 +29,8 @@ pub struct Measured {
 pub fn value(alloc: Global, tokens: &[Token]) -> Result<(Expr, &[Token]), ParseError>
     ensures read { IfOk result (λ x. IsExpr tokens.now x.1.now x.0) }
     ensures shorter { IfOk result (λ x. length x.1.now < length tokens.now) }
+    ensures stops { IfOk result (λ x. Stops 0 x.1.now) }
+    ensures met { IfErr result (λ e. e ≢ ParseError.Memory → MeetsExpr 64 0 tokens.now e) }
 {
     let (whole, rest) = expression(alloc, DEEPEST, 0, tokens)?;
     let Measured { tree, height: _ } = whole;
@@ -44,6 +48,8 @@ fn expression(
     requires { loosest ≤ 8 }
     ensures read { IfOk result (λ x. ReadsExpr parens loosest tokens.now x.1.now x.0.tree) }
     ensures shorter { IfOk result (λ x. length x.1.now < length tokens.now) }
+    ensures stops { IfOk result (λ x. Stops loosest x.1.now) }
+    ensures met { IfErr result (λ e. e ≢ ParseError.Memory → MeetsExpr parens loosest tokens.now e) }
 {
     let (mut left, mut rest) = operand(alloc, parens, tokens)?;
     let mut tightest = OPERAND;
@@ -61,6 +67,7 @@ fn expression(
 fn operand(alloc: Global, parens: u8, tokens: &[Token]) -> Result<(Measured, &[Token]), ParseError>
     ensures read { IfOk result (λ x. ReadsExpr parens 8 tokens.now x.1.now x.0.tree) }
     ensures shorter { IfOk result (λ x. length x.1.now < length tokens.now) }
+    ensures met { IfErr result (λ e. e ≢ ParseError.Memory → (level : ℕ) → MeetsExpr parens level tokens.now e) }
 {
     let Some(inside) = mark(Sign::Open, tokens) else {
         return leaf(alloc, tokens);
@@ -77,6 +84,7 @@ fn operand(alloc: Global, parens: u8, tokens: &[Token]) -> Result<(Measured, &[T
 fn leaf(alloc: Global, tokens: &[Token]) -> Result<(Measured, &[Token]), ParseError>
     ensures read { (parens : ℕ) → IfOk result (λ x. ReadsExpr parens 8 tokens.now x.1.now x.0.tree) }
     ensures shorter { IfOk result (λ x. length x.1.now < length tokens.now) }
+    ensures met { IfErr result (λ e. e ≢ ParseError.Memory → first_refusal leaf_refusal tokens.now ≡ Some e) }
 {
     let Some((token, rest)) = first(tokens) else {
         return Err(ParseError::Unexpected(0));
@@ -112,6 +120,7 @@ fn joined(
     right: Measured,
 ) -> Result<Measured, ParseError>
     ensures joins { IfOk result (λ x. Joins op left.tree right.tree x.tree) }
+    ensures met { IfErr result (λ e. e ≢ ParseError.Memory → (e ≡ ParseError.TooDeepNest at) × (64 < 1 + max (height_of left.tree) (height_of right.tree))) }
 {
     let height = 1 + left.height.max(right.height);
     if height > DEEPEST {

@@ -1,8 +1,8 @@
-ghost use Rattle.std.specs.Prelude.{◌≡◌, ◌<◌, [], ◌∷◌, length, IfSome, IfNone, IfOk, IfErr, Some};
+ghost use Rattle.std.specs.Prelude.{◌≡◌, ◌≢◌, ◌<◌, [], ◌∷◌, length, MatchBool, IfSome, IfNone, IfOk, IfErr, Some};
 ghost use Rattle.task_tokens.specs.declared.kinds.TokenKind.TheVariants as kind;
 ghost use Rattle.task_tokens.specs.declared.kinds.Sign.TheVariants as sign;
 ghost use Rattle.task_syntax.specs.Grammar.{Begins, BeginsAt, IsMark, IsWord, IsName, level_of};
-ghost use Rattle.task_syntax.specs.Refusals.{offset_of, Lacks, Misses, IsInfix, LacksInfix, name_refusal, IsRefused};
+ghost use Rattle.task_syntax.specs.Refusals.{offset_of, Lacks, Misses, Stands, IsInfix, LacksInfix, name_refusal, first_refusal};
 
 use crate::error::ParseError;
 use crate::tree::Name;
@@ -66,6 +66,13 @@ pub fn word(wanted: Word, tokens: &[Token]) -> Option<&[Token]>
     }
 }
 
+/// Whether this word stands first.
+pub fn begins(wanted: Word, tokens: &[Token]) -> bool
+    ensures { MatchBool result (Stands (kind.Keyword wanted) tokens.now) (Lacks (kind.Keyword wanted) tokens.now) }
+{
+    word(wanted, tokens).is_some()
+}
+
 /// The tokens behind this word, which has to stand first.
 pub fn expect_word(wanted: Word, tokens: &[Token]) -> Result<&[Token], ParseError>
     ensures ok { IfOk result (λ rest. IsWord wanted tokens.now rest.now) }
@@ -91,7 +98,7 @@ pub fn closing_brace(tokens: &[Token]) -> Result<(u32, &[Token]), ParseError>
 /// A name, which has to stand first, and the tokens behind it.
 pub fn name(alloc: Global, tokens: &[Token]) -> Result<(Name, &[Token]), ParseError>
     ensures read { IfOk result (λ x. IsName tokens.now x.1.now x.0) }
-    ensures met { IfErr result (λ e. IsRefused name_refusal tokens.now e) }
+    ensures met { IfErr result (λ e. e ≢ ParseError.Memory → first_refusal name_refusal tokens.now ≡ Some e) }
     ensures shorter { IfOk result (λ x. length x.1.now < length tokens.now) }
 {
     let Some((token, rest)) = first(tokens) else {
