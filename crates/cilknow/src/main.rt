@@ -7,6 +7,8 @@ mod fault;
 mod frames;
 mod ready;
 mod solo;
+#[cfg(test)]
+mod tests;
 mod words;
 
 pub use command::command;

@@ -2,7 +2,11 @@
 #![tactic(auto)]
 
 mod listed;
+mod names;
 mod place;
+#[cfg(test)]
+mod tests;
 
 pub use listed::Listed;
+pub use names::{Actor, FrameNo, GrantId, Hop, Incarnation};
 pub use place::{Place, PlaceError};

@@ -1,4 +1,4 @@
-ghost use Rattle.std.specs.Prelude.{◌≡◌, ◌≤◌, ◌<◌, ◌↔◌, [], ◌∷◌, zero, length, IfOk, IsErrOf};
+ghost use Rattle.std.specs.Prelude.{◌≡◌, ◌≤◌, ◌<◌, ◌↔◌, [], ◌∷◌, zero, length, IfOk, IsErrOf, reverse, slice_get};
 ghost use Rattle.ids.specs.Place.{level_of, IsPlace};
 
 use std::alloc::{AllocError, Global};
@@ -81,6 +81,13 @@ impl Place {
         self.steps.iter().filter(|step| **step != 0).count() as u16
     }
 
+    /// The step at an index, counted from 0 at the root; none behind the last step.
+    pub fn step(&self, index: u16) -> Option<u8>
+        ensures { result ≡ slice_get (reverse self.now) index }
+    {
+        item_at(self.steps.as_slice(), index as usize)
+    }
+
     /// The count of steps.
     pub fn len(&self) -> u16
         ensures steps { result ≡ length self.now }
@@ -88,6 +95,13 @@ impl Place {
     {
         self.steps.len() as u16
     }
+}
+
+/// The byte at an index, where there is one.
+fn item_at(bytes: &[u8], index: usize) -> Option<u8>
+    ensures { result ≡ slice_get bytes.now index }
+{
+    bytes.get(index).copied()
 }
 
 fn memory(_refused: AllocError) -> PlaceError

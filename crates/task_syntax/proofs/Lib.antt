@@ -5,3 +5,4 @@ pub mod Readings
 pub mod Refusals
 pub mod Scanning
 pub mod Texts
+pub mod PrintLaws

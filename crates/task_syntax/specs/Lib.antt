@@ -5,3 +5,4 @@ pub mod Meeting
 pub mod Errors
 pub mod Printed
 pub mod Shapes
+pub mod PrintSteps

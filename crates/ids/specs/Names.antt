@@ -1,0 +1,34 @@
+-- Names of incarnations, actors and grants, as numbers.
+use Rattle.std.specs.Prelude.{◌≡◌, ℕ, ◌+◌, ◌^◌, ◌<◌, ◌≤◌, ◌&&◌, ◌||◌, Bool, nat_lt, nat_le, nat_eq}
+
+-- the word of a worker's start: 1 to 2^63 - 1
+abbrev pub is_worker : ℕ → Bool
+is_worker word = nat_lt 0 word && nat_lt word (2 ^ 63)
+
+-- an epoch of the clearinghouse: 1 to 2^63 - 1
+abbrev pub is_epoch : ℕ → Bool
+is_epoch epoch = nat_lt 0 epoch && nat_lt epoch (2 ^ 63)
+
+-- the name of the clearinghouse in an epoch
+abbrev pub house_of : ℕ → ℕ
+house_of epoch = 2 ^ 63 + epoch
+
+-- a worker, or the clearinghouse in some epoch
+abbrev pub is_actor : ℕ → Bool
+is_actor word = is_worker word || (nat_lt (2 ^ 63) word && nat_lt word (2 ^ 64))
+
+-- a number that is counted from 1
+abbrev pub is_counted : ℕ → Bool
+is_counted number = nat_lt 0 number && nat_lt number (2 ^ 64)
+
+-- a grant's name: who minted it, and the count of what it minted
+pub record Grant : Type 0 where
+  pub minter : ℕ
+  pub number : ℕ
+
+abbrev pub is_grant : Grant → Bool
+is_grant g = is_actor g.minter && is_counted g.number
+
+-- g stands before h: by the minter, then by the number
+abbrev pub grant_before : Grant → Grant → Bool
+grant_before g h = nat_lt g.minter h.minter || (nat_eq g.minter h.minter && nat_lt g.number h.number)
