@@ -6,3 +6,5 @@ pub mod Least
 pub mod Places
 pub mod Refused
 pub mod FindsFirst
+pub mod Code
+pub mod Resolves
