@@ -1,21 +1,76 @@
 -- What a program with no stuck body gives of one turn.
-use Rattle.std.proofs.Common.{◌≡◌, ℕ, ℤ, List, length, Some, IsSome, slice_get, refl, subst}
+use Rattle.std.proofs.Common.{◌≡◌, ◌∙◌, ◌<◌, ℕ, ℤ, zero, suc, List, [], ◌∷◌, length, Option, Some, None, IsSome, slice_get, refl, sym, subst, arith}
 use Rattle.task_syntax.specs.declared.tree.Thread.{Thread}
 use Rattle.task_syntax.specs.declared.tree.Program.{Program}
 use Rattle.kind_check.specs.declared.turn.Turn.{Turn}
-use Rattle.kind_check.specs.Turns.{thread_turn, turn_of}
+use Rattle.kind_check.specs.declared.turn.Turn.TheVariants.{Sends, Joins}
+use Rattle.kind_check.specs.declared.turn.Slot.{Slot}
+use Rattle.kind_check.specs.declared.code.Code.{Code}
+use Rattle.kind_check.specs.declared.code.SlotCode.{SlotCode}
+use Rattle.kind_check.specs.declared.code.Leaf.{Leaf}
+use Rattle.kind_check.specs.declared.code.Leaf.TheVariants as leaf
+use Rattle.kind_check.specs.declared.code.BlockCode.{BlockCode}
+use Rattle.kind_check.specs.Turns.{◌>>=◌, turn_of}
 use Rattle.kind_check.specs.Total.{Takes, TurnFits, IsTotal}
+use Rattle.kind_check.specs.Code.{code_value, code_slots, leaf_turn, code_turn, IsBody}
+use Rattle.body_eval.specs.Reached.{Reached}
+
+found_within : (ts : List Thread) (t n : ℕ) → (slice_get ts t >>= λ (thread : Thread). Some (length thread.numbers)) ≡ Some n → t < length ts
+found_within [] t n e = absurd cc
+found_within (x ∷ ts) zero n e = omega arith
+found_within (x ∷ ts) (suc t) n e = let h = found_within ts t n e in omega arith
+
+-- a thread that takes numbers is there
+pub thread_there : (p : Program) (t n : ℕ) → Takes p t n → t < length p.threads
+thread_there p t n takes = found_within p.threads t n takes.arity
 
 -- the body of a thread that takes these numbers reaches an end
-pub thread_reaches : (p : Program) (t : ℕ) (numbers : List ℤ) (thread : Thread) → IsTotal p → Takes p t (length numbers) → slice_get p.threads t ≡ Some thread → IsSome (thread_turn p.threads thread numbers)
-thread_reaches p t numbers thread total takes found =
+pub body_reaches : (p : Program) (t : ℕ) (numbers : List ℤ) (body : BlockCode) → IsTotal p → Takes p t (length numbers) → IsBody p t body → IsSome (code_turn numbers body)
+body_reaches p t numbers body total takes is =
     let r = total.each t numbers takes in
-    let e : thread_turn p.threads thread numbers ≡ Some r.turn = rw found at r.reached in
+    let e = is.each numbers r.turn r.reached in
     rw e refl
 
--- the end that is reached names threads that are there, with as many numbers as they take
-pub turn_fits : (p : Program) (t : ℕ) (numbers : List ℤ) (turn : Turn) → IsTotal p → Takes p t (length numbers) → turn_of p t numbers ≡ Some turn → TurnFits p turn
-turn_fits p t numbers turn total takes reached =
+-- a leaf that comes to the end of the body comes to the end of the thread
+pub leaf_reached : (p : Program) (t : ℕ) (numbers env : List ℤ) (body : BlockCode) (l : Leaf) → IsTotal p → Takes p t (length numbers) → IsBody p t body → leaf_turn env l ≡ code_turn numbers body → Reached p t numbers env l
+leaf_reached p t numbers env body l total takes is e =
     let r = total.each t numbers takes in
+    record { turn = r.turn; reached = r.reached; fits = r.fits; same = e ∙ is.each numbers r.turn r.reached }
+
+-- where a number is sent, it has a value, and the end sends that value
+pub sent_known : (p : Program) (t : ℕ) (numbers env : List ℤ) (l : Leaf) (c : Code) → Reached p t numbers env l → l ≡ leaf.Sends c → IsSome (code_value env c)
+sent_known p t numbers env l c r e = at_value (code_value env c) (rw e at r.same)
+  where
+    at_value : (o : Option ℤ) → (o >>= λ (v : ℤ). Some (Sends v)) ≡ Some r.turn → IsSome o
+    at_value None h = absurd cc
+    at_value (Some v) h = refl
+
+pub sent_turn : (p : Program) (t : ℕ) (numbers env : List ℤ) (l : Leaf) (c : Code) (v : ℤ) → Reached p t numbers env l → l ≡ leaf.Sends c → code_value env c ≡ Some v → turn_of p t numbers ≡ Some (Sends v)
+sent_turn p t numbers env l c v r e f =
+    let same : (code_value env c >>= λ (v : ℤ). Some (Sends v)) ≡ Some r.turn = rw e at r.same in
+    let sends : Some (Sends v) ≡ Some r.turn = rw f at same in
+    r.reached ∙ sym sends
+
+-- where a successor is spawned, its slots are there, and the end joins them
+pub joined_known : (p : Program) (t : ℕ) (numbers env : List ℤ) (l : Leaf) (s : ℕ) (cs : List SlotCode) → Reached p t numbers env l → l ≡ leaf.Joins s cs → IsSome (code_slots env cs)
+joined_known p t numbers env l s cs r e = at_slots (code_slots env cs) (rw e at r.same)
+  where
+    at_slots : (o : Option (List Slot)) → (o >>= λ (slots : List Slot). Some (Joins s slots)) ≡ Some r.turn → IsSome o
+    at_slots None h = absurd cc
+    at_slots (Some v) h = refl
+
+pub joined_turn : (p : Program) (t : ℕ) (numbers env : List ℤ) (l : Leaf) (s : ℕ) (cs : List SlotCode) (slots : List Slot) → Reached p t numbers env l → l ≡ leaf.Joins s cs → code_slots env cs ≡ Some slots → turn_of p t numbers ≡ Some (Joins s slots)
+joined_turn p t numbers env l s cs slots r e f =
+    let same : (code_slots env cs >>= λ (slots : List Slot). Some (Joins s slots)) ≡ Some r.turn = rw e at r.same in
+    let joins : Some (Joins s slots) ≡ Some r.turn = rw f at same in
+    r.reached ∙ sym joins
+
+-- a leaf that comes to an end isn't absent
+pub leaf_there : (p : Program) (t : ℕ) (numbers env : List ℤ) (l : Leaf) → Reached p t numbers env l → l ≡ leaf.Absent → ⊥
+leaf_there p t numbers env l r e = let same : None ≡ Some r.turn = rw e at r.same in cc
+
+-- the end that is reached names threads that are there, with as many numbers as they take
+pub turn_fits : (p : Program) (t : ℕ) (numbers env : List ℤ) (l : Leaf) (turn : Turn) → Reached p t numbers env l → turn_of p t numbers ≡ Some turn → TurnFits p turn
+turn_fits p t numbers env l turn r reached =
     let e : r.turn ≡ turn = cc (r.reached, reached) in
     subst (λ (x : Turn). TurnFits p x) e r.fits

@@ -1,13 +1,16 @@
-ghost use Rattle.std.specs.Prelude.{◌≡◌, length, IfOk, Some};
+ghost use Rattle.std.specs.Prelude.{◌≡◌, length, IfOk, IsSome, Some};
 ghost use Rattle.kind_check.specs.Turns.{turn_of};
 ghost use Rattle.kind_check.specs.Total.{Takes, TurnFits};
+ghost use Rattle.kind_check.specs.Code.{code_slot, code_slots};
 
-use crate::by_name::thread_end;
-use kind_check::{Checked, Turn};
+use crate::expression::{value, values};
+use crate::walk::leaf;
+use ids::Listed;
+use kind_check::{Checked, Kid, Leaf, Slot, SlotCode, Turn};
 use std::alloc::{AllocError, Global};
 
 /// The end that the body of a thread reaches on these numbers; refused for want of memory alone.
-#[tactic(auto, using(crate::proofs::Turning::thread_reaches, crate::proofs::Turning::turn_fits))]
+#[tactic(auto, using(crate::proofs::Turning::sent_known, crate::proofs::Turning::sent_turn, crate::proofs::Turning::joined_known, crate::proofs::Turning::joined_turn, crate::proofs::Turning::leaf_there, crate::proofs::Turning::turn_fits))]
 pub fn turn(
     alloc: Global,
     checked: &Checked,
@@ -18,7 +21,47 @@ pub fn turn(
     ensures reached { IfOk result (λ turn. turn_of checked.now thread numbers.now ≡ Some turn) }
     ensures fits { IfOk result (λ turn. TurnFits checked.now turn) }
 {
-    let program = checked.program();
-    let threads = program.threads.as_slice();
-    thread_end(alloc, threads, program.thread(thread), numbers)
+    let mut stack = Vec::from_slice(alloc, numbers)?;
+    match leaf(checked, thread, &mut stack, 0)? {
+        Leaf::Sends(number) => Ok(Turn::Sends(value(&stack, number))),
+        Leaf::Joins(successor, slots) => {
+            Ok(Turn::Joins(*successor, slot_values(alloc, &stack, slots)?))
+        }
+        Leaf::Absent => unreachable!(),
+    }
+}
+
+/// The slots of a successor.
+fn slot_values(
+    alloc: Global,
+    numbers: &[i64],
+    codes: &Listed<SlotCode>,
+) -> Result<Listed<Slot>, AllocError>
+    requires { IsSome (code_slots numbers.now codes.now) }
+    ensures { IfOk result (λ slots. code_slots numbers.now codes.now ≡ Some slots) }
+{
+    let mut slots = Listed::with_capacity(alloc, codes.len())?;
+    for code in codes.as_slice() {
+        slots.push(slot(alloc, numbers, code)?)?;
+    }
+    Ok(slots)
+}
+
+/// A slot: a number, or a kid.
+fn slot(alloc: Global, numbers: &[i64], code: &SlotCode) -> Result<Slot, AllocError>
+    requires { IsSome (code_slot numbers.now code.now) }
+    ensures { IfOk result (λ slot. code_slot numbers.now code.now ≡ Some slot) }
+{
+    match code {
+        SlotCode::Given(number) => Ok(Slot::Filled(value(numbers, number))),
+        SlotCode::Spawns(hole, thread, codes) => {
+            let arguments = values(alloc, numbers, codes)?;
+            Ok(Slot::Awaits(Kid {
+                hole: *hole,
+                thread: *thread,
+                arguments,
+            }))
+        }
+        SlotCode::Absent => unreachable!(),
+    }
 }

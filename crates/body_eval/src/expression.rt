@@ -1,13 +1,14 @@
 ghost use Rattle.std.specs.Prelude.{◌≡◌, IfOk, IsSome, Some};
-ghost use Rattle.kind_check.specs.Value.{result_of, value_of};
-ghost use Rattle.kind_check.specs.Turns.{values_of};
+ghost use Rattle.kind_check.specs.Value.{result_of};
+ghost use Rattle.kind_check.specs.Code.{code_value, code_values};
 
-use crate::scope::Scope;
 use ids::Listed;
+use kind_check::Code;
 use std::alloc::{AllocError, Global};
-use task_syntax::{Expr, Operator};
+use task_syntax::Operator;
 
 /// What an operator gives.
+#[inline]
 pub fn operate(operator: Operator, a: i64, b: i64) -> i64
     ensures { result ≡ result_of operator a b }
 {
@@ -43,34 +44,35 @@ fn remainder(a: i64, b: i64) -> i64
     if b == 0 { 0 } else { a.wrapping_rem(b) }
 }
 
-/// The value of an expression all of whose names are in scope.
-pub fn value(scope: &Scope<'_>, expression: &Expr) -> i64
-    requires { IsSome (value_of scope.now expression.now) }
-    ensures { value_of scope.now expression.now ≡ Some result }
+/// The value of an expression, where the environment is these numbers.
+pub fn value(values: &[i64], code: &Code) -> i64
+    requires { IsSome (code_value values.now code.now) }
+    ensures { code_value values.now code.now ≡ Some result }
 {
-    match expression {
-        Expr::Number(number) => *number,
-        Expr::Variable(name) => scope.number(&name.text),
-        Expr::Binary(operator, a, b) => {
-            let left = value(scope, a);
-            let right = value(scope, b);
+    match code {
+        Code::Number(number) => *number,
+        Code::Local(place) => values[*place],
+        Code::Binary(operator, a, b) => {
+            let left = value(values, a);
+            let right = value(values, b);
             operate(*operator, left, right)
         }
+        Code::Absent => unreachable!(),
     }
 }
 
-/// The values of expressions all of whose names are in scope.
+/// The values of expressions, where the environment is these numbers.
 pub fn values(
     alloc: Global,
-    scope: &Scope<'_>,
-    expressions: &Listed<Expr>,
+    values: &[i64],
+    codes: &Listed<Code>,
 ) -> Result<Listed<i64>, AllocError>
-    requires { IsSome (values_of scope.now expressions.now) }
-    ensures { IfOk result (λ vs. values_of scope.now expressions.now ≡ Some vs) }
+    requires { IsSome (code_values values.now codes.now) }
+    ensures { IfOk result (λ vs. code_values values.now codes.now ≡ Some vs) }
 {
-    let mut numbers = Listed::with_capacity(alloc, expressions.len())?;
-    for expression in expressions.as_slice() {
-        numbers.push(value(scope, expression))?;
+    let mut numbers = Listed::with_capacity(alloc, codes.len())?;
+    for code in codes.as_slice() {
+        numbers.push(value(values, code))?;
     }
     Ok(numbers)
 }

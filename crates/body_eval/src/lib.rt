@@ -2,13 +2,14 @@
 #![tactic(auto)]
 
 mod body;
-mod by_name;
 mod done;
 mod expression;
-mod scope;
 #[cfg(test)]
 mod tests;
+mod walk;
 
 pub use body::turn;
 pub use done::Done;
+pub use expression::value;
 pub use kind_check::{Kid, Slot, Turn};
+pub use walk::{above, leaf};

@@ -4,7 +4,9 @@ pub mod First
 pub mod FirstPlaces
 pub mod Known
 pub mod Leasts
+pub mod Lists
 pub mod Places
+pub mod Resolving
 pub mod Scopes
 pub mod Steps
 pub mod Once

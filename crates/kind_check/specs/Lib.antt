@@ -7,3 +7,5 @@ pub mod Places
 pub mod Refused
 pub mod FindsFirst
 pub mod Holes
+pub mod Code
+pub mod Resolves

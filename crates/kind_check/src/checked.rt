@@ -1,8 +1,11 @@
 ghost use Rattle.std.specs.Prelude.{◌≡◌, ◌<◌, [], length};
+ghost use Rattle.kind_check.specs.Code.{Follows, IsBody};
 ghost use Rattle.kind_check.specs.Total.{IsTotal};
 ghost use Rattle.kind_check.specs.Holes.{HolesUsedOnce};
 ghost use Rattle.kind_check.specs.Faults.{faults, number_of_fault};
 
+use crate::code::BlockCode;
+use ids::Listed;
 use std::marker::Model;
 use task_syntax::Program;
 use thiserror::Error;
@@ -65,6 +68,7 @@ pub enum KindError {
 #[derive(Drop)]
 pub struct Checked {
     program: Program,
+    bodies: Listed<BlockCode>,
 }
 
 impl Model for Checked {
@@ -79,19 +83,30 @@ impl Model for Checked {
     ghost coded = { Prim.hlevel (codes, expr.the_row.coded, block.the_row.coded, end.the_row.coded) };
 
     ghost use Rattle.kind_check.specs.Total.{IsAccepted};
+    ghost use Rattle.kind_check.specs.Code.{Follows};
 
     ghost view = { λ c. c.program };
 
-    ghost invariant = { λ c. IsAccepted c.program };
+    ghost invariant = { λ c. IsAccepted c.program × Follows c.program c.bodies };
 }
 
 impl Checked {
-    /// A program that has no kind fault.
-    pub(crate) fn new(program: Program) -> Checked
-        requires { faults program ≡ [] }
+    /// A program that has no kind fault, and the bodies of its threads by places.
+    pub(crate) fn new(program: Program, bodies: Listed<BlockCode>) -> Checked
+        requires faultless { faults program ≡ [] }
+        requires follow { Follows program bodies }
         ensures { result ≡ program }
     {
-        Checked { program }
+        Checked { program, bodies }
+    }
+
+    /// The body of a thread that is there, where each name stands as its place among the names in scope.
+    #[tactic(auto, using(crate::proofs::Resolving::body_at))]
+    pub fn body(&self, thread: u8) -> &BlockCode
+        requires { thread < length self.now.threads }
+        ensures { IsBody self.now thread result.now }
+    {
+        &self.bodies.as_slice()[thread as usize]
     }
 
     /// The program's tree.

@@ -3,12 +3,13 @@ ghost use Rattle.kind_check.specs.Faults.{faults};
 ghost use Rattle.kind_check.specs.Refused.{RefusedFor};
 
 use crate::checked::{Checked, KindError};
+use crate::resolve;
 use crate::walk::least_fault;
 use std::alloc::Global;
 use task_syntax::Program;
 
 /// Accepts a program with no kind fault, else answers its least fault: by its offset, then by its number. It takes
-/// memory for the names in scope, and a nesting of blocks and operators is walked by recursion.
+/// memory for the names in scope and for the bodies by places, and a nesting of blocks and operators is walked by recursion.
 ///
 /// # Errors
 /// The least fault and its offset; `Memory` for want of memory alone.
@@ -21,7 +22,10 @@ pub fn check(alloc: Global, program: Program) -> Result<Checked, KindError>
         return Err(KindError::Memory);
     };
     match least.fault() {
-        None => Ok(Checked::new(program)),
+        None => match resolve::program(alloc, &program) {
+            Ok(bodies) => Ok(Checked::new(program, bodies)),
+            Err(_) => Err(KindError::Memory),
+        },
         Some((offset, fault)) => Err(KindError::Fault(fault, offset)),
     }
 }

@@ -3,10 +3,12 @@
 
 mod checked;
 mod checker;
+mod code;
 mod expressions;
 mod index;
 mod least;
 mod names;
+mod resolve;
 mod scope;
 mod statements;
 mod tables;
@@ -17,4 +19,5 @@ mod walk;
 
 pub use checked::{Checked, KindError, KindFault};
 pub use checker::check;
+pub use code::{BlockCode, Code, EndCode, Leaf, SlotCode};
 pub use turn::{Kid, Slot, Turn};

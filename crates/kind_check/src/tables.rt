@@ -1,12 +1,12 @@
-ghost use Rattle.std.specs.Prelude.{◌≡◌, IfOk, option_copied, take};
+ghost use Rattle.std.specs.Prelude.{◌≡◌, ◌<◌, IfOk, length, option_copied, take};
 ghost use Rattle.std.specs.Option.{is_some};
-ghost use Rattle.kind_check.specs.Turns.{use_of};
+ghost use Rattle.kind_check.specs.Turns.{thread_of, use_of};
 ghost use Rattle.kind_check.specs.Faults.{thread_named};
 ghost use Rattle.kind_check.specs.Places.{thread_names, hole_names};
 
 use crate::index::Index;
 use std::alloc::{AllocError, Global};
-use task_syntax::{Thread, Use};
+use task_syntax::{Given, Thread, Use};
 
 /// The threads of a program, found by their names.
 #[derive(Drop)]
@@ -35,6 +35,18 @@ impl<'a> Threads<'a> {
     {
         match self.names.place(name) {
             Some(place) => Some(&self.all[place]),
+            None => None,
+        }
+    }
+
+    /// The number of the first thread of a name.
+    #[tactic(auto, using(crate::proofs::Places::thread_numbered, crate::proofs::Places::place_within, crate::proofs::Places::thread_within))]
+    pub fn number(&self, name: &[u8]) -> Option<u8>
+        requires { length self.now.all.now < 65 }
+        ensures { result ≡ thread_of self.now.all.now name.now }
+    {
+        match self.names.place(name) {
+            Some(place) => Some(place as u8),
             None => None,
         }
     }
@@ -77,6 +89,17 @@ impl<'a> Uses<'a> {
         ensures { result ≡ is_some (use_of self.now.all.now hole.now) }
     {
         self.holes.place(hole).is_some()
+    }
+
+    /// What is given to a hole.
+    #[tactic(auto, using(crate::proofs::Places::given_placed, crate::proofs::Places::place_within, crate::proofs::Places::use_within))]
+    pub fn given(&self, hole: &[u8]) -> Option<&'a Given>
+        ensures { option_copied result ≡ use_of self.now.all.now hole.now }
+    {
+        match self.holes.place(hole) {
+            Some(place) => Some(&self.all[place].given),
+            None => None,
+        }
     }
 
     /// Whether one of the first `count` uses is of that hole.

@@ -1,4 +1,5 @@
 pub mod FrameLaws
 pub mod JobLaws
 pub mod MeaningLaws
-pub mod SerialLaws
+pub mod Runs
+pub mod Steps

@@ -3,3 +3,4 @@ pub mod Places
 pub mod Job
 pub mod Agrees
 pub mod Count
+pub mod Running

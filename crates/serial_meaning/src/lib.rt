@@ -3,6 +3,7 @@
 
 mod job;
 mod meaning;
+mod stack;
 
 pub use job::{Job, JobError, Outcome};
 pub use meaning::{SerialError, serial};

@@ -1,14 +1,15 @@
-ghost use Rattle.std.specs.Prelude.{◌≡◌, ◌+◌, ◌<◌, ◌≤◌, length, IfErr, IfOk, IfSome, IsErrOf, OnOk};
-ghost use Rattle.kind_check.specs.Total.{SlotsFit, Takes};
+ghost use Rattle.std.specs.Prelude.{◌≡◌, ◌+◌, ◌<◌, ◌≤◌, length, drop, take, vec_len, if◌then◌else◌, IfErr, IfOk, IsErrOf, None, OnOk, Some};
+ghost use Rattle.kind_check.specs.Total.{Takes};
 ghost use Rattle.serial_meaning.specs.declared.meaning.SerialError.TheVariants.{Memory};
-ghost use Rattle.serial_meaning.specs.Serial.{serial, serial_turns, slot_values, slots_turns};
+ghost use Rattle.serial_meaning.specs.Serial.{serial, serial_turns};
+ghost use Rattle.serial_meaning.specs.Running.{run_slot, run_slots, run_turns, slot_turns, SlotRuns, SlotsRun};
 ghost use Rattle.serial_meaning.specs.Places.{meaning};
 ghost use Rattle.serial_meaning.specs.Count.{turns_of};
 
 use crate::job::{Job, Outcome};
-use body_eval::{Slot, Turn, turn};
-use ids::Listed;
-use kind_check::Checked;
+use crate::stack::{between, push_values};
+use body_eval::{above, leaf, value};
+use kind_check::{Checked, Leaf, SlotCode};
 use std::alloc::{AllocError, AllocFailed, Global};
 use thiserror::Error;
 
@@ -51,85 +52,113 @@ pub fn serial(alloc: Global, job: &Job, max_turns: u64) -> Result<Outcome, Seria
     ensures spent { IsErrOf result SerialError.TurnsSpent → max_turns < turns_of job.now.program job.now.input }
 {
     let mut turns = max_turns;
-    let (checked, main, input) = (job.checked(), job.main(), job.input());
-    match task_value(alloc, checked, DEPTH, main, input, &mut turns)? {
+    let mut stack = Vec::from_slice(alloc, job.input())?;
+    match task_value(job.checked(), DEPTH, job.main(), 0, &mut stack, &mut turns)? {
         Some(number) => Ok(Outcome::Value(number)),
         None => Ok(Outcome::TooDeep),
     }
 }
 
-/// What a task gives, where kids and successors are at most `depth` places deep; none where that is too few. Each turn
-/// is taken from `turns`.
+/// What a task gives, where kids and successors are at most `depth` places deep; none where that is too few. It runs on
+/// the numbers from `base` on, and what stands before them in the stack stays. Each turn is taken from `turns`.
 #[cycle(serial)]
-#[tactic(auto, using(crate::proofs::SerialLaws::serial_step, crate::proofs::SerialLaws::serial_turns_step, crate::proofs::SerialLaws::serial_turns_here))]
+#[tactic(auto, using(crate::proofs::Runs::joined_run, crate::proofs::Runs::joined_kids, crate::proofs::Runs::turns_here))]
 fn task_value(
-    alloc: Global,
     checked: &Checked,
     depth: u16,
     thread: u8,
-    numbers: &[i64],
+    base: usize,
+    stack: &mut Vec<i64>,
     turns: &mut u64,
 ) -> Result<Option<i64>, SerialError>
-    requires { Takes checked.now thread (length numbers.now) }
-    ensures value { IfOk result (λ v. serial checked.now depth thread numbers.now ≡ v) }
-    ensures turns { OnOk result (turns.old ≡ turns.new + serial_turns checked.now depth thread numbers.now) }
-    ensures spent { IfErr result (λ e. e ≡ SerialError.TurnsSpent → turns.old < serial_turns checked.now depth thread numbers.now) }
+    requires inside { base ≤ vec_len stack.old }
+    requires takes { Takes checked.now thread (length (drop base stack.old.items)) }
+    ensures kept { OnOk result (take base stack.new.items ≡ take base stack.old.items) }
+    ensures inside { OnOk result (base ≤ vec_len stack.new) }
+    ensures value { IfOk result (λ v. serial checked.now depth thread (drop base stack.old.items) ≡ v) }
+    ensures turns { OnOk result (turns.old ≡ turns.new + serial_turns checked.now depth thread (drop base stack.old.items)) }
+    ensures spent { IfErr result (λ e. e ≡ SerialError.TurnsSpent → turns.old < serial_turns checked.now depth thread (drop base stack.old.items)) }
 {
     if *turns == 0 {
         return Err(SerialError::TurnsSpent);
     }
     *turns -= 1;
-    match turn(alloc, checked, thread, numbers)? {
-        Turn::Sends(number) => Ok(Some(number)),
-        Turn::Joins(successor, slots) => {
+    match leaf(checked, thread, stack, base)? {
+        Leaf::Sends(code) => Ok(Some(value(above(stack, base), code))),
+        Leaf::Joins(successor, slots) => {
             if depth == 0 {
                 return Ok(None);
             }
+            let top = stack.len();
             let below = depth - 1;
-            match slot_numbers(alloc, checked, below, &slots, turns)? {
-                Some(filled) => task_value(
-                    alloc,
-                    checked,
-                    below,
-                    successor,
-                    filled.as_slice(),
-                    turns,
-                ),
-                None => Ok(None),
+            if fill(checked, below, slots.as_slice(), base, stack, turns)? {
+                task_value(checked, below, *successor, top, stack, turns)
+            } else {
+                Ok(None)
             }
         }
+        Leaf::Absent => unreachable!(),
     }
 }
 
-/// The values of a successor's slots, in which kids are at most `depth` places deep; none where one has none.
+/// Adds the values of a successor's slots to the stack, in the environment from `base` on; kids are at most `depth`
+/// places deep. Whether all slots have one.
 #[cycle(serial)]
-#[tactic(auto, using(crate::proofs::SerialLaws::serial_step, crate::proofs::SerialLaws::serial_turns_step, crate::proofs::SerialLaws::serial_turns_here))]
-fn slot_numbers(
-    alloc: Global,
+fn fill(
     checked: &Checked,
     depth: u16,
-    slots: &Listed<Slot>,
+    slots: &[SlotCode],
+    base: usize,
+    stack: &mut Vec<i64>,
     turns: &mut u64,
-) -> Result<Option<Listed<i64>>, SerialError>
-    requires { SlotsFit checked.now slots.now }
-    ensures values { IfOk result (λ vs. slot_values (serial checked.now depth) slots.now ≡ vs) }
-    ensures count { IfOk result (λ vs. IfSome vs (λ ns. length ns ≡ length slots.now)) }
-    ensures turns { OnOk result (turns.old ≡ turns.new + slots_turns (serial checked.now depth) (serial_turns checked.now depth) slots.now) }
-    ensures spent { IfErr result (λ e. e ≡ SerialError.TurnsSpent → turns.old < slots_turns (serial checked.now depth) (serial_turns checked.now depth) slots.now) }
+) -> Result<bool, SerialError>
+    requires inside { base ≤ vec_len stack.old }
+    requires run { SlotsRun checked.now (drop base stack.old.items) slots.now }
+    ensures kept { OnOk result (take base stack.new.items ≡ take base stack.old.items) }
+    ensures grown { OnOk result (vec_len stack.old ≤ vec_len stack.new) }
+    ensures values { IfOk result (λ all. run_slots (serial checked.now depth) (drop base stack.old.items) slots.now ≡ (if all then Some (drop (vec_len stack.old) stack.new.items) else None)) }
+    ensures turns { OnOk result (turns.old ≡ turns.new + run_turns (serial checked.now depth) (serial_turns checked.now depth) (drop base stack.old.items) slots.now) }
+    ensures spent { IfErr result (λ e. e ≡ SerialError.TurnsSpent → turns.old < run_turns (serial checked.now depth) (serial_turns checked.now depth) (drop base stack.old.items) slots.now) }
 {
-    let mut numbers = Listed::with_capacity(alloc, slots.len())?;
-    for slot in slots.as_slice() {
-        let number = match slot {
-            Slot::Filled(number) => *number,
-            Slot::Awaits(kid) => {
-                let arguments = kid.arguments.as_slice();
-                match task_value(alloc, checked, depth, kid.thread, arguments, turns)? {
-                    Some(number) => number,
-                    None => return Ok(None),
-                }
-            }
-        };
-        numbers.push(number)?;
+    let top = stack.len();
+    for slot in slots {
+        match slot_number(checked, depth, slot, base, top, stack, turns)? {
+            Some(number) => stack.push(number)?,
+            None => return Ok(false),
+        }
     }
-    Ok(Some(numbers))
+    Ok(true)
+}
+
+/// The value of a slot, in the environment from `base` on and before `top`; the stack stays as it was.
+#[cycle(serial)]
+fn slot_number(
+    checked: &Checked,
+    depth: u16,
+    slot: &SlotCode,
+    base: usize,
+    top: usize,
+    stack: &mut Vec<i64>,
+    turns: &mut u64,
+) -> Result<Option<i64>, SerialError>
+    requires base { base ≤ top }
+    requires top { top ≤ vec_len stack.old }
+    requires run { SlotRuns checked.now (drop base (take top stack.old.items)) slot.now }
+    ensures kept { OnOk result (stack.new.items ≡ stack.old.items) }
+    ensures len { OnOk result (vec_len stack.new ≡ vec_len stack.old) }
+    ensures value { IfOk result (λ v. run_slot (serial checked.now depth) (drop base (take top stack.old.items)) slot.now ≡ v) }
+    ensures turns { OnOk result (turns.old ≡ turns.new + slot_turns (serial_turns checked.now depth) (drop base (take top stack.old.items)) slot.now) }
+    ensures spent { IfErr result (λ e. e ≡ SerialError.TurnsSpent → turns.old < slot_turns (serial_turns checked.now depth) (drop base (take top stack.old.items)) slot.now) }
+{
+    match slot {
+        SlotCode::Given(code) => Ok(Some(value(between(stack, base, top), code))),
+        SlotCode::Spawns(_, thread, codes) => {
+            let start = stack.len();
+            push_values(stack, base, top, codes)?;
+            let number = task_value(checked, depth, *thread, start, stack, turns)?;
+            stack.truncate(start);
+            Ok(number)
+        }
+        SlotCode::Absent => unreachable!(),
+    }
 }

@@ -1,13 +1,23 @@
 use Rattle.std.proofs.Common.{◌≡◌, None, Some}
 use Rattle.kind_check.specs.Faults.{faults}
 use Rattle.kind_check.specs.Least.{least_with}
+use Rattle.kind_check.proofs.Accepted.{accepted_total}
 use Rattle.kind_check.proofs.First.{least_none, least_is}
+use Rattle.kind_check.proofs.Resolving.{resolves_follows}
 use Rattle.kind_check.proofs.checker.check.Goals as goal
 
-pub new-requires : goal.new-requires
-new-requires c =
+pub program-requires : goal.program-requires
+program-requires c =
+    let e : least_with None (faults c.args.program) ≡ None = cc (c.in-Ok.ensures, c.in-None.ensures) in
+    (accepted_total _ (least_none _ e)).few
+
+pub new-requires-clause-faultless : goal.new-requires-clause-faultless
+new-requires-clause-faultless c =
     let e : least_with None (faults c.args.program) ≡ None = cc (c.in-Ok.ensures, c.in-None.ensures) in
     least_none _ e
+
+pub new-requires-clause-follow : goal.new-requires-clause-follow
+new-requires-clause-follow c = resolves_follows _ _ c.in-Ok-program.ensures
 
 pub returns-in-Some-clause-refused : goal.returns-in-Some-clause-refused
 returns-in-Some-clause-refused c =

@@ -1,20 +1,24 @@
-use Rattle.std.proofs.Common.{◌≡◌, ◌+◌, ◌*◌, ◌++◌, List, ℤ, length, drop, Some}
+use Rattle.std.proofs.Common.{◌≡◌, ◌≤◌, ◌+◌, ◌*◌, ◌++◌, List, ℤ, Some, drop, take, vec_len}
 use Rattle.kind_check.specs.Turns.{◌>>=◌}
-use Rattle.kind_check.specs.Total.{SlotsFit}
-use Rattle.serial_meaning.specs.Serial.{serial, serial_turns, slot_values, slots_turns}
+use Rattle.serial_meaning.specs.Serial.{serial, serial_turns}
+use Rattle.serial_meaning.specs.Running.{run_slots, run_turns, SlotsRun}
 use Rattle.serial_meaning.proofs.meaning.+serial.Given as goal
 
-abbrev pub decreases-slot_numbers : goal.decreases-slot_numbers
-decreases-slot_numbers l = 2 * l.depth + 1
-
 abbrev pub decreases-task_value : goal.decreases-task_value
-decreases-task_value l = 2 * l.depth
+decreases-task_value l = 3 * l.depth
 
--- the values so far and those of the rest are all of them, one for each slot; and so are the turns
-abbrev pub invariant-slot_numbers-loop-slot : goal.invariant-slot_numbers-loop-slot
-invariant-slot_numbers-loop-slot l = record {
-  values : (slot_values (serial l.checked l.depth) (drop l.slot-index l.slot-items) >>= (λ (rest : List ℤ). Some (l.numbers ++ rest))) ≡ slot_values (serial l.checked l.depth) l.slots;
-  count : length l.numbers ≡ l.slot-index;
-  turns : l.fn.turns + slots_turns (serial l.checked l.depth) (serial_turns l.checked l.depth) (drop l.slot-index l.slot-items) ≡ l.turns + slots_turns (serial l.checked l.depth) (serial_turns l.checked l.depth) l.slots;
-  fit : SlotsFit l.checked (drop l.slot-index l.slot-items);
+abbrev pub decreases-slot_number : goal.decreases-slot_number
+decreases-slot_number l = 3 * l.depth + 1
+
+abbrev pub decreases-fill : goal.decreases-fill
+decreases-fill l = 3 * l.depth + 2
+
+-- the values so far and those of the rest are all of them, and so are the turns; what stands below stays
+abbrev pub invariant-fill-loop-slot : goal.invariant-fill-loop-slot
+invariant-fill-loop-slot l = record {
+  grown : vec_len l.fn.stack ≤ vec_len l.stack;
+  env : take (vec_len l.fn.stack) l.stack.items ≡ l.fn.stack.items;
+  values : (run_slots (serial l.checked l.depth) (drop l.base l.fn.stack.items) (drop l.slot-index l.slots) >>= (λ (rest : List ℤ). Some (drop (vec_len l.fn.stack) l.stack.items ++ rest))) ≡ run_slots (serial l.checked l.depth) (drop l.base l.fn.stack.items) l.slots;
+  turns : l.fn.turns + run_turns (serial l.checked l.depth) (serial_turns l.checked l.depth) (drop l.base l.fn.stack.items) (drop l.slot-index l.slots) ≡ l.turns + run_turns (serial l.checked l.depth) (serial_turns l.checked l.depth) (drop l.base l.fn.stack.items) l.slots;
+  run : SlotsRun l.checked (drop l.base l.fn.stack.items) (drop l.slot-index l.slots);
 }
