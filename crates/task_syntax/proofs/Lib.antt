@@ -6,3 +6,8 @@ pub mod Refusals
 pub mod Scanning
 pub mod Texts
 pub mod PrintLaws
+pub mod PrintAgain
+pub mod PrintFine
+pub mod PrintLines
+pub mod PrintTokens
+pub mod PrintTrees

@@ -46,7 +46,7 @@ pub prints_turn : {X : Type 0} (f : X → List TokenKind) (xs : List X) (i : ℕ
 prints_turn f xs i x inside is p q = rw (flat_map_take f xs i x inside is) (prints_more p q)
 
 -- the first token of a line, and then each behind a blank
-joined_line : (k : TokenKind) (ks : List TokenKind) → join_with_byte 32 (map spelled (k ∷ ks)) ≡ spelled k ++ spaced ks
+pub joined_line : (k : TokenKind) (ks : List TokenKind) → join_with_byte 32 (map spelled (k ∷ ks)) ≡ spelled k ++ spaced ks
 joined_line k [] = sym (append-nil (spelled k))
 joined_line k (l ∷ ls) = ap (λ x. spelled k ++ (32 ∷ x)) (joined_line l ls)
 

@@ -6,3 +6,4 @@ pub mod Errors
 pub mod Printed
 pub mod Shapes
 pub mod PrintSteps
+pub mod PrintedBack

@@ -3,6 +3,7 @@ ghost use Rattle.std.specs.List.{flat_map};
 ghost use Rattle.task_tokens.specs.declared.kinds.TokenKind.TheVariants.{Ident, Keyword, Numeral, Infix, Mark};
 ghost use Rattle.task_syntax.specs.Printed.{operand_kinds, expr_kinds, let_kinds, further_kinds, argument_kinds, parameter_kinds, call_end, send_kinds, given_kinds, use_kinds, next_kinds, end_kinds, block_kinds, thread_line, printed};
 ghost use Rattle.task_syntax.specs.PrintSteps.{Adds, Prints};
+ghost use Rattle.task_syntax.specs.PrintedBack.{ReadsBack};
 
 use crate::error::PrintError;
 use crate::parsing::LONGEST_TEXT;
@@ -15,15 +16,15 @@ use task_tokens::{Operator, Sign, Word};
 /// parentheses each operand that is itself an operation and nothing else, numbers in decimal without leading zeros. An
 /// empty program is the empty text. `TooLong` comes exactly where that text is over 65,536 bytes, LFs among them, and
 /// memory suffices; `Memory` only for want of memory. What no text has, as a number below 0, is written as it stands.
+/// A program that was read is printed as a text that is read as the same program but for offsets.
 pub fn print(alloc: Global, program: &Program) -> Result<Vec<u8>, PrintError>
     ensures written { IfOk result (λ v. v.items ≡ printed program.now) }
     ensures short { IfOk result (λ v. length v.items ≤ 65536) }
     ensures too_long { IsErrOf result PrintError.TooLong → 65536 < length (printed program.now) }
+    ensures reads_back { IfOk result (λ v. ReadsBack program.now v.items) }
 {
     let mut out = Output::new(alloc);
-    for thread in program.threads.as_slice() {
-        print_thread(&mut out, thread);
-    }
+    print_threads(&mut out, program.threads.as_slice());
     out.finish()
 }
 
@@ -364,6 +365,14 @@ fn print_thread(out: &mut Output, thread: &Thread)
     out.mark(Sign::Close);
     print_block(out, &thread.body);
     out.bytes(b"\n");
+}
+
+fn print_threads(out: &mut Output, threads: &[Thread])
+    ensures { Adds out.old out.new (flat_map thread_line threads.now) }
+{
+    for thread in threads {
+        print_thread(out, thread);
+    }
 }
 
 #[cfg(test)]

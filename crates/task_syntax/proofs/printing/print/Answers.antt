@@ -1,9 +1,7 @@
-use Rattle.task_syntax.specs.Printed.{thread_line}
-use Rattle.task_syntax.proofs.PrintLaws.{adds_none, adds_turn}
+use Rattle.task_syntax.proofs.PrintAgain.{ok_reads_back}
 use Rattle.task_syntax.proofs.printing.print.Goals as goal
 
-pub loop-thread-init : goal.loop-thread-init
-loop-thread-init c = adds_none c.new-out.result
-
-pub loop-thread-preserved : goal.loop-thread-preserved
-loop-thread-preserved c = adds_turn thread_line c.as_slice-thread-items.result.now c.loop-thread.thread-index c.thread-item.result c.new-out.result c.loop-thread.out c.print_thread.new.out c.loop-thread-test.true c.thread-item.is c.loop-thread.invariant c.print_thread.ensures
+pub returns-clause-reads_back : goal.returns-clause-reads_back
+returns-clause-reads_back c =
+    let wrote = rw c.as_slice.ensures at c.print_threads.ensures in
+    ok_reads_back (λ v. v.items) c.new-out.result c.print_threads.new.out c.finish.result c.args.program.now c.new-out.ensures wrote c.finish.ensures.text c.finish.ensures.short
