@@ -162,9 +162,12 @@ pub fn command<R: Files + AllocGlobal, S: AsStr, O: Write, E: Write>(
     };
     match done {
         Ok(()) => 0,
-        Err(fault) => {
-            let _ = write_line(err, format_args!("cilknow: {fault}"));
-            fault.status()
-        }
+        Err(fault) => refused(fault, err),
     }
+}
+
+/// Writes a fault to `err` as one line; the status to end with.
+pub fn refused<E: Write>(fault: CommandFault, err: &mut E) -> u8 {
+    let _ = write_line(err, format_args!("cilknow: {fault}"));
+    fault.status()
 }

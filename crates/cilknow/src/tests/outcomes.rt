@@ -66,26 +66,30 @@ fn a_place_has_at_most_1024_steps(rt: HostRuntime) -> Result<(), Fail> {
     Ok(())
 }
 
-/// The first kid of a successor that is too deep ends the whole: kids run in the order of their holes.
+/// The first kid that is too deep ends the whole: by `serial` kids run in the order of their holes, and by `run` the newest
+/// ready one first.
 #[test]
-fn kids_run_in_the_order_of_their_holes(rt: HostRuntime) -> Result<(), Fail> {
-    for (text, turns) in [
+fn kids_run_in_their_order(rt: HostRuntime) -> Result<(), Fail> {
+    for (text, serial_turns, run_turns) in [
         (
             b"thread main(k){spawn_next s(k,?x,?y);spawn one(y,1);spawn deep(x);}\
               thread s(k,a,b){send_argument(k,a);}thread one(k,a){send_argument(k,a);}\
               thread deep(k){spawn_next deep(k);}"
                 .as_slice(),
             1025,
+            1026,
         ),
         (
             b"thread main(k){spawn_next s(k,?x,?y);spawn one(x,1);spawn deep(y);}\
               thread s(k,a,b){send_argument(k,a);}thread one(k,a){send_argument(k,a);}\
               thread deep(k){spawn_next deep(k);}",
             1026,
+            1025,
         ),
     ] {
         let file = text_file(&rt, "holes", text)?;
-        takes_turns(&rt, "serial", file.as_str(), "", "too deep", turns)?;
+        takes_turns(&rt, "serial", file.as_str(), "", "too deep", serial_turns)?;
+        takes_turns(&rt, "run", file.as_str(), "", "too deep", run_turns)?;
         fs::remove_file(&rt, file.as_path())?;
     }
     Ok(())
