@@ -1,22 +1,20 @@
 -- A run's own steps: a frame under the next number, the successor of a task, and its kids.
-use Rattle.std.proofs.Common.{◌≡◌, ◌≢◌, ℕ, ℤ, ◌+◌, ◌<◌, ◌≤◌, zero, suc, ◌⊎◌, inl, inr, List, [], ◌∷◌, length, map, get_or, Option, Some, None, refl, sym, ◌∙◌, ap, arith, rules}
+use Rattle.std.proofs.Common.{◌≡◌, ◌≢◌, ℕ, ℤ, ◌+◌, ◌<◌, ◌≤◌, zero, suc, inl, inr, List, [], ◌∷◌, length, map, get_or, Option, Some, None, refl, sym, ◌∙◌, ap, arith}
 use Rattle.std.specs.List.{slice_get}
 use Rattle.task_syntax.specs.declared.tree.Program.{Program}
 use Rattle.kind_check.specs.declared.turn.Kid.{Kid}
 use Rattle.kind_check.specs.declared.turn.Slot.{Slot}
 use Rattle.kind_check.specs.declared.turn.Slot.TheVariants.{Filled, Awaits}
-use Rattle.kind_check.specs.declared.turn.Turn.TheVariants.{Joins}
-use Rattle.kind_check.specs.Turns.{turn_of}
-use Rattle.kind_check.specs.Total.{Takes, SlotsFit, TurnFits}
-use Rattle.serial_meaning.specs.declared.job.Outcome.TheVariants.{TooDeep}
+use Rattle.kind_check.specs.Total.{Takes, SlotsFit}
+use Rattle.ids.specs.declared.outcome.Outcome.TheVariants.{TooDeep}
 use Rattle.serial_meaning.specs.Job.{JobOf}
-use Rattle.serial_meaning.specs.Places.{Task, value_at, slot_at, task_at, outcome_of, meaning}
+use Rattle.serial_meaning.specs.Places.{value_at, task_at, outcome_of, meaning}
 use Rattle.serial_meaning.specs.Agrees.{FrameAgrees, given_of}
-use Rattle.serial_meaning.proofs.FrameLaws.{HolesFrom, turn_holes, joined_value, kid_value, kid_task, kid_small, next_agrees, last_value, none_at_root, task_of}
+use Rattle.serial_meaning.proofs.FrameLaws.{joined_value, kid_value, kid_task, kid_small, next_agrees, last_value, none_at_root, task_of}
 use Rattle.cilknow.specs.declared.frames.Frame.{Frame}
 use Rattle.cilknow.specs.declared.frames.Return.{Return}
 use Rattle.cilknow.specs.declared.frames.Return.TheVariants.{Whole, Local}
-use Rattle.cilknow.specs.Sub.{Numbered, IsOwed, Owed, Free, Sub, Owing, SameBut, SubOf, IsTaken}
+use Rattle.cilknow.specs.Sub.{Numbered, IsOwed, Owed, Sub, SubOf, IsTaken}
 use Rattle.cilknow.specs.Slots.{filled_with}
 use Rattle.cilknow.specs.Holding.{FrameFits, IsAdded, TaskJoins, JoiningOf}
 use Rattle.cilknow.proofs.Steps.{new_or_old, not_there, added, numbers_filled, length_filled}

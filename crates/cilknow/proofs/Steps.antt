@@ -1,5 +1,5 @@
 -- A frame is added, taken away, or gets a slot filled.
-use Rattle.std.proofs.Common.{◌≡◌, ◌≢◌, ℕ, ℤ, ◌+◌, ◌<◌, ◌≤◌, zero, suc, Bool, true, false, nat_eq, List, [], ◌∷◌, length, codes, codes, codes, codes, codes, Option, Some, None, ◌⊎◌, inl, inr, refl, sym, ◌∙◌, ap, arith, rules}
+use Rattle.std.proofs.Common.{◌≡◌, ◌≢◌, ℕ, ℤ, ◌+◌, ◌<◌, zero, suc, List, [], ◌∷◌, length, codes, codes, codes, codes, codes, Option, Some, None, ◌⊎◌, inl, inr, refl, sym, ◌∙◌, ap, arith}
 use Rattle.std.specs.List.{slice_get, slice_set}
 use Rattle.std.specs.Option.{option_map}
 use Rattle.std.specs.Option.{option_map}
@@ -19,12 +19,12 @@ use Rattle.serial_meaning.specs.Job.{JobOf}
 use Rattle.kind_check.specs.Turns.{thread_of}
 use Rattle.serial_meaning.specs.Job.{JobOf}
 use Rattle.kind_check.specs.Turns.{thread_of}
-use Rattle.serial_meaning.specs.Agrees.{numbers_in, FrameAgrees, NextAgrees}
+use Rattle.serial_meaning.specs.Agrees.{numbers_in, FrameAgrees}
 use Rattle.serial_meaning.proofs.FrameLaws.{bound_at, filled_agrees, ready_task}
 use Rattle.cilknow.specs.declared.frames.Frame.{Frame}
 use Rattle.cilknow.specs.declared.frames.Return.{Return}
 use Rattle.cilknow.specs.declared.frames.Return.TheVariants.{Whole, Local}
-use Rattle.cilknow.specs.Sub.{Numbered, IsOwed, Owed, Free, Holds, Sub, Owing, SameBut, SubOf, IsTaken}
+use Rattle.cilknow.specs.Sub.{Numbered, Owed, Free, Holds, Sub, Owing, SameBut, SubOf, IsTaken}
 use Rattle.cilknow.specs.Slots.{filled_with, with_slot}
 
 -- a number is another or not

@@ -3,7 +3,7 @@ use Rattle.std.specs.Prelude.{◌≡◌, ℕ, ℤ, List, []}
 use Rattle.task_syntax.specs.declared.tree.Program.{Program}
 use Rattle.task_syntax.specs.Grammar.{Reads}
 use Rattle.kind_check.specs.Faults.{faults}
-use Rattle.serial_meaning.specs.declared.job.Outcome.{Outcome}
+use Rattle.ids.specs.declared.outcome.Outcome.{Outcome}
 use Rattle.serial_meaning.specs.Places.{meaning}
 
 -- the text reads as an accepted program, and the outcome is its meaning on the input

@@ -1,10 +1,8 @@
 -- What holds of the frames of a run on one node, between its turns.
-use Rattle.std.specs.Prelude.{◌≡◌, ◌≢◌, ℕ, ℤ, ◌<◌, zero, suc, List, [], ◌∷◌, length, Option, Some, None, slice_get}
-use Rattle.std.specs.Ordering.{nat_cmp}
-use Rattle.std.specs.BTreeMap.{get}
+use Rattle.std.specs.Prelude.{◌≡◌, ◌≢◌, ℕ, ℤ, ◌<◌, zero, List, [], ◌∷◌, length, Option, Some, None, slice_get}
 use Rattle.task_syntax.specs.declared.tree.Program.{Program}
 use Rattle.kind_check.specs.Total.{Takes}
-use Rattle.serial_meaning.specs.Places.{Task, value_at, slot_at, task_at}
+use Rattle.serial_meaning.specs.Places.{value_at, slot_at, task_at}
 use Rattle.serial_meaning.specs.Job.{JobOf}
 use Rattle.serial_meaning.specs.Agrees.{FrameAgrees}
 use Rattle.cilknow.specs.declared.frames.Frame.{Frame}

@@ -1,5 +1,5 @@
 -- Names of incarnations, actors and grants, as numbers.
-use Rattle.std.specs.Prelude.{◌≡◌, ℕ, ◌+◌, ◌^◌, ◌<◌, ◌≤◌, ◌&&◌, ◌||◌, Bool, nat_lt, nat_le, nat_eq}
+use Rattle.std.specs.Prelude.{ℕ, ◌+◌, ◌^◌, ◌&&◌, ◌||◌, Bool, nat_lt, nat_eq}
 
 -- the word of a worker's start: 1 to 2^63 - 1
 abbrev pub is_worker : ℕ → Bool
@@ -16,6 +16,10 @@ house_of epoch = 2 ^ 63 + epoch
 -- a worker, or the clearinghouse in some epoch
 abbrev pub is_actor : ℕ → Bool
 is_actor word = is_worker word || (nat_lt (2 ^ 63) word && nat_lt word (2 ^ 64))
+
+-- where a packet goes: an actor, or the clearinghouse of any epoch, which is 2^63
+abbrev pub is_address : ℕ → Bool
+is_address word = nat_lt 0 word && nat_lt word (2 ^ 64)
 
 -- a number that is counted from 1
 abbrev pub is_counted : ℕ → Bool

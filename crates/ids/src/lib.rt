@@ -3,10 +3,14 @@
 
 mod listed;
 mod names;
+mod outcome;
 mod place;
+mod returns;
 #[cfg(test)]
 mod tests;
 
 pub use listed::Listed;
-pub use names::{Actor, FrameNo, GrantId, Hop, Incarnation};
+pub use names::{Actor, Address, Count, Epoch, FrameNo, GrantId, Hop, Incarnation};
+pub use outcome::Outcome;
 pub use place::{Place, PlaceError};
+pub use returns::Return;

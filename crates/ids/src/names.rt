@@ -1,5 +1,5 @@
 ghost use Rattle.std.specs.Prelude.{◌≡◌, ◌+◌, ◌-◌, ◌^◌, nat_lt, IsTrue, Some, None, if◌then◌else◌};
-ghost use Rattle.ids.specs.Names.{is_worker, is_epoch, is_actor, is_counted, house_of, grant_before};
+ghost use Rattle.ids.specs.Names.{is_worker, is_epoch, is_actor, is_counted, is_address, house_of, grant_before};
 
 use std::marker::Model;
 
@@ -251,5 +251,161 @@ impl Hop {
     {
         let count = self.count.checked_add(1)?;
         Some(Hop { count })
+    }
+}
+
+/// A number that is counted from 1, as the requests of a thief and the versions of a roster are. Contracts see the
+/// number.
+#[derive(Clone, Copy, PartialEq, Eq, Debug)]
+pub struct Count {
+    number: u64,
+}
+
+impl Model for Count {
+    ghost use Rattle.std.specs.Prelude.{ℕ, IsTrue};
+
+    ghost Value = { ℕ };
+
+    ghost use Rattle.ids.specs.Names.{is_counted};
+
+    ghost view = { λ c. c.number };
+
+    ghost invariant = { λ c. IsTrue (is_counted c.number) };
+
+    ghost inverse = { λ n. record { number = n } };
+}
+
+impl Count {
+    /// The count of a number; none for 0.
+    pub fn of(number: u64) -> Option<Count>
+        ensures { result ≡ (if is_counted number then Some number else None) }
+    {
+        if 0 < number {
+            Some(Count { number })
+        } else {
+            None
+        }
+    }
+
+    /// The number.
+    pub fn number(self) -> u64
+        ensures same { result ≡ self }
+        ensures counted { IsTrue (is_counted self) }
+    {
+        self.number
+    }
+
+    /// The count one greater; none at 2^64 - 1.
+    pub fn next(self) -> Option<Count>
+        ensures { result ≡ (if nat_lt (self + 1) (2 ^ 64) then Some (self + 1) else None) }
+    {
+        let number = self.number.checked_add(1)?;
+        Some(Count { number })
+    }
+}
+
+/// An epoch of the clearinghouse, 1 to 2^63 - 1. Contracts see the number.
+#[derive(Clone, Copy, PartialEq, Eq, Debug)]
+pub struct Epoch {
+    number: u64,
+}
+
+impl Model for Epoch {
+    ghost use Rattle.std.specs.Prelude.{ℕ, IsTrue};
+
+    ghost Value = { ℕ };
+
+    ghost use Rattle.ids.specs.Names.{is_epoch};
+
+    ghost view = { λ e. e.number };
+
+    ghost invariant = { λ e. IsTrue (is_epoch e.number) };
+
+    ghost inverse = { λ n. record { number = n } };
+}
+
+impl Epoch {
+    /// The epoch of a number; none outside 1 to 2^63 - 1.
+    pub fn of(number: u64) -> Option<Epoch>
+        ensures { result ≡ (if is_epoch number then Some number else None) }
+    {
+        if 0 < number && number < HALF {
+            Some(Epoch { number })
+        } else {
+            None
+        }
+    }
+
+    /// The number.
+    pub fn number(self) -> u64
+        ensures same { result ≡ self }
+        ensures epoch { IsTrue (is_epoch self) }
+    {
+        self.number
+    }
+
+    /// The clearinghouse in this epoch.
+    pub fn house(self) -> Actor
+        ensures { result ≡ house_of self }
+    {
+        Actor {
+            word: HALF + self.number,
+        }
+    }
+}
+
+/// Where a packet goes: to a worker, to the clearinghouse in an epoch, or to the clearinghouse of any epoch, which is
+/// 2^63. Contracts see the number.
+#[derive(Clone, Copy, PartialEq, Eq, Debug)]
+pub struct Address {
+    word: u64,
+}
+
+impl Model for Address {
+    ghost use Rattle.std.specs.Prelude.{ℕ, IsTrue};
+
+    ghost Value = { ℕ };
+
+    ghost use Rattle.ids.specs.Names.{is_address};
+
+    ghost view = { λ a. a.word };
+
+    ghost invariant = { λ a. IsTrue (is_address a.word) };
+
+    ghost inverse = { λ n. record { word = n } };
+}
+
+impl Address {
+    /// The address of a number; none for 0.
+    pub fn of(word: u64) -> Option<Address>
+        ensures { result ≡ (if is_address word then Some word else None) }
+    {
+        if word == 0 {
+            None
+        } else {
+            Some(Address { word })
+        }
+    }
+
+    /// The clearinghouse of any epoch.
+    pub fn any_house() -> Address
+        ensures { result ≡ 2 ^ 63 }
+    {
+        Address { word: HALF }
+    }
+
+    /// A worker, or the clearinghouse in an epoch.
+    pub fn actor(actor: Actor) -> Address
+        ensures { result ≡ actor }
+    {
+        Address { word: actor.word() }
+    }
+
+    /// The number.
+    pub fn word(self) -> u64
+        ensures same { result ≡ self }
+        ensures address { IsTrue (is_address self) }
+    {
+        self.word
     }
 }

@@ -1,6 +1,8 @@
-ghost use Rattle.std.specs.Prelude.{◌≡◌, ◌≤◌, ◌<◌, ◌↔◌, [], ◌∷◌, zero, length, IfOk, IsErrOf, reverse, slice_get};
-ghost use Rattle.ids.specs.Place.{level_of, IsPlace};
+ghost use Rattle.std.specs.Prelude.{◌≡◌, ◌≤◌, ◌<◌, ◌↔◌, [], ◌∷◌, zero, length, IfOk, IsErrOf, Some, None, if◌then◌else◌, reverse, slice_get, nat_lt};
+ghost use Rattle.std.specs.List.{list_all};
+ghost use Rattle.ids.specs.Place.{level_of, is_place, IsPlace};
 
+use crate::listed::Listed;
 use std::alloc::{AllocError, Global};
 use std::marker::Model;
 use thiserror::Error;
@@ -49,6 +51,20 @@ impl Place {
         }
     }
 
+    /// The place that these steps lead to from the root; none where there are more than 1,024, or one is no step. It
+    /// takes no memory.
+    pub fn of(steps: Listed<u8>) -> Option<Place>
+        ensures { result ≡ (if is_place steps then Some (reverse steps) else None) }
+    {
+        if steps.len() <= MOST_STEPS && are_steps(steps.as_slice()) {
+            Some(Place {
+                steps: steps.into_vec(),
+            })
+        } else {
+            None
+        }
+    }
+
     /// The place of the kid of a hole, 1 to 8. `Full` comes only at 1,024 steps.
     pub fn child(&self, alloc: Global, hole: u8) -> Result<Place, PlaceError>
         requires { hole < 9 }
@@ -88,6 +104,14 @@ impl Place {
         item_at(self.steps.as_slice(), index as usize)
     }
 
+    /// The steps from the root on.
+    pub fn steps(&self) -> &[u8]
+        ensures steps { result.now ≡ reverse self.now }
+        ensures place { IsPlace self.now }
+    {
+        self.steps.as_slice()
+    }
+
     /// The count of steps.
     pub fn len(&self) -> u16
         ensures steps { result ≡ length self.now }
@@ -95,6 +119,13 @@ impl Place {
     {
         self.steps.len() as u16
     }
+}
+
+/// Whether each byte is a step: 0 to the successor, or 1 to 8 to a kid.
+fn are_steps(bytes: &[u8]) -> bool
+    ensures { result ≡ list_all (λ step. nat_lt step 9) bytes.now }
+{
+    bytes.iter().all(|step| *step < 9)
 }
 
 /// The byte at an index, where there is one.

@@ -1,4 +1,6 @@
-use crate::{Actor, FrameNo, GrantId, Hop, Incarnation, Listed, Place, PlaceError};
+use crate::{
+    Actor, Address, Count, Epoch, FrameNo, GrantId, Hop, Incarnation, Listed, Place, PlaceError,
+};
 use std::test::Fail;
 
 #[test]
@@ -115,5 +117,42 @@ fn hops_and_frames_are_counted(rt: HostRuntime) -> Result<(), Fail> {
     assert_eq!(rt; FrameNo::of(4).number(), 4);
     assert_eq!(rt; Hop::of(0).next().ok_or("a hop")?.count(), 1);
     assert_eq!(rt; Hop::of(u32::MAX).next(), None);
+    Ok(())
+}
+
+#[test]
+fn counts_epochs_and_addresses(rt: HostRuntime) -> Result<(), Fail> {
+    let half = 1u64 << 63;
+    assert_eq!(rt; Count::of(0), None);
+    let count = Count::of(u64::MAX - 1).ok_or("a count")?;
+    let last = count.next().ok_or("a count")?;
+    assert_eq!(rt;
+        (count.number(), last.number(), last.next()),
+        (u64::MAX - 1, u64::MAX, None)
+    );
+    assert_eq!(rt; (Epoch::of(0), Epoch::of(half)), (None, None));
+    let epoch = Epoch::of(half - 1).ok_or("an epoch")?;
+    assert_eq!(rt;
+        (epoch.number(), epoch.house().word()),
+        (half - 1, u64::MAX)
+    );
+    assert_eq!(rt; Address::of(0), None);
+    assert_eq!(rt; Address::of(half), Some(Address::any_house()));
+    assert_eq!(rt; Address::actor(epoch.house()).word(), u64::MAX);
+    Ok(())
+}
+
+#[test]
+fn places_are_made_of_their_steps(rt: HostRuntime) -> Result<(), Fail> {
+    let alloc = rt.alloc();
+    let steps = Listed::from_vec(Vec::from_slice(alloc, &[2, 0, 8])?);
+    let place = Place::of(steps).ok_or("a place")?;
+    assert_eq!(rt; (place.steps(), place.level()), ([2, 0, 8].as_slice(), 2));
+    let steps = Listed::from_vec(Vec::from_slice(alloc, &[0, 9])?);
+    assert!(rt; Place::of(steps).is_none());
+    let steps = Listed::from_vec(Vec::from_slice(alloc, &[0; 1024])?);
+    assert!(rt; Place::of(steps).is_some());
+    let steps = Listed::from_vec(Vec::from_slice(alloc, &[0; 1025])?);
+    assert!(rt; Place::of(steps).is_none());
     Ok(())
 }

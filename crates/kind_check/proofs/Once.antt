@@ -1,7 +1,6 @@
 -- In an accepted program each hole has exactly one use on each path.
-use Rattle.std.proofs.Common.{◌≡◌, ◌≢◌, ℕ, ◌+◌, refl, ap, sym, ◌∙◌, Bool, true, false, cond, ◌||◌, List, [], ◌∷◌, ◌++◌, length, Option, Some, None, if◌then◌else◌, ◌⊎◌, inl, inr, codes, arith}
+use Rattle.std.proofs.Common.{◌≡◌, ℕ, ◌+◌, refl, Bool, true, false, cond, ◌||◌, List, [], ◌∷◌, ◌++◌, length, Option, Some, None, if◌then◌else◌, ◌⊎◌, inl, inr, codes, arith}
 use Rattle.std.specs.Str.{bytes_eq}
-use Rattle.std.specs.Bool.{Decides}
 use Rattle.std.proofs.lemmas.Slice.Eq.{bytes_eq-Decides}
 use Rattle.std.proofs.lemmas.List.Sums.{sum_by-cons}
 use Rattle.task_syntax.specs.declared.tree.Name.{Name}
@@ -17,7 +16,7 @@ use Rattle.task_syntax.specs.declared.tree.Program.{Program}
 use Rattle.kind_check.specs.declared.names.Kind.{Kind}
 use Rattle.kind_check.specs.declared.names.Kind.TheVariants.{Own, Value, Waits}
 use Rattle.kind_check.specs.Turns.{use_of}
-use Rattle.kind_check.specs.Faults.{Fault, Scope, kind_of, with_name, new_faults, own_faults, hole_faults, expr_faults, lets_faults, after_names, call_faults, arguments_faults, after_arguments, again_faults, given_faults, uses_faults, used_faults, unused_faults, end_faults, block_faults, limit_faults, parameters_faults, after_parameters, own_scope, thread_faults, again_named, threads_faults, thread_named, main_faults, faults}
+use Rattle.kind_check.specs.Faults.{Scope, kind_of, with_name, own_faults, hole_faults, expr_faults, lets_faults, after_names, call_faults, arguments_faults, after_arguments, again_faults, given_faults, uses_faults, used_faults, unused_faults, end_faults, block_faults, limit_faults, parameters_faults, after_parameters, own_scope, thread_faults, again_named, threads_faults, thread_named, main_faults, faults}
 use Rattle.kind_check.specs.Holes.{uses_count, UsedOnce, has_hole, AreHoles, EndUsesOnce, ThreadsUseOnce, HolesUsedOnce}
 use Rattle.kind_check.proofs.Known.{none_left, or_else, kind_of_more}
 

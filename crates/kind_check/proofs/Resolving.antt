@@ -19,9 +19,8 @@ use Rattle.task_syntax.specs.declared.tree.End.TheVariants.{If', Send, Next}
 use Rattle.task_syntax.specs.declared.tree.Thread.{Thread}
 use Rattle.task_syntax.specs.declared.tree.Program.{Program}
 use Rattle.kind_check.specs.declared.turn.Slot.{Slot}
-use Rattle.kind_check.specs.declared.turn.Slot.TheVariants.{Filled, Awaits}
+use Rattle.kind_check.specs.declared.turn.Slot.TheVariants.{Filled}
 use Rattle.kind_check.specs.declared.turn.Turn.{Turn}
-use Rattle.kind_check.specs.declared.turn.Turn.TheVariants as turn
 use Rattle.kind_check.specs.declared.code.Code.{Code}
 use Rattle.kind_check.specs.declared.code.Code.TheVariants.{Number, Local, Binary', Absent}
 use Rattle.kind_check.specs.declared.code.SlotCode.{SlotCode}
@@ -31,11 +30,11 @@ use Rattle.kind_check.specs.declared.code.Leaf.TheVariants as leaf
 use Rattle.kind_check.specs.declared.code.BlockCode.{BlockCode}
 use Rattle.kind_check.specs.declared.code.EndCode.{EndCode}
 use Rattle.kind_check.specs.declared.code.EndCode.TheVariants as end
-use Rattle.kind_check.specs.Value.{Env, number_of, value_of, both, result_of}
-use Rattle.kind_check.specs.Turns.{◌>>=◌, values_of, after_lets, thread_of, use_of, slot_for, slots_of, end_turn, block_turn, bind, thread_turn, turn_of}
+use Rattle.kind_check.specs.Value.{Env, number_of, value_of}
+use Rattle.kind_check.specs.Turns.{◌>>=◌, values_of, after_lets, use_of, slot_for, slots_of, end_turn, block_turn, bind, thread_turn}
 use Rattle.kind_check.specs.Places.{place_of, further}
 use Rattle.kind_check.specs.Code.{code_value, code_values, code_lets, code_slot, code_slots, leaf_turn, end_code_turn, code_turn, codes_turn, Follows, IsBody}
-use Rattle.kind_check.specs.Resolves.{after, names_of, next_hole, ResolvesExpr, ResolvesExprs, ResolvesLets, ResolvesGiven, ResolvesUse, ResolvesSlot, ResolvesSlots, ResolvesNext, ResolvesEnd, ResolvesBlock, ResolvesThread, ResolvesThreads}
+use Rattle.kind_check.specs.Resolves.{after, names_of, ResolvesExpr, ResolvesExprs, ResolvesLets, ResolvesGiven, ResolvesUse, ResolvesSlots, ResolvesNext, ResolvesEnd, ResolvesBlock, ResolvesThread, ResolvesThreads}
 
 abbrev name_in : List ℕ × ℤ → List ℕ
 name_in b = b.0

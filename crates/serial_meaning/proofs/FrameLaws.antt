@@ -1,5 +1,5 @@
 -- The steps that a runner of frames makes, as laws of the serial meaning.
-use Rattle.std.proofs.Common.{◌≡◌, ℕ, ℤ, ◌+◌, ◌-◌, ◌<◌, ◌≤◌, zero, suc, pos, eq-eqb, ne_eqb, Bool, true, false, nat_eq, nat_lt, cond, if◌then◌else◌, List, [], ◌∷◌, length, map, Option, Some, None, refl, sym, ◌∙◌, ap, subst, arith, rules}
+use Rattle.std.proofs.Common.{◌≡◌, ℕ, ℤ, ◌+◌, ◌<◌, ◌≤◌, zero, suc, pos, eq-eqb, ne_eqb, Bool, true, false, nat_eq, nat_lt, if◌then◌else◌, List, [], ◌∷◌, length, map, Option, Some, None, refl, ◌∙◌, arith}
 use Rattle.std.proofs.lemmas.Bool.{ltb-false}
 use Rattle.std.specs.List.{slice_get, slice_set}
 use Rattle.std.specs.Ordering.{int_eq}
@@ -21,8 +21,8 @@ use Rattle.task_syntax.specs.declared.tree.Thread.{Thread}
 use Rattle.kind_check.specs.Value.{Env, value_of}
 use Rattle.kind_check.specs.Turns.{◌>>=◌, use_of, slot_for, slots_of, values_of, after_lets, bind, thread_of, end_turn, block_turn, thread_turn, turn_of}
 use Rattle.serial_meaning.specs.Serial.{TaskValue, slot_value, slot_values, end_value, no_value, serial}
-use Rattle.serial_meaning.specs.Places.{Task, kid_of, after_step, room, value_within, task_at, join_slot, slot_at, value_at}
-use Rattle.serial_meaning.specs.Agrees.{numbers_in, SlotAgrees, SlotsAgree, StartAgrees, NextAgrees, FrameAgrees, given_of}
+use Rattle.serial_meaning.specs.Places.{Task, kid_of, after_step, room, value_within, task_at, slot_at, value_at}
+use Rattle.serial_meaning.specs.Agrees.{numbers_in, SlotsAgree, NextAgrees, FrameAgrees, given_of}
 
 -- what both steps gave, where both gave something
 pub record Bound {A B : Type 0} (o : Option A) (f : A → Option B) (y : B) : Type 0 where

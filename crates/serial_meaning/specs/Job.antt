@@ -1,8 +1,7 @@
 -- A job: an accepted program, its input and the number that its packets and its checkpoint carry.
-use Rattle.std.specs.Prelude.{◌≡◌, ℕ, ℤ, List, length, Option, Some, None, codes}
+use Rattle.std.specs.Prelude.{◌≡◌, ℕ, ℤ, List, length, Some, codes}
 use Rattle.task_syntax.specs.declared.tree.Program.{Program}
 use Rattle.kind_check.specs.Turns.{thread_of}
-use Rattle.kind_check.specs.Faults.{thread_named}
 use Rattle.kind_check.specs.Total.{Takes, IsAccepted}
 
 pub record JobOf : Type 0 where

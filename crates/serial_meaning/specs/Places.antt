@@ -7,8 +7,8 @@ use Rattle.kind_check.specs.declared.turn.Slot.TheVariants.{Filled, Awaits}
 use Rattle.kind_check.specs.declared.turn.Turn.{Turn}
 use Rattle.kind_check.specs.declared.turn.Turn.TheVariants.{Sends, Joins}
 use Rattle.kind_check.specs.Turns.{◌>>=◌, turn_of, thread_of}
-use Rattle.serial_meaning.specs.declared.job.Outcome.{Outcome}
-use Rattle.serial_meaning.specs.declared.job.Outcome.TheVariants.{Value, TooDeep}
+use Rattle.ids.specs.declared.outcome.Outcome.{Outcome}
+use Rattle.ids.specs.declared.outcome.Outcome.TheVariants.{Value, TooDeep}
 use Rattle.serial_meaning.specs.Serial.{TaskValue, slot_value, slot_values, serial}
 
 -- a thread and the numbers that it runs on

@@ -9,13 +9,6 @@ use std::marker::Model;
 use task_syntax::Thread;
 use thiserror::Error;
 
-/// What a job comes to: a number, or too deep, where some task stands at a place of more than 1,024 steps.
-#[derive(Clone, Copy, PartialEq, Eq, Debug)]
-pub enum Outcome {
-    Value(i64),
-    TooDeep,
-}
-
 /// Why a job isn't made.
 #[derive(Clone, Copy, Debug, PartialEq, Eq, Error)]
 pub enum JobError {

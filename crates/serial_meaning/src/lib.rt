@@ -5,5 +5,6 @@ mod job;
 mod meaning;
 mod stack;
 
-pub use job::{Job, JobError, Outcome};
+pub use ids::Outcome;
+pub use job::{Job, JobError};
 pub use meaning::{SerialError, serial};

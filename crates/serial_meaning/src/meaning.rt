@@ -6,9 +6,10 @@ ghost use Rattle.serial_meaning.specs.Running.{run_slot, run_slots, run_turns, s
 ghost use Rattle.serial_meaning.specs.Places.{meaning};
 ghost use Rattle.serial_meaning.specs.Count.{turns_of};
 
-use crate::job::{Job, Outcome};
+use crate::job::Job;
 use crate::stack::{between, push_values};
 use body_eval::{above, leaf, value};
+use ids::Outcome;
 use kind_check::{Checked, Leaf, SlotCode};
 use std::alloc::{AllocError, AllocFailed, Global};
 use thiserror::Error;

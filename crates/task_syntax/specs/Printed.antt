@@ -1,5 +1,5 @@
 -- The printed text of a program: each thread on a line, its tokens joined by one blank.
-use Rattle.std.specs.Prelude.{ℕ, ℤ, List, [], ◌∷◌, ◌++◌, map, codes}
+use Rattle.std.specs.Prelude.{ℕ, List, [], ◌∷◌, ◌++◌, map, codes}
 use Rattle.std.specs.List.{flat_map, join_with_byte}
 use Rattle.std.specs.Fmt.{signed_decimal}
 use Rattle.task_tokens.specs.declared.kinds.Word.{Word}

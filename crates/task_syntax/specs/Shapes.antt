@@ -1,5 +1,5 @@
 -- Programs that are the same but for offsets.
-use Rattle.std.specs.Prelude.{◌≡◌, ℕ, List, [], ◌∷◌}
+use Rattle.std.specs.Prelude.{◌≡◌, List, [], ◌∷◌}
 use Rattle.task_syntax.specs.declared.tree.Name.{Name}
 use Rattle.task_syntax.specs.declared.tree.Expr.{Expr}
 use Rattle.task_syntax.specs.declared.tree.Expr.TheVariants.{Number, Variable, Binary'}

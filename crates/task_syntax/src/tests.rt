@@ -1,4 +1,4 @@
-use crate::{Argument, Block, End, Expr, Given, Name, Program, Use, parse};
+use crate::{Argument, Block, End, Expr, Given, Name, Program, Use, parse, print};
 use ids::Listed;
 use std::alloc::{AllocError, Global};
 use std::fmt::{self, Display, Formatter};
@@ -323,6 +323,30 @@ fn trees(rt: HostRuntime) -> Result<(), Fail> {
         ),
     ] {
         assert_eq!(rt; tree(alloc, text)?.as_str(), want);
+    }
+    Ok(())
+}
+
+#[test]
+fn printed_texts(rt: HostRuntime) -> Result<(), Fail> {
+    let alloc = rt.alloc();
+    for (text, want) in [
+        (
+            b"thread main(k){send_argument(k,((1+2+3*04)));}".as_slice(),
+            b"thread main ( k ) { send_argument ( k , ( 1 + 2 ) + ( 3 * 4 ) ) ; }\n".as_slice(),
+        ),
+        (
+            b"thread main(k){spawn_next one(k,?x);}",
+            b"thread main ( k ) { spawn_next one ( k , ? x ) ; }\n",
+        ),
+        (
+            b"thread sum(k,x,y){send_argument(k,x+y);}",
+            b"thread sum ( k , x , y ) { send_argument ( k , x + y ) ; }\n",
+        ),
+        (b" // nothing", b""),
+    ] {
+        let printed = print(alloc, &parse(alloc, text)?)?;
+        assert_eq!(rt; printed.as_slice(), want);
     }
     Ok(())
 }

@@ -1,13 +1,10 @@
 -- The tokens of a text: blanks and comments separate them, and the longest token is taken.
-use Rattle.std.specs.Prelude.{◌≡◌, ℕ, ℤ, pos, ◌+◌, ◌-◌, ◌*◌, ◌^◌, Bool, true, false, ◌&&◌, ◌||◌, not, if◌then◌else◌, List, [], ◌∷◌, length, take, Option, Some, None, nat_eq, nat_lt, nat_le, codes, zero, suc}
+use Rattle.std.specs.Prelude.{ℕ, pos, ◌+◌, ◌-◌, ◌*◌, ◌^◌, Bool, ◌&&◌, ◌||◌, not, if◌then◌else◌, List, [], ◌∷◌, length, take, Option, Some, None, nat_eq, nat_lt, nat_le, codes, zero, suc}
 use Rattle.std.specs.List.{prefix_len}
 use Rattle.std.specs.Str.{bytes_eq}
 use Rattle.std.specs.Char.{is_ascii_digit}
-use Rattle.task_tokens.specs.declared.kinds.Word.{Word}
 use Rattle.task_tokens.specs.declared.kinds.Word.TheVariants as word
-use Rattle.task_tokens.specs.declared.kinds.Sign.{Sign}
 use Rattle.task_tokens.specs.declared.kinds.Sign.TheVariants as sign
-use Rattle.task_tokens.specs.declared.kinds.Operator.{Operator}
 use Rattle.task_tokens.specs.declared.kinds.Operator.TheVariants as operator
 use Rattle.task_tokens.specs.declared.kinds.TokenKind.{TokenKind}
 use Rattle.task_tokens.specs.declared.kinds.TokenKind.TheVariants.{Ident, LongIdent, Keyword, Numeral, LargeNumeral, Infix, Mark, Unknown, End}

@@ -1,4 +1,4 @@
-use Rattle.std.proofs.Common.{◌≡◌, ◌++◌, List, drop}
+use Rattle.std.proofs.Common.{◌≡◌, ◌++◌, drop}
 use Rattle.kind_check.specs.Resolves.{names_of}
 use Rattle.kind_check.proofs.resolve.thread.Given as goal
 

@@ -1,7 +1,5 @@
-use Rattle.std.proofs.Common.{◌≡◌, ◌≤◌, ◌∙◌, ℤ, List, None, Some, drop, vec_len, arith, rules}
-use Rattle.serial_meaning.specs.Serial.{serial, serial_turns}
-use Rattle.serial_meaning.specs.Running.{run_slots}
-use Rattle.serial_meaning.proofs.Runs.{joined_none, joined_none_turns, joined_some, joined_some_turns, joined_kids, joined_takes}
+use Rattle.std.proofs.Common.{◌≤◌, ◌∙◌, arith, rules}
+use Rattle.serial_meaning.proofs.Runs.{joined_none, joined_none_turns, joined_some, joined_some_turns, joined_takes}
 use Rattle.serial_meaning.proofs.Steps.{on_ok, if_err, take_lower}
 use Rattle.serial_meaning.proofs.meaning.+serial.Goals as goal
 

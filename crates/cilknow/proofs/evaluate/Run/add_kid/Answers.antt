@@ -1,12 +1,7 @@
-use Rattle.std.proofs.Common.{◌≡◌, ◌+◌, Some, rules}
-use Rattle.std.specs.List.{slice_get}
-use Rattle.std.specs.Ordering.{nat_cmp}
-use Rattle.std.specs.BTreeMap.{get}
 use Rattle.kind_check.specs.declared.turn.Slot.TheVariants.{Awaits}
 use Rattle.serial_meaning.proofs.FrameLaws.{kid_small}
-use Rattle.cilknow.specs.Sub.{SubOf}
-use Rattle.cilknow.specs.Holding.{IsAdded, frames_of}
-use Rattle.cilknow.proofs.Joining.{got, kid_frame, kid_fits, joins_further}
+use Rattle.cilknow.specs.Holding.{frames_of}
+use Rattle.cilknow.proofs.Joining.{got, kid_fits, joins_further}
 use Rattle.cilknow.proofs.evaluate.Run.add_kid.Goals as goal
 
 pub child-requires : goal.child-requires

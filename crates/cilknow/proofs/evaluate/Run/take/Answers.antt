@@ -1,7 +1,7 @@
-use Rattle.std.proofs.Common.{rules, ◌≡◌, Some, refl}
+use Rattle.std.proofs.Common.{rules}
 use Rattle.std.specs.Ordering.{nat_cmp}
 use Rattle.std.specs.BTreeMap.{get}
-use Rattle.cilknow.proofs.Steps.{Removes, removed, removed_task}
+use Rattle.cilknow.proofs.Steps.{removed, removed_task}
 use Rattle.cilknow.proofs.evaluate.Run.take.Goals as goal
 
 pub returns-clause-holds : goal.returns-clause-holds

@@ -1,7 +1,6 @@
 -- The steps are kept from the root on, and counted there.
 use Rattle.std.proofs.Common.{rules, ◌≡◌, ◌==◌, ◌∙◌, sym, not, ℕ}
 use Rattle.std.specs.List.{count_by}
-use Rattle.ids.specs.Place.{level_of}
 use Rattle.ids.proofs.Places.{count_by-reverse}
 use Rattle.ids.proofs.place.Place.level.Goals as goal
 

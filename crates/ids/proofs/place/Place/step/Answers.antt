@@ -1,5 +1,5 @@
 -- The steps are kept from the root on.
-use Rattle.std.proofs.Common.{◌≡◌, ◌∙◌, sym, refl}
+use Rattle.std.proofs.Common.{◌∙◌, sym, refl}
 use Rattle.std.proofs.lemmas.List.{reverse-reverse}
 use Rattle.ids.proofs.place.Place.step.Goals as goal
 

@@ -1,0 +1,213 @@
+-- The table of packets: the fields of each kind, and the packet.
+use Rattle.std.specs.Prelude.{◌≡◌, ◌^◌, ◌≤◌, ◌&&◌, ◌||◌, ℕ, zero, suc, Bool, nat_eq, nat_lt, if◌then◌else◌, List, [], length, Result, Ok, Err}
+use Rattle.ids.specs.Names.{is_actor, is_worker}
+use Rattle.packet_fields.specs.declared.fault.Fault.{Fault}
+use Rattle.packet_fields.specs.declared.fault.Fault.TheVariants as fault
+use Rattle.packet_fields.specs.Format.{Format, ◌>>=◌, constant, followed, made, number, tested}
+use Rattle.packet_fields.specs.Fields as field
+use Rattle.codec.specs.declared.body.Body.{Body}
+use Rattle.codec.specs.declared.body.Body.TheVariants as body
+use Rattle.codec.specs.declared.body.Join.{Join}
+use Rattle.codec.specs.declared.body.Roster.{Roster}
+use Rattle.codec.specs.declared.body.Steal.{Steal}
+use Rattle.codec.specs.declared.body.Grant.{Grant}
+use Rattle.codec.specs.declared.body.Refuse.{Refuse}
+use Rattle.codec.specs.declared.body.Done.{Done}
+use Rattle.codec.specs.declared.body.ResultAck.{ResultAck}
+use Rattle.codec.specs.declared.body.Offer.{Offer}
+use Rattle.codec.specs.declared.body.OfferAck.{OfferAck}
+use Rattle.codec.specs.declared.body.Leave.{Leave}
+use Rattle.codec.specs.declared.body.Abort.{Abort}
+use Rattle.codec.specs.declared.body.Beat.{Beat}
+
+unfoldable pub join : Format Join
+join = made field.worker (λ x. record { from = x }) (λ b. b.from)
+
+unfoldable pub roster : Format Roster
+roster = made (followed field.epoch (λ _. followed field.counted (λ _. field.members))) (λ x. record { epoch = x.0; version = x.1.0; members = x.1.1 }) (λ b. (b.epoch, (b.version, b.members)))
+
+unfoldable pub steal : Format Steal
+steal = made (followed field.worker (λ _. field.counted)) (λ x. record { from = x.0; seq = x.1 }) (λ b. (b.from, b.seq))
+
+unfoldable pub granted : Format Grant
+granted = made (followed field.counted (λ _. followed field.grant (λ _. field.task))) (λ x. record { seq = x.0; grant = x.1.0; task = x.1.1 }) (λ b. (b.seq, (b.grant, b.task)))
+
+unfoldable pub refuse : Format Refuse
+refuse = made field.counted (λ x. record { seq = x }) (λ b. b.seq)
+
+unfoldable pub done : Format Done
+done = made (followed field.worker (λ _. followed field.grant (λ _. field.outcome))) (λ x. record { from = x.0; grant = x.1.0; outcome = x.1.1 }) (λ b. (b.from, (b.grant, b.outcome)))
+
+unfoldable pub result_ack : Format ResultAck
+result_ack = made field.grant (λ x. record { grant = x }) (λ b. b.grant)
+
+-- frames and records have numbers below the next one, and there are none where the subcomputation is finished
+unfoldable pub offer : Format Offer
+offer =
+    made
+    (followed field.worker (λ _. followed field.grant (λ _. followed field.raised (λ _. followed field.actor (λ _.
+    followed field.progress (λ progress. followed field.task (λ _. followed field.raised (λ next.
+    followed (field.frames progress next) (λ _. field.records progress next)))))))))
+    (λ x. record {
+      from = x.0;
+      grant = x.1.0;
+      hop = x.1.1.0;
+      parent = x.1.1.1.0;
+      progress = x.1.1.1.1.0;
+      task = x.1.1.1.1.1.0;
+      next = x.1.1.1.1.1.1.0;
+      frames = x.1.1.1.1.1.1.1.0;
+      records = x.1.1.1.1.1.1.1.1;
+    })
+    (λ b. (b.from, (b.grant, (b.hop, (b.parent, (b.progress, (b.task, (b.next, (b.frames, b.records)))))))))
+
+unfoldable pub offer_ack : Format OfferAck
+offer_ack = made (followed field.worker (λ _. followed field.grant (λ _. field.hop))) (λ x. record { from = x.0; grant = x.1.0; hop = x.1.1 }) (λ b. (b.from, (b.grant, b.hop)))
+
+-- the heir is another worker
+unfoldable pub leave : Format Leave
+leave =
+    made (followed field.worker (λ from. field.other_worker from)) (λ x. record { from = x.0; heir = x.1 })
+    (λ b. (b.from, b.heir))
+
+unfoldable pub abort : Format Abort
+abort = made field.grant (λ x. record { grant = x }) (λ b. b.grant)
+
+unfoldable pub beat : Format Beat
+beat = made (followed field.worker (λ _. field.counted)) (λ x. record { from = x.0; version = x.1 }) (λ b. (b.from, b.version))
+
+-- the number of a kind
+abbrev pub kind_of : Body → ℕ
+kind_of (body.Join b) = 1
+kind_of (body.Roster b) = 2
+kind_of (body.Steal b) = 3
+kind_of (body.Grant b) = 4
+kind_of (body.Refuse b) = 5
+kind_of (body.Result b) = 6
+kind_of (body.ResultAck b) = 7
+kind_of (body.Offer b) = 8
+kind_of (body.OfferAck b) = 9
+kind_of (body.Leave b) = 10
+kind_of (body.Abort b) = 11
+kind_of (body.Beat b) = 12
+
+-- from these bytes up to those, the fields of the kind are spelled
+abbrev pub SpelledBody : List ℕ → List ℕ → Body → Type 0
+SpelledBody from to (body.Join b) = join.Spelled from to b
+SpelledBody from to (body.Roster b) = roster.Spelled from to b
+SpelledBody from to (body.Steal b) = steal.Spelled from to b
+SpelledBody from to (body.Grant b) = granted.Spelled from to b
+SpelledBody from to (body.Refuse b) = refuse.Spelled from to b
+SpelledBody from to (body.Result b) = done.Spelled from to b
+SpelledBody from to (body.ResultAck b) = result_ack.Spelled from to b
+SpelledBody from to (body.Offer b) = offer.Spelled from to b
+SpelledBody from to (body.OfferAck b) = offer_ack.Spelled from to b
+SpelledBody from to (body.Leave b) = leave.Spelled from to b
+SpelledBody from to (body.Abort b) = abort.Spelled from to b
+SpelledBody from to (body.Beat b) = beat.Spelled from to b
+
+-- the bytes of the fields
+abbrev pub write_body : Body → List ℕ
+write_body (body.Join b) = join.write b
+write_body (body.Roster b) = roster.write b
+write_body (body.Steal b) = steal.write b
+write_body (body.Grant b) = granted.write b
+write_body (body.Refuse b) = refuse.write b
+write_body (body.Result b) = done.write b
+write_body (body.ResultAck b) = result_ack.write b
+write_body (body.Offer b) = offer.write b
+write_body (body.OfferAck b) = offer_ack.write b
+write_body (body.Leave b) = leave.write b
+write_body (body.Abort b) = abort.write b
+write_body (body.Beat b) = beat.write b
+
+-- whether the fields can be written
+abbrev pub fits_body : Body → Bool
+fits_body (body.Join b) = join.fits b
+fits_body (body.Roster b) = roster.fits b
+fits_body (body.Steal b) = steal.fits b
+fits_body (body.Grant b) = granted.fits b
+fits_body (body.Refuse b) = refuse.fits b
+fits_body (body.Result b) = done.fits b
+fits_body (body.ResultAck b) = result_ack.fits b
+fits_body (body.Offer b) = offer.fits b
+fits_body (body.OfferAck b) = offer_ack.fits b
+fits_body (body.Leave b) = leave.fits b
+fits_body (body.Abort b) = abort.fits b
+fits_body (body.Beat b) = beat.fits b
+
+-- reading the fields of one kind
+abbrev pub reads : {X : Type 0} → Format X → (X → Body) → List ℕ → Result (Body × List ℕ) Fault
+reads F make from = F.read from >>= λ x. Ok (make x.0, x.1)
+
+-- reading the fields of the kind with a number
+abbrev pub read_body : ℕ → List ℕ → Result (Body × List ℕ) Fault
+read_body zero from = Err fault.Kind
+read_body (suc zero) from = reads join body.Join from
+read_body (suc (suc zero)) from = reads roster body.Roster from
+read_body (suc (suc (suc zero))) from = reads steal body.Steal from
+read_body (suc (suc (suc (suc zero)))) from = reads granted body.Grant from
+read_body (suc (suc (suc (suc (suc zero))))) from = reads refuse body.Refuse from
+read_body (suc (suc (suc (suc (suc (suc zero)))))) from = reads done body.Result from
+read_body (suc (suc (suc (suc (suc (suc (suc zero))))))) from = reads result_ack body.ResultAck from
+read_body (suc (suc (suc (suc (suc (suc (suc (suc zero)))))))) from = reads offer body.Offer from
+read_body (suc (suc (suc (suc (suc (suc (suc (suc (suc zero))))))))) from = reads offer_ack body.OfferAck from
+read_body (suc (suc (suc (suc (suc (suc (suc (suc (suc (suc zero)))))))))) from = reads leave body.Leave from
+read_body (suc (suc (suc (suc (suc (suc (suc (suc (suc (suc (suc zero))))))))))) from = reads abort body.Abort from
+read_body (suc (suc (suc (suc (suc (suc (suc (suc (suc (suc (suc (suc zero)))))))))))) from = reads beat body.Beat from
+read_body (suc (suc (suc (suc (suc (suc (suc (suc (suc (suc (suc (suc (suc n))))))))))))) from = Err fault.Kind
+
+-- the fields of a kind
+unfoldable pub fields : ℕ → Format Body
+fields kind = record {
+  Spelled = λ from to b. (kind_of b ≡ kind) × SpelledBody from to b;
+  read = read_body kind;
+  write = write_body;
+  fits = λ b. nat_eq (kind_of b) kind && fits_body b;
+}
+
+abbrev pub is_kind : ℕ → Bool
+is_kind kind = nat_lt 0 kind && nat_lt kind 13
+
+-- the clearinghouse in an epoch
+abbrev pub is_house : ℕ → Bool
+is_house word = nat_lt (2 ^ 63) word && nat_lt word (2 ^ 64)
+
+-- whom a kind goes to: Join to the clearinghouse of any epoch, Steal and Result to an actor, Leave and Beat to the
+-- clearinghouse in an epoch, all others to a worker
+abbrev pub suits : ℕ → ℕ → Bool
+suits kind to =
+    if nat_eq kind 1 then nat_eq to (2 ^ 63)
+    else if nat_eq kind 3 || nat_eq kind 6 then is_actor to
+    else if nat_eq kind 10 || nat_eq kind 12 then is_house to
+    else is_worker to
+
+-- a packet: the number of its job, whom it goes to, and what it says
+pub record PacketOf : Type 0 where
+  pub job : ℕ
+  pub to : ℕ
+  pub body : Body
+
+-- what must hold of a packet, so that it can be written
+abbrev pub is_packet : PacketOf → Bool
+is_packet p = suits (kind_of p.body) p.to && fits_body p.body
+
+-- 20 bytes stand in front of the fields: 43 4E, the version 1, the kind, the job and whom it goes to
+unfoldable pub packet : Format PacketOf
+packet =
+    made
+    (followed (constant fault.Magic 2 0x434E) (λ _. followed (constant fault.Version 1 1) (λ _.
+    followed (tested fault.Kind (number 1) is_kind) (λ kind. followed (number 8) (λ _.
+    followed (field.address (suits kind)) (λ _. fields kind))))))
+    (λ x. record { job = x.1.1.1.0; to = x.1.1.1.1.0; body = x.1.1.1.1.1 })
+    (λ p. (tt, (tt, (kind_of p.body, (p.job, (p.to, p.body))))))
+
+-- the bytes spell the packet, all of them, and they are not too many
+abbrev pub Spells : List ℕ → PacketOf → Type 0
+Spells bytes p = packet.Spelled bytes [] p × (length bytes ≤ 1048576)
+
+-- reading all of the bytes: the packet, or the first fault
+unfoldable pub reading : List ℕ → Result PacketOf Fault
+reading bytes =
+    if nat_lt 1048576 (length bytes) then Err fault.TooBig
+    else packet.read bytes >>= λ x. if nat_eq (length x.1) 0 then Ok x.0 else Err fault.Trailing

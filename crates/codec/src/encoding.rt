@@ -1,0 +1,62 @@
+ghost use Rattle.std.specs.Prelude.{◌≡◌, ◌++◌, ℕ, List, IfOk, IsErrOf, IsTrue, OnOk};
+ghost use Rattle.codec.specs.Table.{Spells};
+ghost use Rattle.codec.specs.Table as table;
+ghost use Rattle.codec.specs.declared.encoding.EncodeError.TheVariants.{TooBig};
+
+use crate::decoding::MOST_BYTES;
+use crate::fields::{kind_of, write_fields};
+use crate::packet::Packet;
+use packet_fields::write;
+use std::alloc::{AllocError, Global};
+use thiserror::Error;
+
+/// Why a packet isn't written.
+#[derive(Clone, Copy, Debug, PartialEq, Eq, Error)]
+pub enum EncodeError {
+    /// Its spelling has more than 1,048,576 bytes.
+    #[error("E30")]
+    TooBig,
+    /// There is no memory.
+    #[error("E9")]
+    Memory,
+}
+
+impl From<AllocError> for EncodeError {
+    ghost use Rattle.std.specs.Prelude.{◌≡◌};
+    ghost use Rattle.codec.specs.declared.encoding.EncodeError.TheVariants.{Memory};
+
+    ghost from_gives = { λ _ e. e ≡ Memory };
+
+    fn from(_refused: AllocError) -> EncodeError {
+        EncodeError::Memory
+    }
+}
+
+/// Adds a packet to the bytes.
+fn put(packet: &Packet, out: &mut Vec<u8>) -> Result<(), AllocError>
+    ensures written { OnOk result (out.new.items ≡ out.old.items ++ table.packet.write packet.now) }
+    ensures fits { OnOk result (IsTrue (table.packet.fits packet.now)) }
+{
+    write::u16(out, 0x434E)?;
+    write::byte(out, 1)?;
+    write::byte(out, kind_of(packet.body()))?;
+    write::u64(out, packet.job())?;
+    write::u64(out, packet.to().word())?;
+    write_fields(packet.body(), out)?;
+    Ok(())
+}
+
+/// The one spelling of a packet. E30 only where it has more than 1,048,576 bytes, E9 where there is no memory.
+pub fn encode(alloc: Global, packet: &Packet) -> Result<Vec<u8>, EncodeError>
+    // What is written is the packet's spelling.
+    ensures written { IfOk result (λ v. Spells v.items packet.now) }
+    // What is too big has no spelling.
+    ensures big { IsErrOf result TooBig → (bytes : List ℕ) → Spells bytes packet.now → ⊥ }
+{
+    let mut out = Vec::new(alloc);
+    put(packet, &mut out)?;
+    if out.len() > MOST_BYTES {
+        return Err(EncodeError::TooBig);
+    }
+    Ok(out)
+}

@@ -1,0 +1,103 @@
+//! The fields of each kind of packet, listed once, for reading, for writing and for the test of what can be written.
+ghost use Rattle.std.specs.Prelude.{◌≡◌, ◌++◌, OnOk};
+ghost use Rattle.packet_fields.specs.Format.{Gives};
+ghost use Rattle.codec.specs.Table as table;
+
+use crate::body::{
+    Abort, Beat, Body, Done, Grant, Join, Leave, Offer, OfferAck, Refuse, ResultAck, Roster, Steal,
+};
+use packet_fields::{Fault, Input, ReadError, fits, read, write};
+use std::alloc::AllocError;
+
+/// Hands the table of kinds to another macro: a kind's number, its variant, its struct, and the fields with their formats
+/// in the order of their bytes. A format may depend on fields before it.
+macro_rules! each_field {
+    ($mode:ident ! $($args:tt)*) => {
+        $mode! { [$($args)*]
+            1 Join: Join { from: worker }
+            2 Roster: Roster { epoch: epoch, version: counted, members: members }
+            3 Steal: Steal { from: worker, seq: counted }
+            4 Grant: Grant { seq: counted, grant: grant, task: task }
+            5 Refuse: Refuse { seq: counted }
+            6 Result: Done { from: worker, grant: grant, outcome: outcome }
+            7 ResultAck: ResultAck { grant: grant }
+            8 Offer: Offer { from: worker, grant: grant, hop: raised, parent: actor, progress: progress, task: task, next: next_frame, frames: frames(progress, next), records: records(progress, next) }
+            9 OfferAck: OfferAck { from: worker, grant: grant, hop: hop }
+            10 Leave: Leave { from: worker, heir: other_worker(from) }
+            11 Abort: Abort { grant: grant }
+            12 Beat: Beat { from: worker, version: counted }
+        }
+    };
+}
+
+macro_rules! kind_arms {
+    ([$body:ident] $($number:literal $variant:ident: $struct:ident { $($field:ident: $format:ident $(($($context:ident),*))?),* })*) => {
+        match $body {
+            $(Body::$variant(_) => $number,)*
+        }
+    };
+}
+
+macro_rules! read_arms {
+    ([$kind:ident $input:ident] $($number:literal $variant:ident: $struct:ident { $($field:ident: $format:ident $(($($context:ident),*))?),* })*) => {
+        match $kind {
+            $($number => {
+                $(let $field = read::$format($($(&$context,)*)? $input)?;)*
+                Ok(Body::$variant($struct { $($field),* }))
+            })*
+            _ => Err(ReadError::Fault(Fault::Kind)),
+        }
+    };
+}
+
+macro_rules! write_arms {
+    ([$body:ident $out:ident] $($number:literal $variant:ident: $struct:ident { $($field:ident: $format:ident $(($($context:ident),*))?),* })*) => {
+        match $body {
+            $(Body::$variant($struct { $($field),* }) => {
+                $(write::$format($out, $field)?;)*
+            })*
+        }
+    };
+}
+
+macro_rules! fits_arms {
+    ([$body:ident] $($number:literal $variant:ident: $struct:ident { $($field:ident: $format:ident $(($($context:ident),*))?),* })*) => {
+        match $body {
+            $(Body::$variant($struct { $($field),* }) => {
+                $(fits::$format($($($context,)*)? $field))&&*
+            })*
+        }
+    };
+}
+
+/// The number of a packet's kind.
+pub fn kind_of(body: &Body) -> u8
+    ensures { result ≡ table.kind_of body.now }
+{
+    each_field!(kind_arms! body)
+}
+
+/// The fields of a kind.
+#[tactic(auto, unfolding(crate::specs::Table::fields, crate::specs::Table::join, crate::specs::Table::roster, crate::specs::Table::steal, crate::specs::Table::granted, crate::specs::Table::refuse, crate::specs::Table::done, crate::specs::Table::result_ack, crate::specs::Table::offer, crate::specs::Table::offer_ack, crate::specs::Table::leave, crate::specs::Table::abort, crate::specs::Table::beat))]
+pub fn read_fields(kind: u8, input: &mut Input<'_>) -> Result<Body, ReadError>
+    ensures { Gives (λ x. (x, input.new)) result ((table.fields kind).read input.old) }
+{
+    each_field!(read_arms! kind input)
+}
+
+/// Adds the fields of a kind to the bytes.
+#[tactic(auto, unfolding(crate::specs::Table::join, crate::specs::Table::roster, crate::specs::Table::steal, crate::specs::Table::granted, crate::specs::Table::refuse, crate::specs::Table::done, crate::specs::Table::result_ack, crate::specs::Table::offer, crate::specs::Table::offer_ack, crate::specs::Table::leave, crate::specs::Table::abort, crate::specs::Table::beat))]
+pub fn write_fields(body: &Body, out: &mut Vec<u8>) -> Result<(), AllocError>
+    ensures { OnOk result (out.new.items ≡ out.old.items ++ table.write_body body.now) }
+{
+    each_field!(write_arms! body out);
+    Ok(())
+}
+
+/// Whether the fields can be written.
+#[tactic(auto, unfolding(crate::specs::Table::join, crate::specs::Table::roster, crate::specs::Table::steal, crate::specs::Table::granted, crate::specs::Table::refuse, crate::specs::Table::done, crate::specs::Table::result_ack, crate::specs::Table::offer, crate::specs::Table::offer_ack, crate::specs::Table::leave, crate::specs::Table::abort, crate::specs::Table::beat))]
+pub fn fields_fit(body: &Body) -> bool
+    ensures { result ≡ table.fits_body body.now }
+{
+    each_field!(fits_arms! body)
+}

@@ -1,0 +1,20 @@
+//! The packets of version 1: what they hold, how they are read and how they are written.
+#![tactic(auto)]
+
+mod body;
+mod decoding;
+mod encoding;
+mod fields;
+mod laws;
+mod packet;
+#[cfg(test)]
+mod tests;
+
+pub use body::{
+    Abort, Beat, Body, Done, Grant, Join, Leave, Offer, OfferAck, Refuse, ResultAck, Roster, Steal,
+};
+pub use decoding::decode;
+pub use encoding::{EncodeError, encode};
+pub use laws::one_to_one;
+pub use packet::Packet;
+pub use packet_fields::{Fault, Frame, Member, Progress, ReadError, Record, Status, Task};

@@ -1,0 +1,430 @@
+//! Packets made of their parts, as the examples have them.
+
+use super::example;
+use crate::{
+    Abort, Beat, Body, Done, EncodeError, Frame, Grant, Join, Leave, Member, Offer, OfferAck,
+    Packet, Progress, Record, Refuse, ResultAck, Roster, Status, Steal, Task, decode, encode,
+};
+use ids::{
+    Actor, Address, Count, Epoch, FrameNo, GrantId, Hop, Incarnation, Listed, Outcome, Place,
+    Return,
+};
+use std::alloc::Global;
+use std::test::Fail;
+
+pub fn worker(word: u64) -> Option<Incarnation> {
+    Incarnation::worker(word)
+}
+
+fn count(number: u64) -> Option<Count> {
+    Count::of(number)
+}
+
+fn house() -> Option<Actor> {
+    Some(Epoch::of(1)?.house())
+}
+
+fn root() -> Option<GrantId> {
+    grant(house()?, 1)
+}
+
+fn grant(minter: Actor, number: u64) -> Option<GrantId> {
+    GrantId::of(minter, number)
+}
+
+fn place(alloc: Global, steps: &[u8]) -> Option<Place> {
+    let steps = Listed::from_vec(Vec::from_slice(alloc, steps).ok()?);
+    Place::of(steps)
+}
+
+fn task(alloc: Global, steps: &[u8], thread: u8, numbers: &[i64]) -> Option<Task> {
+    Some(Task {
+        place: place(alloc, steps)?,
+        thread,
+        numbers: Listed::from_vec(Vec::from_slice(alloc, numbers).ok()?),
+    })
+}
+
+fn root_task(alloc: Global) -> Option<Task> {
+    task(alloc, &[], 0, &[10])
+}
+
+fn to_worker(word: u64) -> Option<Address> {
+    Some(Address::actor(Actor::worker(worker(word)?)))
+}
+
+pub fn to_house() -> Option<Address> {
+    Some(Address::actor(house()?))
+}
+
+/// Whether a packet of job 7 is written as an example says.
+fn is_written(
+    alloc: Global,
+    to: Option<Address>,
+    body: Option<Body>,
+    want: &str,
+) -> Result<bool, Fail> {
+    let to = to.ok_or("an address")?;
+    let body = body.ok_or("a body")?;
+    let packet = Packet::of(7, to, body).ok_or("a packet")?;
+    let bytes = encode(alloc, &packet)?;
+    let want = example(alloc, want)?;
+    Ok(bytes.as_slice() == want.as_slice())
+}
+
+/// Whether there is no such packet.
+fn is_none(to: Option<Address>, body: Option<Body>) -> Result<bool, Fail> {
+    let to = to.ok_or("an address")?;
+    let body = body.ok_or("a body")?;
+    Ok(Packet::of(7, to, body).is_none())
+}
+
+fn to_any() -> Option<Address> {
+    Some(Address::any_house())
+}
+
+fn join() -> Option<Body> {
+    Some(Body::Join(Join { from: worker(3)? }))
+}
+
+fn steal() -> Option<Body> {
+    Some(Body::Steal(Steal {
+        from: worker(3)?,
+        seq: count(1)?,
+    }))
+}
+
+fn refuse() -> Option<Body> {
+    Some(Body::Refuse(Refuse { seq: count(1)? }))
+}
+
+fn result(grant: GrantId, outcome: Outcome) -> Option<Body> {
+    Some(Body::Result(Done {
+        from: worker(3)?,
+        grant,
+        outcome,
+    }))
+}
+
+fn value() -> Option<Body> {
+    result(root()?, Outcome::Value(55))
+}
+
+fn too_deep() -> Option<Body> {
+    result(grant(Actor::worker(worker(4)?), 6)?, Outcome::TooDeep)
+}
+
+fn result_ack() -> Option<Body> {
+    Some(Body::ResultAck(ResultAck { grant: root()? }))
+}
+
+fn offer_ack() -> Option<Body> {
+    Some(Body::OfferAck(OfferAck {
+        from: worker(5)?,
+        grant: root()?,
+        hop: Hop::of(1),
+    }))
+}
+
+fn leave(heir: u64) -> Option<Body> {
+    Some(Body::Leave(Leave {
+        from: worker(3)?,
+        heir: worker(heir)?,
+    }))
+}
+
+fn abort() -> Option<Body> {
+    Some(Body::Abort(Abort {
+        grant: grant(Actor::worker(worker(3)?), 1)?,
+    }))
+}
+
+fn beat() -> Option<Body> {
+    Some(Body::Beat(Beat {
+        from: worker(3)?,
+        version: count(5)?,
+    }))
+}
+
+fn granted(seq: u64, grant: GrantId, task: Task) -> Option<Body> {
+    Some(Body::Grant(Grant {
+        seq: count(seq)?,
+        grant,
+        task,
+    }))
+}
+
+fn left(heir: u64) -> Option<Status> {
+    Some(Status::Left(worker(heir)?))
+}
+
+#[test]
+fn questions_are_written(rt: HostRuntime) -> Result<(), Fail> {
+    let alloc = rt.alloc();
+    assert!(rt; is_written(alloc, to_any(), join(), "JOIN")?);
+    assert!(rt; is_written(alloc, to_house(), steal(), "STEAL")?);
+    assert!(rt; is_written(alloc, to_worker(3), refuse(), "REFUSE")?);
+    assert!(rt; is_written(alloc, to_house(), beat(), "BEAT")?);
+    assert!(rt; is_written(alloc, to_house(), leave(5), "LEAVE")?);
+    Ok(())
+}
+
+#[test]
+fn outcomes_are_written(rt: HostRuntime) -> Result<(), Fail> {
+    let alloc = rt.alloc();
+    assert!(rt; is_written(alloc, to_house(), value(), "VALUE")?);
+    assert!(rt; is_written(alloc, to_worker(4), too_deep(), "TOO_DEEP")?);
+    assert!(rt; is_written(alloc, to_worker(3), result_ack(), "RESULT_ACK")?);
+    assert!(rt; is_written(alloc, to_worker(3), offer_ack(), "OFFER_ACK")?);
+    assert!(rt; is_written(alloc, to_worker(4), abort(), "ABORT")?);
+    Ok(())
+}
+
+fn roster(alloc: Global, members: &[(u64, Status)]) -> Option<Body> {
+    let mut list = Listed::new(alloc);
+    for (word, status) in members {
+        list.push(Member {
+            incarnation: worker(*word)?,
+            status: *status,
+        })
+        .ok()?;
+    }
+    Some(Body::Roster(Roster {
+        epoch: Epoch::of(2)?,
+        version: count(5)?,
+        members: list,
+    }))
+}
+
+#[test]
+fn rosters_are_written(rt: HostRuntime) -> Result<(), Fail> {
+    let alloc = rt.alloc();
+    let members = [
+        (3, Status::Live),
+        (4, Status::Dead),
+        (9, left(3).ok_or("a status")?),
+        (16, left(4).ok_or("a status")?),
+    ];
+    assert!(rt; is_written(alloc, to_worker(3), roster(alloc, &members), "ROSTER")?);
+    Ok(())
+}
+
+#[test]
+fn rosters_out_of_order_are_none(rt: HostRuntime) -> Result<(), Fail> {
+    let alloc = rt.alloc();
+    let members = [(3, Status::Live), (3, Status::Dead)];
+    assert!(rt; is_none(to_worker(5), roster(alloc, &members))?);
+    let members = [(4, Status::Live), (3, Status::Live)];
+    assert!(rt; is_none(to_worker(5), roster(alloc, &members))?);
+    let members = [(3, Status::Live), (4, left(4).ok_or("a status")?)];
+    assert!(rt; is_none(to_worker(5), roster(alloc, &members))?);
+    Ok(())
+}
+
+fn root_grant(alloc: Global) -> Option<Body> {
+    granted(1, root()?, root_task(alloc)?)
+}
+
+fn far_grant(alloc: Global) -> Option<Body> {
+    let name = grant(Actor::worker(worker(3)?), 5)?;
+    granted(2, name, task(alloc, &[2, 0, 8], 63, &[1, -1, i64::MIN])?)
+}
+
+fn grant_of(alloc: Global, thread: u8, numbers: &[i64]) -> Option<Body> {
+    granted(1, root()?, task(alloc, &[], thread, numbers)?)
+}
+
+#[test]
+fn grants_are_written(rt: HostRuntime) -> Result<(), Fail> {
+    let alloc = rt.alloc();
+    assert!(rt; is_written(alloc, to_worker(3), root_grant(alloc), "ROOT_GRANT")?);
+    assert!(rt; is_written(alloc, to_worker(4), far_grant(alloc), "GRANT")?);
+    assert!(rt; !is_none(to_worker(4), grant_of(alloc, 63, &[0; 8]))?);
+    assert!(rt; is_none(to_worker(4), grant_of(alloc, 64, &[0; 8]))?);
+    assert!(rt; is_none(to_worker(4), grant_of(alloc, 63, &[0; 9]))?);
+    Ok(())
+}
+
+fn frame(
+    alloc: Global,
+    number: u32,
+    steps: &[u8],
+    thread: u8,
+    slots: &[Option<i64>],
+    returns: Return,
+) -> Option<Frame> {
+    Some(Frame {
+        number: FrameNo::of(number),
+        place: place(alloc, steps)?,
+        thread,
+        slots: Listed::from_vec(Vec::from_slice(alloc, slots).ok()?),
+        returns,
+    })
+}
+
+fn frames(alloc: Global, numbers: (u32, u32)) -> Option<Listed<Frame>> {
+    let mut frames = Listed::new(alloc);
+    frames
+        .push(frame(alloc, numbers.0, &[0], 1, &[None, Some(-2)], Return::Whole)?)
+        .ok()?;
+    let returns = Return::Local(FrameNo::of(1), 0);
+    frames
+        .push(frame(alloc, numbers.1, &[1, 2], 0, &[Some(3)], returns)?)
+        .ok()?;
+    Some(frames)
+}
+
+fn record(number: u64, holder: u64, frame: u32, task: Task, returns: Return) -> Option<Record> {
+    Some(Record {
+        grant: grant(Actor::worker(worker(3)?), number)?,
+        holder: worker(holder)?,
+        frame: FrameNo::of(frame),
+        task,
+        returns,
+    })
+}
+
+fn records(alloc: Global) -> Option<Listed<Record>> {
+    let mut records = Listed::new(alloc);
+    let returns = Return::Local(FrameNo::of(1), 7);
+    records
+        .push(record(1, 4, 2, task(alloc, &[1], 0, &[9])?, returns)?)
+        .ok()?;
+    records
+        .push(record(2, 6, 3, task(alloc, &[], 2, &[])?, Return::Whole)?)
+        .ok()?;
+    Some(records)
+}
+
+/// The offer of the example, with another progress, hop, next frame, or numbers of its frames.
+fn offer(
+    alloc: Global,
+    progress: Progress,
+    hop: u32,
+    next: u32,
+    numbers: (u32, u32),
+) -> Option<Body> {
+    Some(Body::Offer(Offer {
+        from: worker(3)?,
+        grant: root()?,
+        hop: Hop::of(hop),
+        parent: house()?,
+        progress,
+        task: root_task(alloc)?,
+        next: FrameNo::of(next),
+        frames: frames(alloc, numbers)?,
+        records: records(alloc)?,
+    }))
+}
+
+fn finished_offer(alloc: Global) -> Option<Body> {
+    let parent = Actor::worker(worker(4)?);
+    Some(Body::Offer(Offer {
+        from: worker(3)?,
+        grant: grant(parent, 2)?,
+        hop: Hop::of(2),
+        parent,
+        progress: Progress::Finished(Outcome::Value(89)),
+        task: task(alloc, &[], 0, &[])?,
+        next: FrameNo::of(1),
+        frames: Listed::new(alloc),
+        records: Listed::new(alloc),
+    }))
+}
+
+#[test]
+fn offers_are_written(rt: HostRuntime) -> Result<(), Fail> {
+    let alloc = rt.alloc();
+    let active = offer(alloc, Progress::Active, 1, 5, (1, 4));
+    assert!(rt; is_written(alloc, to_worker(5), active, "OFFER")?);
+    assert!(rt; is_written(alloc, to_worker(5), finished_offer(alloc), "FINISHED_OFFER")?);
+    Ok(())
+}
+
+#[test]
+fn offers_out_of_range_are_none(rt: HostRuntime) -> Result<(), Fail> {
+    let finished = Progress::Finished(Outcome::TooDeep);
+    for (progress, hop, next, numbers) in [
+        (Progress::Active, 0, 5, (1, 4)),
+        (Progress::Active, 1, 0, (1, 4)),
+        (Progress::Active, 1, 4, (1, 4)),
+        (Progress::Active, 1, 5, (4, 4)),
+        (Progress::Active, 1, 5, (4, 1)),
+        (finished, 1, 5, (1, 4)),
+    ] {
+        assert!(rt;
+            is_none(
+                to_worker(5),
+                offer(rt.alloc(), progress, hop, next, numbers)
+            )?
+        );
+    }
+    Ok(())
+}
+
+#[test]
+fn each_kind_has_its_addresses(rt: HostRuntime) -> Result<(), Fail> {
+    assert!(rt;
+        !is_none(to_any(), join())?
+            && is_none(to_house(), join())?
+            && is_none(to_worker(5), join())?
+    );
+    assert!(rt;
+        is_none(to_any(), steal())?
+            && !is_none(to_house(), steal())?
+            && !is_none(to_worker(5), steal())?
+    );
+    assert!(rt;
+        is_none(to_any(), refuse())?
+            && is_none(to_house(), refuse())?
+            && !is_none(to_worker(5), refuse())?
+    );
+    assert!(rt;
+        is_none(to_any(), leave(5))?
+            && !is_none(to_house(), leave(5))?
+            && is_none(to_worker(5), leave(5))?
+    );
+    assert!(rt; is_none(to_house(), leave(3))?);
+    Ok(())
+}
+
+fn long_frames(alloc: Global, count: u32) -> Option<Listed<Frame>> {
+    let mut frames = Listed::new(alloc);
+    let steps = [0; 1000];
+    for number in 0..count {
+        frames
+            .push(frame(alloc, number, &steps, 0, &[Some(1)], Return::Whole)?)
+            .ok()?;
+    }
+    Some(frames)
+}
+
+/// An offer of so many frames at places of 1,000 steps, each of 1,018 bytes.
+fn long_offer(alloc: Global, count: u32) -> Option<Packet> {
+    let body = Body::Offer(Offer {
+        from: worker(3)?,
+        grant: root()?,
+        hop: Hop::of(1),
+        parent: house()?,
+        progress: Progress::Active,
+        task: root_task(alloc)?,
+        next: FrameNo::of(count),
+        frames: long_frames(alloc, count)?,
+        records: Listed::new(alloc),
+    });
+    Packet::of(7, to_worker(5)?, body)
+}
+
+#[test]
+fn a_packet_has_at_most_1048576_bytes(rt: HostRuntime) -> Result<(), Fail> {
+    let alloc = rt.alloc();
+    let bytes = encode(alloc, &long_offer(alloc, 1029).ok_or("a packet")?)?;
+    assert_eq!(rt; bytes.len(), 81 + 1029 * 1018);
+    let packet = decode(alloc, bytes.as_slice())?;
+    assert_eq!(rt; encode(alloc, &packet)?.as_slice(), bytes.as_slice());
+    assert_eq!(rt;
+        encode(alloc, &long_offer(alloc, 1030).ok_or("a packet")?).err(),
+        Some(EncodeError::TooBig)
+    );
+    Ok(())
+}

@@ -1,0 +1,6 @@
+/// What a job comes to: a number, or too deep, where some task stands at a place of more than 1,024 steps.
+#[derive(Clone, Copy, PartialEq, Eq, Debug)]
+pub enum Outcome {
+    Value(i64),
+    TooDeep,
+}

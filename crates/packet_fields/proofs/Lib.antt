@@ -1,0 +1,5 @@
+pub mod FormatLaws
+pub mod FieldLaws
+pub mod Loop
+pub mod Writing
+pub mod Fitting

@@ -1,0 +1,330 @@
+//! Whether values can be written: for each field a test that answers what its format's `fits` says.
+ghost use Rattle.std.specs.Prelude.{◌≡◌, length, None};
+ghost use Rattle.std.specs.List.{list_all};
+ghost use Rattle.packet_fields.specs.Format.{checked, items, number};
+ghost use Rattle.packet_fields.specs.Fields as field;
+
+use crate::parts::{Frame, Member, Progress, Record, Status, Task};
+use ids::{
+    Actor, Count, Epoch, FrameNo, GrantId, Hop, Incarnation, Listed, Outcome, Place, Return,
+};
+
+/// A worker's incarnation: always.
+#[tactic(auto, unfolding(crate::specs::Fields::worker))]
+pub fn worker(value: &Incarnation) -> bool
+    ensures { result ≡ field.worker.fits value.now }
+{
+    value.word() > 0
+}
+
+/// The incarnation of a worker other than `own`.
+pub fn other_worker(own: &Incarnation, value: &Incarnation) -> bool
+    ensures { result ≡ (field.other_worker own.now).fits value.now }
+{
+    worker(value) && value.word() != own.word()
+}
+
+/// An epoch of the clearinghouse: always.
+#[tactic(auto, unfolding(crate::specs::Fields::epoch))]
+pub fn epoch(value: &Epoch) -> bool
+    ensures { result ≡ field.epoch.fits value.now }
+{
+    value.number() > 0
+}
+
+/// A worker, or the clearinghouse in an epoch: always.
+#[tactic(auto, unfolding(crate::specs::Fields::actor))]
+pub fn actor(value: &Actor) -> bool
+    ensures { result ≡ field.actor.fits value.now }
+{
+    value.word() > 0
+}
+
+/// A number counted from 1: always.
+#[tactic(auto, unfolding(crate::specs::Fields::counted))]
+pub fn counted(value: &Count) -> bool
+    ensures { result ≡ field.counted.fits value.now }
+{
+    value.number() > 0
+}
+
+/// How often a grant moved: always.
+#[tactic(auto, unfolding(crate::specs::Fields::hop))]
+pub fn hop(value: &Hop) -> bool
+    ensures { result ≡ field.hop.fits value.now }
+{
+    let _count = value.count();
+    true
+}
+
+/// The hop of an offer, at least 1.
+#[tactic(auto, unfolding(crate::specs::Fields::raised))]
+pub fn raised(value: &Hop) -> bool
+    ensures { result ≡ field.raised.fits value.now }
+{
+    value.count() > 0
+}
+
+/// The number of the next frame, at least 1.
+#[tactic(auto, unfolding(crate::specs::Fields::raised))]
+pub fn next_frame(value: &FrameNo) -> bool
+    ensures { result ≡ field.raised.fits value.now }
+{
+    value.number() > 0
+}
+
+/// The number of a frame, below the next one.
+pub fn below(next: &FrameNo, value: &FrameNo) -> bool
+    ensures { result ≡ (field.below next.now).fits value.now }
+{
+    value.number() < next.number()
+}
+
+/// The name of a grant: always.
+#[tactic(auto, unfolding(crate::specs::Fields::grant, crate::specs::Fields::counted))]
+pub fn grant(value: &GrantId) -> bool
+    ensures { result ≡ field.grant.fits value.now }
+{
+    actor(&value.minter()) && value.number() > 0
+}
+
+/// A place: always.
+#[tactic(auto, using(crate::proofs::Fitting::place_fits))]
+pub fn place(value: &Place) -> bool
+    ensures { result ≡ field.place.fits value.now }
+{
+    value.len() <= 1024
+}
+
+/// The number of a thread, below 64.
+#[tactic(auto, unfolding(crate::specs::Fields::thread))]
+pub fn thread(value: &u8) -> bool
+    ensures { result ≡ field.thread.fits value.now }
+{
+    *value < 64
+}
+
+/// A signed number: always.
+#[tactic(auto, unfolding(crate::specs::Fields::signed))]
+fn signed(number: i64) -> bool
+    ensures { result ≡ field.signed.fits number }
+{
+    true
+}
+
+/// Signed numbers: always.
+fn each_number(numbers: &[i64]) -> bool
+    ensures { result ≡ list_all field.signed.fits numbers.now }
+{
+    numbers.iter().all(|number| signed(*number))
+}
+
+/// At most 8 numbers.
+#[tactic(auto, using(crate::proofs::Fitting::numbers_fits))]
+pub fn numbers(value: &Listed<i64>) -> bool
+    ensures { result ≡ field.numbers.fits value.now }
+{
+    value.len() <= 8 && each_number(value.as_slice())
+}
+
+/// A task: its thread below 64, at most 8 numbers.
+#[tactic(auto, unfolding(crate::specs::Fields::task))]
+pub fn task(value: &Task) -> bool
+    ensures { result ≡ field.task.fits value.now }
+{
+    place(&value.place) && thread(&value.thread) && numbers(&value.numbers)
+}
+
+/// An outcome: always.
+#[tactic(auto, unfolding(crate::specs::Fields::outcome))]
+pub fn outcome(value: &Outcome) -> bool
+    ensures { result ≡ field.outcome.fits value.now }
+{
+    match value {
+        Outcome::Value(number) => signed(*number),
+        Outcome::TooDeep => true,
+    }
+}
+
+/// How far a subcomputation is: always.
+#[tactic(auto, using(crate::proofs::Fitting::progress_fits))]
+pub fn progress(value: &Progress) -> bool
+    ensures { result ≡ field.progress.fits value.now }
+{
+    match value {
+        Progress::Active => true,
+        Progress::Finished(reached) => outcome(reached),
+    }
+}
+
+/// A slot: always.
+#[tactic(auto, unfolding(crate::specs::Fields::slot))]
+fn slot(value: &Option<i64>) -> bool
+    ensures { result ≡ field.slot.fits value.now }
+{
+    match value {
+        None => true,
+        Some(number) => signed(*number),
+    }
+}
+
+/// Slots: always.
+fn each_slot(slots: &[Option<i64>]) -> bool
+    ensures { result ≡ list_all field.slot.fits slots.now }
+{
+    slots.iter().all(slot)
+}
+
+/// At most 8 slots.
+#[tactic(auto, using(crate::proofs::Fitting::slots_fits))]
+pub fn slots(value: &Listed<Option<i64>>) -> bool
+    ensures { result ≡ field.slots.fits value.now }
+{
+    value.len() <= 8 && each_slot(value.as_slice())
+}
+
+/// Where a value goes: a frame below the next one, and a slot of at most 7.
+#[tactic(auto, unfolding(crate::specs::Fields::goes_to))]
+pub fn goes_to(next: &FrameNo, value: &Return) -> bool
+    ensures { result ≡ (field.goes_to next.now).fits value.now }
+{
+    match value {
+        Return::Whole => true,
+        Return::Local(frame, slot) => below(next, frame) && *slot < 8,
+    }
+}
+
+/// A status: an heir is another worker.
+#[tactic(auto, unfolding(crate::specs::Fields::status))]
+fn status(own: &Incarnation, value: &Status) -> bool
+    ensures { result ≡ (field.status own.now).fits value.now }
+{
+    match value {
+        Status::Live | Status::Dead => true,
+        Status::Left(heir) => other_worker(own, heir),
+    }
+}
+
+/// A member: behind the last one, and an heir is another worker.
+#[tactic(auto, unfolding(crate::specs::Fields::member))]
+fn member(last: Option<Incarnation>, value: &Member) -> bool
+    ensures { result ≡ (field.member last).fits value.now }
+{
+    let is_above = match last {
+        None => true,
+        Some(last) => last.word() < value.incarnation.word(),
+    };
+    is_above && worker(&value.incarnation) && status(&value.incarnation, &value.status)
+}
+
+/// Members by rising incarnation, whose heirs are other workers.
+fn each_member(members: &[Member]) -> bool
+    ensures { result ≡ (items field.name_of_member field.member None (length members.now)).fits members.now }
+{
+    let mut last = None;
+    for value in members {
+        if !member(last, value) {
+            return false;
+        }
+        last = Some(value.incarnation);
+    }
+    true
+}
+
+/// The members of a roster: at most 4,096, by rising incarnation, whose heirs are other workers.
+#[tactic(auto, using(crate::proofs::Fitting::members_fits))]
+pub fn members(value: &Listed<Member>) -> bool
+    ensures { result ≡ field.members.fits value.now }
+{
+    value.len() <= 4096 && each_member(value.as_slice())
+}
+
+/// A count of frames or records: below 2^32, and 0 where the subcomputation is finished.
+fn count(progress: &Progress, count: usize) -> bool
+    ensures { result ≡ (checked (number 4) (field.allows progress.now)).fits count }
+{
+    match progress {
+        Progress::Active => count <= 0xFFFF_FFFF,
+        Progress::Finished(_) => count == 0,
+    }
+}
+
+/// A frame: its number below the next one and behind the last one, its thread below 64, at most 8 slots, and its value
+/// goes where one can.
+#[tactic(auto, unfolding(crate::specs::Fields::frame))]
+fn frame(next: &FrameNo, last: Option<FrameNo>, value: &Frame) -> bool
+    ensures { result ≡ (field.frame next.now last).fits value.now }
+{
+    let is_above = match last {
+        None => true,
+        Some(last) => last.number() < value.number.number(),
+    };
+    is_above
+        && below(next, &value.number)
+        && place(&value.place)
+        && thread(&value.thread)
+        && slots(&value.slots)
+        && goes_to(next, &value.returns)
+}
+
+/// Frames by rising number.
+fn each_frame(next: &FrameNo, frames: &[Frame]) -> bool
+    ensures { result ≡ (items field.number_of_frame (field.frame next.now) None (length frames.now)).fits frames.now }
+{
+    let mut last = None;
+    for value in frames {
+        if !frame(next, last, value) {
+            return false;
+        }
+        last = Some(value.number);
+    }
+    true
+}
+
+/// The frames of a subcomputation: by rising number, and none where it is finished.
+#[tactic(auto, unfolding(crate::specs::Fields::frames))]
+pub fn frames(progress: &Progress, next: &FrameNo, value: &Listed<Frame>) -> bool
+    ensures { result ≡ (field.frames progress.now next.now).fits value.now }
+{
+    count(progress, value.len()) && each_frame(next, value.as_slice())
+}
+
+/// A record: its grant behind the last one, its frame below the next one, its task and where its value goes as they
+/// have to be.
+#[tactic(auto, unfolding(crate::specs::Fields::stolen))]
+fn stolen(next: &FrameNo, last: Option<GrantId>, value: &Record) -> bool
+    ensures { result ≡ (field.stolen next.now last).fits value.now }
+{
+    let is_behind = match last {
+        None => true,
+        Some(last) => last.is_before(value.grant),
+    };
+    is_behind
+        && grant(&value.grant)
+        && worker(&value.holder)
+        && below(next, &value.frame)
+        && task(&value.task)
+        && goes_to(next, &value.returns)
+}
+
+/// Records by rising grant.
+fn each_record(next: &FrameNo, records: &[Record]) -> bool
+    ensures { result ≡ (items field.grant_of_record (field.stolen next.now) None (length records.now)).fits records.now }
+{
+    let mut last = None;
+    for value in records {
+        if !stolen(next, last, value) {
+            return false;
+        }
+        last = Some(value.grant);
+    }
+    true
+}
+
+/// The records of a subcomputation: by rising grant, and none where it is finished.
+#[tactic(auto, unfolding(crate::specs::Fields::records))]
+pub fn records(progress: &Progress, next: &FrameNo, value: &Listed<Record>) -> bool
+    ensures { result ≡ (field.records progress.now next.now).fits value.now }
+{
+    count(progress, value.len()) && each_record(next, value.as_slice())
+}

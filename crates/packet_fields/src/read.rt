@@ -1,0 +1,446 @@
+//! The readers of fields. Each answers the value and leaves the bytes behind it, or answers the first fault. A reader
+//! takes memory only for what the bytes back.
+ghost use Rattle.std.specs.Prelude.{◌≡◌, ◌∷◌, nat_lt, Some, None};
+ghost use Rattle.packet_fields.specs.Format.{Gives, checked, items, number, plain};
+ghost use Rattle.packet_fields.specs.Fields as field;
+
+use crate::fault::{Fault, ReadError};
+use crate::input::Input;
+use crate::parts::{Frame, Member, Progress, Record, Status, Task};
+use ids::{
+    Actor, Count, Epoch, FrameNo, GrantId, Hop, Incarnation, Listed, Outcome, Place, Return,
+};
+
+/// A worker's incarnation.
+#[tactic(auto, unfolding(crate::specs::Fields::worker))]
+pub fn worker(input: &mut Input<'_>) -> Result<Incarnation, ReadError>
+    ensures { Gives (λ x. (x, input.new)) result (field.worker.read input.old) }
+{
+    let word = input.u64()?;
+    Incarnation::worker(word).ok_or(ReadError::Fault(Fault::Field))
+}
+
+/// A worker other than `own`.
+pub fn other_worker(own: &Incarnation, input: &mut Input<'_>) -> Result<Incarnation, ReadError>
+    ensures { Gives (λ x. (x, input.new)) result ((field.other_worker own.now).read input.old) }
+{
+    let heir = worker(input)?;
+    if heir.word() == own.word() {
+        return Err(ReadError::Fault(Fault::Field));
+    }
+    Ok(heir)
+}
+
+/// An epoch of the clearinghouse.
+#[tactic(auto, unfolding(crate::specs::Fields::epoch))]
+pub fn epoch(input: &mut Input<'_>) -> Result<Epoch, ReadError>
+    ensures { Gives (λ x. (x, input.new)) result (field.epoch.read input.old) }
+{
+    let number = input.u64()?;
+    Epoch::of(number).ok_or(ReadError::Fault(Fault::Field))
+}
+
+/// A worker, or the clearinghouse in an epoch.
+#[tactic(auto, unfolding(crate::specs::Fields::actor))]
+pub fn actor(input: &mut Input<'_>) -> Result<Actor, ReadError>
+    ensures { Gives (λ x. (x, input.new)) result (field.actor.read input.old) }
+{
+    let word = input.u64()?;
+    Actor::of(word).ok_or(ReadError::Fault(Fault::Field))
+}
+
+/// A number counted from 1.
+#[tactic(auto, unfolding(crate::specs::Fields::counted))]
+pub fn counted(input: &mut Input<'_>) -> Result<Count, ReadError>
+    ensures { Gives (λ x. (x, input.new)) result (field.counted.read input.old) }
+{
+    let number = input.u64()?;
+    Count::of(number).ok_or(ReadError::Fault(Fault::Field))
+}
+
+/// How often a grant moved; 0 for one that never did.
+#[tactic(auto, unfolding(crate::specs::Fields::hop))]
+pub fn hop(input: &mut Input<'_>) -> Result<Hop, ReadError>
+    ensures { Gives (λ x. (x, input.new)) result (field.hop.read input.old) }
+{
+    let count = input.u32()?;
+    Ok(Hop::of(count))
+}
+
+/// The hop of an offer, at least 1.
+#[tactic(auto, unfolding(crate::specs::Fields::raised))]
+pub fn raised(input: &mut Input<'_>) -> Result<Hop, ReadError>
+    ensures { Gives (λ x. (x, input.new)) result (field.raised.read input.old) }
+{
+    let count = input.u32()?;
+    if count == 0 {
+        return Err(ReadError::Fault(Fault::Field));
+    }
+    Ok(Hop::of(count))
+}
+
+/// The number of the next frame, at least 1.
+#[tactic(auto, unfolding(crate::specs::Fields::raised))]
+pub fn next_frame(input: &mut Input<'_>) -> Result<FrameNo, ReadError>
+    ensures { Gives (λ x. (x, input.new)) result (field.raised.read input.old) }
+{
+    let number = input.u32()?;
+    if number == 0 {
+        return Err(ReadError::Fault(Fault::Field));
+    }
+    Ok(FrameNo::of(number))
+}
+
+/// The number of a frame, below the next one.
+pub fn below(next: &FrameNo, input: &mut Input<'_>) -> Result<FrameNo, ReadError>
+    ensures { Gives (λ x. (x, input.new)) result ((field.below next.now).read input.old) }
+{
+    let number = input.u32()?;
+    if number >= next.number() {
+        return Err(ReadError::Fault(Fault::Field));
+    }
+    Ok(FrameNo::of(number))
+}
+
+/// The name of a grant.
+#[tactic(auto, unfolding(crate::specs::Fields::grant))]
+pub fn grant(input: &mut Input<'_>) -> Result<GrantId, ReadError>
+    ensures { Gives (λ x. (x, input.new)) result (field.grant.read input.old) }
+{
+    let minter = actor(input)?;
+    let number = counted(input)?;
+    GrantId::of(minter, number.number()).ok_or(ReadError::Fault(Fault::Field))
+}
+
+#[tactic(auto, unfolding(crate::specs::Fields::step))]
+fn step(input: &mut Input<'_>) -> Result<u8, ReadError>
+    ensures { Gives (λ x. (x, input.new)) result (field.step.read input.old) }
+{
+    let step = input.byte()?;
+    if step > 8 {
+        return Err(ReadError::Fault(Fault::Field));
+    }
+    Ok(step)
+}
+
+fn steps_of(count: u16, input: &mut Input<'_>) -> Result<Listed<u8>, ReadError>
+    ensures { Gives (λ x. (x, input.new)) result ((plain field.step count).read input.old) }
+{
+    let mut steps = Listed::new(input.alloc());
+    for _ in 0..count {
+        let next = step(input)?;
+        steps.push(next)?;
+    }
+    Ok(steps)
+}
+
+/// A place, at most 1,024 steps.
+#[tactic(auto, unfolding(crate::specs::Fields::place, crate::specs::Fields::steps))]
+pub fn place(input: &mut Input<'_>) -> Result<Place, ReadError>
+    ensures { Gives (λ x. (x, input.new)) result (field.place.read input.old) }
+{
+    let count = input.u16()?;
+    if count > 1024 {
+        return Err(ReadError::Fault(Fault::Field));
+    }
+    let steps = steps_of(count, input)?;
+    Place::of(steps).ok_or(ReadError::Fault(Fault::Field))
+}
+
+/// The number of a thread, below 64.
+#[tactic(auto, unfolding(crate::specs::Fields::thread))]
+pub fn thread(input: &mut Input<'_>) -> Result<u8, ReadError>
+    ensures { Gives (λ x. (x, input.new)) result (field.thread.read input.old) }
+{
+    let thread = input.byte()?;
+    if thread > 63 {
+        return Err(ReadError::Fault(Fault::Field));
+    }
+    Ok(thread)
+}
+
+fn numbers_of(count: u8, input: &mut Input<'_>) -> Result<Listed<i64>, ReadError>
+    ensures { Gives (λ x. (x, input.new)) result ((plain field.signed count).read input.old) }
+{
+    let mut numbers = Listed::new(input.alloc());
+    for _ in 0..count {
+        let next = input.signed()?;
+        numbers.push(next)?;
+    }
+    Ok(numbers)
+}
+
+/// At most 8 numbers.
+#[tactic(auto, unfolding(crate::specs::Fields::numbers))]
+pub fn numbers(input: &mut Input<'_>) -> Result<Listed<i64>, ReadError>
+    ensures { Gives (λ x. (x, input.new)) result (field.numbers.read input.old) }
+{
+    let count = input.byte()?;
+    if count > 8 {
+        return Err(ReadError::Fault(Fault::Field));
+    }
+    numbers_of(count, input)
+}
+
+/// A task.
+#[tactic(auto, unfolding(crate::specs::Fields::task))]
+pub fn task(input: &mut Input<'_>) -> Result<Task, ReadError>
+    ensures { Gives (λ x. (x, input.new)) result (field.task.read input.old) }
+{
+    Ok(Task {
+        place: place(input)?,
+        thread: thread(input)?,
+        numbers: numbers(input)?,
+    })
+}
+
+fn outcome_of(tag: u8, input: &mut Input<'_>) -> Result<Outcome, ReadError>
+    ensures { Gives (λ x. (x, input.new)) result ((field.outcome_arm tag).read input.old) }
+{
+    match tag {
+        1 => Ok(Outcome::Value(input.signed()?)),
+        2 => Ok(Outcome::TooDeep),
+        _ => Err(ReadError::Fault(Fault::Field)),
+    }
+}
+
+/// An outcome.
+#[tactic(auto, unfolding(crate::specs::Fields::outcome))]
+pub fn outcome(input: &mut Input<'_>) -> Result<Outcome, ReadError>
+    ensures { Gives (λ x. (x, input.new)) result (field.outcome.read input.old) }
+{
+    let tag = input.byte()?;
+    let outcome = outcome_of(tag, input)?;
+    Ok(outcome)
+}
+
+/// How far a subcomputation is.
+#[tactic(auto, unfolding(crate::specs::Fields::progress))]
+pub fn progress(input: &mut Input<'_>) -> Result<Progress, ReadError>
+    ensures { Gives (λ x. (x, input.new)) result (field.progress.read input.old) }
+{
+    let tag = input.byte()?;
+    if tag == 0 {
+        return Ok(Progress::Active);
+    }
+    let outcome = outcome_of(tag, input)?;
+    Ok(Progress::Finished(outcome))
+}
+
+#[tactic(auto, unfolding(crate::specs::Fields::slot))]
+fn slot(input: &mut Input<'_>) -> Result<Option<i64>, ReadError>
+    ensures { Gives (λ x. (x, input.new)) result (field.slot.read input.old) }
+{
+    match input.byte()? {
+        0 => Ok(None),
+        1 => Ok(Some(input.signed()?)),
+        _ => Err(ReadError::Fault(Fault::Field)),
+    }
+}
+
+fn slots_of(count: u8, input: &mut Input<'_>) -> Result<Listed<Option<i64>>, ReadError>
+    ensures { Gives (λ x. (x, input.new)) result ((plain field.slot count).read input.old) }
+{
+    let mut slots = Listed::new(input.alloc());
+    for _ in 0..count {
+        let next = slot(input)?;
+        slots.push(next)?;
+    }
+    Ok(slots)
+}
+
+/// At most 8 slots.
+#[tactic(auto, unfolding(crate::specs::Fields::slots))]
+pub fn slots(input: &mut Input<'_>) -> Result<Listed<Option<i64>>, ReadError>
+    ensures { Gives (λ x. (x, input.new)) result (field.slots.read input.old) }
+{
+    let count = input.byte()?;
+    if count > 8 {
+        return Err(ReadError::Fault(Fault::Field));
+    }
+    slots_of(count, input)
+}
+
+/// Where a value goes, in a subcomputation with this next frame.
+#[tactic(auto, unfolding(crate::specs::Fields::goes_to))]
+pub fn goes_to(next: &FrameNo, input: &mut Input<'_>) -> Result<Return, ReadError>
+    ensures { Gives (λ x. (x, input.new)) result ((field.goes_to next.now).read input.old) }
+{
+    match input.byte()? {
+        0 => Ok(Return::Whole),
+        1 => {
+            let frame = below(next, input)?;
+            let slot = input.byte()?;
+            if slot > 7 {
+                return Err(ReadError::Fault(Fault::Field));
+            }
+            Ok(Return::Local(frame, slot))
+        }
+        _ => Err(ReadError::Fault(Fault::Field)),
+    }
+}
+
+#[tactic(auto, unfolding(crate::specs::Fields::status))]
+fn status(own: &Incarnation, input: &mut Input<'_>) -> Result<Status, ReadError>
+    ensures { Gives (λ x. (x, input.new)) result ((field.status own.now).read input.old) }
+{
+    match input.byte()? {
+        0 => Ok(Status::Live),
+        1 => Ok(Status::Dead),
+        2 => Ok(Status::Left(other_worker(own, input)?)),
+        _ => Err(ReadError::Fault(Fault::Field)),
+    }
+}
+
+#[tactic(auto, unfolding(crate::specs::Fields::member))]
+fn member(last: Option<Incarnation>, input: &mut Input<'_>) -> Result<Member, ReadError>
+    ensures { Gives (λ x. (x, input.new)) result ((field.member last).read input.old) }
+{
+    let incarnation = worker(input)?;
+    if let Some(last) = last {
+        if incarnation.word() <= last.word() {
+            return Err(ReadError::Fault(Fault::Field));
+        }
+    }
+    let status = status(&incarnation, input)?;
+    Ok(Member {
+        incarnation,
+        status,
+    })
+}
+
+fn members_of(count: u16, input: &mut Input<'_>) -> Result<Listed<Member>, ReadError>
+    ensures { Gives (λ x. (x, input.new)) result ((items field.name_of_member field.member None count).read input.old) }
+{
+    let mut members = Listed::new(input.alloc());
+    let mut last = None;
+    for _ in 0..count {
+        let Member {
+            incarnation,
+            status,
+        } = member(last, input)?;
+        members.push(Member {
+            incarnation,
+            status,
+        })?;
+        last = Some(incarnation);
+    }
+    Ok(members)
+}
+
+/// The members of a roster, at most 4,096, by rising incarnation.
+#[tactic(auto, unfolding(crate::specs::Fields::members))]
+pub fn members(input: &mut Input<'_>) -> Result<Listed<Member>, ReadError>
+    ensures { Gives (λ x. (x, input.new)) result (field.members.read input.old) }
+{
+    let count = input.u16()?;
+    if count > 4096 {
+        return Err(ReadError::Fault(Fault::Field));
+    }
+    members_of(count, input)
+}
+
+#[tactic(auto, unfolding(crate::specs::Fields::frame))]
+fn frame(next: &FrameNo, last: Option<FrameNo>, input: &mut Input<'_>) -> Result<Frame, ReadError>
+    ensures { Gives (λ x. (x, input.new)) result ((field.frame next.now last).read input.old) }
+{
+    let number = below(next, input)?;
+    if let Some(last) = last {
+        if number.number() <= last.number() {
+            return Err(ReadError::Fault(Fault::Field));
+        }
+    }
+    Ok(Frame {
+        number,
+        place: place(input)?,
+        thread: thread(input)?,
+        slots: slots(input)?,
+        returns: goes_to(next, input)?,
+    })
+}
+
+fn frames_of(next: &FrameNo, count: u32, input: &mut Input<'_>) -> Result<Listed<Frame>, ReadError>
+    ensures { Gives (λ x. (x, input.new)) result ((items field.number_of_frame (field.frame next.now) None count).read input.old) }
+{
+    let mut frames = Listed::new(input.alloc());
+    let mut last = None;
+    for _ in 0..count {
+        let item = frame(next, last, input)?;
+        last = Some(item.number);
+        frames.push(item)?;
+    }
+    Ok(frames)
+}
+
+/// The count of a finished subcomputation's frames or records is 0.
+fn count(progress: &Progress, input: &mut Input<'_>) -> Result<u32, ReadError>
+    ensures { Gives (λ x. (x, input.new)) result ((checked (number 4) (field.allows progress.now)).read input.old) }
+{
+    let count = input.u32()?;
+    match progress {
+        Progress::Finished(_) if count != 0 => Err(ReadError::Fault(Fault::Field)),
+        _ => Ok(count),
+    }
+}
+
+/// The frames of a subcomputation, by rising number; a finished one has none.
+#[tactic(auto, unfolding(crate::specs::Fields::frames))]
+pub fn frames(
+    progress: &Progress,
+    next: &FrameNo,
+    input: &mut Input<'_>,
+) -> Result<Listed<Frame>, ReadError>
+    ensures { Gives (λ x. (x, input.new)) result ((field.frames progress.now next.now).read input.old) }
+{
+    let count = count(progress, input)?;
+    frames_of(next, count, input)
+}
+
+#[tactic(auto, unfolding(crate::specs::Fields::stolen))]
+fn stolen(next: &FrameNo, last: Option<GrantId>, input: &mut Input<'_>) -> Result<Record, ReadError>
+    ensures { Gives (λ x. (x, input.new)) result ((field.stolen next.now last).read input.old) }
+{
+    let grant = grant(input)?;
+    if let Some(last) = last {
+        if !last.is_before(grant) {
+            return Err(ReadError::Fault(Fault::Field));
+        }
+    }
+    Ok(Record {
+        grant,
+        holder: worker(input)?,
+        frame: below(next, input)?,
+        task: task(input)?,
+        returns: goes_to(next, input)?,
+    })
+}
+
+fn records_of(
+    next: &FrameNo,
+    count: u32,
+    input: &mut Input<'_>,
+) -> Result<Listed<Record>, ReadError>
+    ensures { Gives (λ x. (x, input.new)) result ((items field.grant_of_record (field.stolen next.now) None count).read input.old) }
+{
+    let mut records = Listed::new(input.alloc());
+    let mut last = None;
+    for _ in 0..count {
+        let item = stolen(next, last, input)?;
+        last = Some(item.grant);
+        records.push(item)?;
+    }
+    Ok(records)
+}
+
+/// The records of a subcomputation, by rising grant; a finished one has none.
+#[tactic(auto, unfolding(crate::specs::Fields::records))]
+pub fn records(
+    progress: &Progress,
+    next: &FrameNo,
+    input: &mut Input<'_>,
+) -> Result<Listed<Record>, ReadError>
+    ensures { Gives (λ x. (x, input.new)) result ((field.records progress.now next.now).read input.old) }
+{
+    let count = count(progress, input)?;
+    records_of(next, count, input)
+}
