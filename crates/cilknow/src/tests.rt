@@ -1,4 +1,9 @@
-//! What the program's command lines give: each writes a text to a file of its own, and compares what comes of it.
+//! What the program's command lines give: each runs on a text in a file of its own, and what comes of it is compared with
+//! what its row in a table says.
+//!
+//! A row is `LINE => ANSWER`. In a line the program's own name is left out, words are parted by one blank each, and the word F
+//! stands for the text's file. An answer `0 TEXT` is a line on the standard output and nothing on the other, and `STATUS FAULT`
+//! is a line on the standard error that tells of the fault. Rows of one text are parted by `|`.
 
 mod calls;
 mod faults;
@@ -7,6 +12,7 @@ mod usage;
 mod writers;
 
 use crate::command;
+use std::alloc::AllocError;
 use std::path::PathBuf;
 use std::test::Fail;
 use std::{env, fs, process};
@@ -19,24 +25,27 @@ const FIB: &[u8] = b"thread main(k, n) {
 thread sum(k, x, y) { send_argument(k, x + y); }
 ";
 
-/// A text in pieces, each so many times.
-fn repeated(rt: &HostRuntime, pieces: &[(&str, usize)]) -> Result<Vec<u8>, Fail> {
-    let mut text = Vec::new(rt.alloc());
-    for (piece, times) in pieces {
-        for _ in 0..*times {
-            text.extend_from_slice(piece.as_bytes())?;
-        }
-    }
-    Ok(text)
-}
-
 /// A text in a file of a test's own, in the folder for temporary files.
-fn text_file(rt: &HostRuntime, test: &str, text: &[u8]) -> Result<PathBuf, Fail> {
+fn text_file(rt: &HostRuntime, text: &[u8]) -> Result<PathBuf, Fail> {
     let alloc = rt.alloc();
-    let name = format!(in alloc; "cilknow-{test}-{}.ck", process::id(rt.process()))?;
+    let name = format!(in alloc; "cilknow-test-{}.ck", process::id(rt.process()))?;
     let file = env::temp_dir(rt)?.join(alloc, name.as_str())?;
     fs::write(rt, file.as_path(), text)?;
     Ok(file)
+}
+
+/// The words of a line.
+fn words_of<'a>(
+    rt: &HostRuntime,
+    file: &'a str,
+    line: &'a str,
+) -> Result<Vec<&'a str>, AllocError> {
+    let mut words = Vec::new(rt.alloc());
+    words.push("cilknow")?;
+    for word in line.split(' ') {
+        words.push(if word == "F" { file } else { word })?;
+    }
+    Ok(words)
 }
 
 /// What words give: `STATUS|OUT|ERR`.
@@ -47,63 +56,76 @@ fn given(rt: &HostRuntime, words: &[&str]) -> Result<String, Fail> {
     Ok(format!(in rt.alloc(); "{status}|{out}|{err}")?)
 }
 
-/// The words of a command line, parted by one blank each. The word FILE stands for the file.
-fn words_of<'a>(rt: &HostRuntime, file: &'a str, line: &'a str) -> Result<Vec<&'a str>, Fail> {
-    let mut words = Vec::new(rt.alloc());
-    for word in line.split(' ') {
-        words.push(if word == "FILE" { file } else { word })?;
-    }
-    Ok(words)
+/// What an answer is as `STATUS|OUT|ERR`.
+fn wanted(rt: &HostRuntime, answer: &str) -> Result<String, Fail> {
+    let (status, text) = answer.split_once(' ').ok_or("an answer")?;
+    let answer = if status == "0" {
+        format!(in rt.alloc(); "0|{text}\n|")
+    } else {
+        format!(in rt.alloc(); "{status}||cilknow: {text}\n")
+    };
+    Ok(answer?)
 }
 
-/// What a command line gives.
+/// What a line gives.
 fn given_by(rt: &HostRuntime, file: &str, line: &str) -> Result<String, Fail> {
-    given(rt, words_of(rt, file, line)?.as_slice())
+    let words = words_of(rt, file, line)?;
+    given(rt, words.as_slice())
 }
 
-/// Fails where a command line gave something else than it has to.
-fn same(line: &str, given: &str, want: &str) -> Result<(), Fail> {
-    if given == want {
+/// Fails where a line gives something else than its row says.
+fn on_row(rt: &HostRuntime, file: &str, row: &str) -> Result<(), Fail> {
+    let (line, answer) = row.split_once(" => ").ok_or("a row")?;
+    let wanted = wanted(rt, answer)?;
+    let given = given_by(rt, file, line)?;
+    if given == wanted {
         return Ok(());
     }
-    Err(Fail::new(format_args!("{line}: {given:?} in place of {want:?}")))
+    Err(Fail::new(format_args!("{row}: {given:?}")))
 }
 
-/// Command lines on one text, each with what it has to give.
-fn run_text(rt: &HostRuntime, test: &str, text: &[u8], rows: &[(&str, &str)]) -> Result<(), Fail> {
-    let file = text_file(rt, test, text)?;
-    for (line, want) in rows {
-        same(line, given_by(rt, file.as_str(), line)?.as_str(), want)?;
+/// Rows on a file.
+fn on_file(rt: &HostRuntime, file: &str, rows: &str) -> Result<(), Fail> {
+    for row in rows.split('|') {
+        on_row(rt, file, row)?;
     }
+    Ok(())
+}
+
+/// Rows on a text.
+fn on_text(rt: &HostRuntime, text: &[u8], rows: &str) -> Result<(), Fail> {
+    let file = text_file(rt, text)?;
+    on_file(rt, file.as_str(), rows)?;
     fs::remove_file(rt, file.as_path())?;
     Ok(())
 }
 
-/// A text by `check`: it has so many threads, or is refused.
-fn check_text(rt: &HostRuntime, test: &str, text: &[u8], want: &str) -> Result<(), Fail> {
-    let answer = match want.strip_prefix("ok ") {
-        Some(threads) => format!(in rt.alloc(); "0|ok {threads} threads\n|")?,
-        None => format!(in rt.alloc(); "1||cilknow: {want}\n")?,
-    };
-    run_text(rt, test, text, &[("cilknow check FILE", answer.as_str())])
+/// Adds the pieces of `PIECE*TIMES`.
+fn add_pieces(text: &mut Vec<u8>, pieces: &str) -> Result<(), Fail> {
+    let (piece, times) = pieces.split_once('*').ok_or("pieces")?;
+    let times = times.parse::<usize>().map_err(|_| "a number of pieces")?;
+    for _ in 0..times {
+        text.extend_from_slice(piece.as_bytes())?;
+    }
+    Ok(())
 }
 
-/// A program by `serial` or `run`: it ends so within the turns given, and not with one turn less.
-fn takes_turns(
-    rt: &HostRuntime,
-    command: &str,
-    file: &str,
-    input: &str,
-    want: &str,
-    turns: u64,
-) -> Result<(), Fail> {
-    let alloc = rt.alloc();
-    let line = format!(in alloc; "cilknow {command} FILE --turns {turns}{input}")?;
-    let answer = format!(in alloc; "0|{want}\n|")?;
-    same(&line, given_by(rt, file, &line)?.as_str(), &answer)?;
-    let fewer = turns.saturating_sub(1);
-    let line = format!(in alloc; "cilknow {command} FILE --turns {fewer}{input}")?;
-    let spent = if command == "run" { "E95" } else { "E20" };
-    let answer = format!(in alloc; "3||cilknow: {spent}\n")?;
-    same(&line, given_by(rt, file, &line)?.as_str(), &answer)
+/// The bytes of a text in which `[PIECE*TIMES]` stands for so many pieces.
+fn spread(rt: &HostRuntime, text: &str) -> Result<Vec<u8>, Fail> {
+    let mut bytes = Vec::new(rt.alloc());
+    for part in text.split(']') {
+        let (plain, pieces) = part.split_once('[').unwrap_or((part, "*0"));
+        bytes.extend_from_slice(plain.as_bytes())?;
+        add_pieces(&mut bytes, pieces)?;
+    }
+    Ok(bytes)
+}
+
+/// Texts parted by `#`, each with its rows behind an @.
+fn on_texts(rt: &HostRuntime, texts: &str) -> Result<(), Fail> {
+    for part in texts.split('#') {
+        let (text, rows) = part.split_once(" @ ").ok_or("a text")?;
+        on_text(rt, spread(rt, text)?.as_slice(), rows)?;
+    }
+    Ok(())
 }
