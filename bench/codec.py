@@ -74,10 +74,10 @@ def main():
             with open(file, "wb") as out:
                 out.write(packet)
             cells = []
-            for direction in ("read", "write"):
+            for direction, count in (("read", rounds), ("write", 8 * rounds)):
                 # two counts of rounds, so that the start of the program falls out
-                spent = seconds(program, direction, file, 2 * rounds) - seconds(program, direction, file, rounds)
-                each = spent / rounds
+                spent = seconds(program, direction, file, 2 * count) - seconds(program, direction, file, count)
+                each = spent / count
                 cells.append(f"{each * 1e6:10.2f} {len(packet) / each / 1e6:7.0f}")
             print(f"{name:42} {len(packet):9} {' '.join(cells)}")
 
