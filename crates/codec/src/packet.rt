@@ -6,8 +6,6 @@ use crate::fields::{fields_fit, kind_of};
 use ids::Address;
 use std::marker::Model;
 
-const HALF: u64 = 1 << 63;
-
 /// A packet that can be written, but for its size: the number of its job, whom it goes to and what it says. Contracts see
 /// these three.
 #[derive(Drop)]
@@ -79,10 +77,11 @@ pub fn suits(kind: u8, to: Address) -> bool
     ensures { result ≡ table.suits kind to }
 {
     let word = to.word();
+    let any_house = Address::any_house().word();
     match kind {
-        1 => word == HALF,
-        3 | 6 => word != HALF,
-        10 | 12 => word > HALF,
-        _ => word < HALF,
+        1 => word == any_house,
+        3 | 6 => word != any_house,
+        10 | 12 => word > any_house,
+        _ => word < any_house,
     }
 }

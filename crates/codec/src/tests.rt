@@ -2,7 +2,7 @@
 
 mod made;
 
-use crate::{Body, Fault, Leave, ReadError, decode, encode};
+use crate::{Body, EncodeError, Fault, Leave, ReadError, decode, encode};
 use std::alloc::{AllocError, Global};
 use std::test::Fail;
 
@@ -400,5 +400,12 @@ fn a_packet_gives_what_it_holds(rt: HostRuntime) -> Result<(), Fail> {
         decode(alloc, &[]).err(),
         Some(ReadError::Fault(Fault::Short))
     );
+    let printed = format!(in alloc;
+        "{} {} {}",
+        EncodeError::TooBig,
+        EncodeError::Memory,
+        ReadError::Memory
+    )?;
+    assert_eq!(rt; printed.as_str(), "E30 E9 E9");
     Ok(())
 }

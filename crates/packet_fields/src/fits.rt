@@ -11,10 +11,10 @@ use ids::{
 
 /// A worker's incarnation: always.
 #[tactic(auto, unfolding(crate::specs::Fields::worker))]
-pub fn worker(value: &Incarnation) -> bool
-    ensures { result ≡ field.worker.fits value.now }
+pub fn worker(incarnation: &Incarnation) -> bool
+    ensures { result ≡ field.worker.fits incarnation.now }
 {
-    value.word() > 0
+    incarnation.word() > 0
 }
 
 /// The incarnation of a worker other than `own`.
@@ -26,34 +26,34 @@ pub fn other_worker(own: &Incarnation, value: &Incarnation) -> bool
 
 /// An epoch of the clearinghouse: always.
 #[tactic(auto, unfolding(crate::specs::Fields::epoch))]
-pub fn epoch(value: &Epoch) -> bool
-    ensures { result ≡ field.epoch.fits value.now }
+pub fn epoch(epoch: &Epoch) -> bool
+    ensures { result ≡ field.epoch.fits epoch.now }
 {
-    value.number() > 0
+    epoch.number() > 0
 }
 
 /// A worker, or the clearinghouse in an epoch: always.
 #[tactic(auto, unfolding(crate::specs::Fields::actor))]
-pub fn actor(value: &Actor) -> bool
-    ensures { result ≡ field.actor.fits value.now }
+pub fn actor(actor: &Actor) -> bool
+    ensures { result ≡ field.actor.fits actor.now }
 {
-    value.word() > 0
+    actor.word() > 0
 }
 
 /// A number counted from 1: always.
 #[tactic(auto, unfolding(crate::specs::Fields::counted))]
-pub fn counted(value: &Count) -> bool
-    ensures { result ≡ field.counted.fits value.now }
+pub fn counted(count: &Count) -> bool
+    ensures { result ≡ field.counted.fits count.now }
 {
-    value.number() > 0
+    count.number() > 0
 }
 
 /// How often a grant moved: always.
 #[tactic(auto, unfolding(crate::specs::Fields::hop))]
-pub fn hop(value: &Hop) -> bool
-    ensures { result ≡ field.hop.fits value.now }
+pub fn hop(hop: &Hop) -> bool
+    ensures { result ≡ field.hop.fits hop.now }
 {
-    let _count = value.count();
+    let _count = hop.count();
     true
 }
 
@@ -67,10 +67,10 @@ pub fn raised(value: &Hop) -> bool
 
 /// The number of the next frame, at least 1.
 #[tactic(auto, unfolding(crate::specs::Fields::raised))]
-pub fn next_frame(value: &FrameNo) -> bool
-    ensures { result ≡ field.raised.fits value.now }
+pub fn next_frame(next: &FrameNo) -> bool
+    ensures { result ≡ field.raised.fits next.now }
 {
-    value.number() > 0
+    next.number() > 0
 }
 
 /// The number of a frame, below the next one.

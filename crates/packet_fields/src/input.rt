@@ -31,7 +31,7 @@ impl<'a> Input<'a> {
     }
 
     /// Where memory comes from.
-    pub fn alloc(&self) -> Global {
+    pub(crate) fn alloc(&self) -> Global {
         self.alloc
     }
 

@@ -63,8 +63,8 @@ pub fn counted(input: &mut Input<'_>) -> Result<Count, ReadError>
 pub fn hop(input: &mut Input<'_>) -> Result<Hop, ReadError>
     ensures { Gives (λ x. (x, input.new)) result (field.hop.read input.old) }
 {
-    let count = input.u32()?;
-    Ok(Hop::of(count))
+    let moves = input.u32()?;
+    Ok(Hop::of(moves))
 }
 
 /// The hop of an offer, at least 1.

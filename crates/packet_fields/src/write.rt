@@ -86,49 +86,49 @@ fn signed(out: &mut Vec<u8>, value: i64) -> Result<(), AllocError>
 
 /// A worker's incarnation.
 #[tactic(auto, unfolding(crate::specs::Fields::worker))]
-pub fn worker(out: &mut Vec<u8>, value: &Incarnation) -> Result<(), AllocError>
-    ensures { OnOk result (out.new.items ≡ out.old.items ++ field.worker.write value.now) }
+pub fn worker(out: &mut Vec<u8>, incarnation: &Incarnation) -> Result<(), AllocError>
+    ensures { OnOk result (out.new.items ≡ out.old.items ++ field.worker.write incarnation.now) }
 {
-    u64(out, value.word())
+    u64(out, incarnation.word())
 }
 
 /// The incarnation of a worker other than one named before.
-pub fn other_worker(out: &mut Vec<u8>, value: &Incarnation) -> Result<(), AllocError>
-    ensures { OnOk result ((own : ℕ) → out.new.items ≡ out.old.items ++ (field.other_worker own).write value.now) }
+pub fn other_worker(out: &mut Vec<u8>, heir: &Incarnation) -> Result<(), AllocError>
+    ensures { OnOk result ((own : ℕ) → out.new.items ≡ out.old.items ++ (field.other_worker own).write heir.now) }
 {
-    worker(out, value)
+    worker(out, heir)
 }
 
 /// An epoch of the clearinghouse.
 #[tactic(auto, unfolding(crate::specs::Fields::epoch))]
-pub fn epoch(out: &mut Vec<u8>, value: &Epoch) -> Result<(), AllocError>
-    ensures { OnOk result (out.new.items ≡ out.old.items ++ field.epoch.write value.now) }
+pub fn epoch(out: &mut Vec<u8>, epoch: &Epoch) -> Result<(), AllocError>
+    ensures { OnOk result (out.new.items ≡ out.old.items ++ field.epoch.write epoch.now) }
 {
-    u64(out, value.number())
+    u64(out, epoch.number())
 }
 
 /// A worker, or the clearinghouse in an epoch.
 #[tactic(auto, unfolding(crate::specs::Fields::actor))]
-pub fn actor(out: &mut Vec<u8>, value: &Actor) -> Result<(), AllocError>
-    ensures { OnOk result (out.new.items ≡ out.old.items ++ field.actor.write value.now) }
+pub fn actor(out: &mut Vec<u8>, actor: &Actor) -> Result<(), AllocError>
+    ensures { OnOk result (out.new.items ≡ out.old.items ++ field.actor.write actor.now) }
 {
-    u64(out, value.word())
+    u64(out, actor.word())
 }
 
 /// A number counted from 1.
 #[tactic(auto, unfolding(crate::specs::Fields::counted))]
-pub fn counted(out: &mut Vec<u8>, value: &Count) -> Result<(), AllocError>
-    ensures { OnOk result (out.new.items ≡ out.old.items ++ field.counted.write value.now) }
+pub fn counted(out: &mut Vec<u8>, count: &Count) -> Result<(), AllocError>
+    ensures { OnOk result (out.new.items ≡ out.old.items ++ field.counted.write count.now) }
 {
-    u64(out, value.number())
+    u64(out, count.number())
 }
 
 /// How often a grant moved.
 #[tactic(auto, unfolding(crate::specs::Fields::hop))]
-pub fn hop(out: &mut Vec<u8>, value: &Hop) -> Result<(), AllocError>
-    ensures { OnOk result (out.new.items ≡ out.old.items ++ field.hop.write value.now) }
+pub fn hop(out: &mut Vec<u8>, hop: &Hop) -> Result<(), AllocError>
+    ensures { OnOk result (out.new.items ≡ out.old.items ++ field.hop.write hop.now) }
 {
-    u32(out, value.count())
+    u32(out, hop.count())
 }
 
 /// The hop of an offer.
@@ -141,17 +141,17 @@ pub fn raised(out: &mut Vec<u8>, value: &Hop) -> Result<(), AllocError>
 
 /// The number of the next frame.
 #[tactic(auto, unfolding(crate::specs::Fields::raised))]
-pub fn next_frame(out: &mut Vec<u8>, value: &FrameNo) -> Result<(), AllocError>
-    ensures { OnOk result (out.new.items ≡ out.old.items ++ field.raised.write value.now) }
+pub fn next_frame(out: &mut Vec<u8>, next: &FrameNo) -> Result<(), AllocError>
+    ensures { OnOk result (out.new.items ≡ out.old.items ++ field.raised.write next.now) }
 {
-    u32(out, value.number())
+    u32(out, next.number())
 }
 
 /// The number of a frame.
-pub fn below(out: &mut Vec<u8>, value: &FrameNo) -> Result<(), AllocError>
-    ensures { OnOk result ((next : ℕ) → out.new.items ≡ out.old.items ++ (field.below next).write value.now) }
+pub fn below(out: &mut Vec<u8>, frame: &FrameNo) -> Result<(), AllocError>
+    ensures { OnOk result ((next : ℕ) → out.new.items ≡ out.old.items ++ (field.below next).write frame.now) }
 {
-    u32(out, value.number())
+    u32(out, frame.number())
 }
 
 /// The name of a grant.
