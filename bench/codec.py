@@ -1,5 +1,7 @@
-"""Times of reading and writing packets; see bench/codec. The packets are put together here, apart from the program."""
+"""Times of reading and writing packets, beside CPython's pickle of the same fields, and the memory that packets take which
+claim more than they hold; see bench/codec. The packets are put together here, apart from the program."""
 import os
+import pickle
 import struct
 import subprocess
 import sys
@@ -7,49 +9,87 @@ import tempfile
 import time
 
 LIMIT = 1_048_576
+ROOT = (2**63 + 1, 1)
+
+# Each of these gives the bytes, and the fields as tuples, numbers and places.
 
 
 def header(kind, to):
-    return b"\x43\x4e\x01" + bytes([kind]) + struct.pack(">QQ", 7, to)
+    return b"\x43\x4e\x01" + bytes([kind]) + struct.pack(">QQ", 7, to), (kind, 7, to)
 
 
 def steal():
-    return header(3, 2**63 + 1) + struct.pack(">QQ", 3, 1)
+    spelled, fields = header(3, ROOT[0])
+    return spelled + struct.pack(">QQ", 3, 1), (*fields, 3, 1)
+
+
+def task(steps, thread, number):
+    place = b"\x01" * steps
+    spelled = struct.pack(">H", steps) + place + struct.pack(">BBq", thread, 1, number)
+    return spelled, (place, thread, (number,))
 
 
 def grant():
-    return header(4, 3) + struct.pack(">QQQHBBq", 1, 2**63 + 1, 1, 0, 0, 1, 10)
+    spelled, fields = header(4, 3)
+    granted, of_task = task(0, 0, 10)
+    return spelled + struct.pack(">QQQ", 1, *ROOT) + granted, (*fields, 1, ROOT, of_task)
 
 
 def frame(number, steps):
-    place = struct.pack(">H", steps) + b"\x01" * steps
+    place = b"\x01" * steps
     slots = b"\x02\x00\x01" + struct.pack(">q", -number)
-    return struct.pack(">I", number) + place + b"\x01" + slots + b"\x01" + struct.pack(">IB", 0, 1)
+    spelled = struct.pack(">IH", number, steps) + place + b"\x01" + slots + b"\x01" + struct.pack(">IB", 0, 1)
+    return spelled, (number, place, 1, (None, -number), (0, 1))
 
 
 def record(number, steps):
-    place = struct.pack(">H", steps) + b"\x01" * steps
-    task = place + b"\x00\x01" + struct.pack(">q", number)
-    return struct.pack(">QQQI", 3, number + 1, 4, number) + task + b"\x00"
+    stolen, of_task = task(steps, 0, number)
+    spelled = struct.pack(">QQQI", 3, number + 1, 4, number) + stolen + b"\x00"
+    return spelled, ((3, number + 1), 4, number, of_task, None)
+
+
+def counted(items):
+    return struct.pack(">I", len(items)) + b"".join(it[0] for it in items), [it[1] for it in items]
 
 
 def offer(frames, records, steps):
+    spelled, fields = header(8, 5)
+    head = struct.pack(">QQQIQB", 3, *ROOT, 1, ROOT[0], 0)
+    root, of_root = task(0, 0, 10)
     count = frames + records
-    head = struct.pack(">QQQIQB", 3, 2**63 + 1, 1, 1, 2**63 + 1, 0)
-    task = struct.pack(">HBBq", 0, 0, 1, 10)
-    body = struct.pack(">II", count, frames) + b"".join(frame(i, steps) for i in range(frames))
-    body += struct.pack(">I", records) + b"".join(record(frames + i, steps) for i in range(records))
-    return header(8, 5) + head + task + body
+    kept, of_kept = counted([frame(i, steps) for i in range(frames)])
+    lent, of_lent = counted([record(frames + i, steps) for i in range(records)])
+    spelled += head + root + struct.pack(">I", count) + kept + lent
+    return spelled, (*fields, 3, ROOT, 1, ROOT[0], None, of_root, count, of_kept, of_lent)
 
 
 def full_offer(steps):
     """An offer of as many frames and records, half and half, as fit."""
-    pair = len(frame(0, steps)) + len(record(0, steps))
-    half = (LIMIT - len(offer(0, 0, steps))) // pair
+    pair = len(frame(0, steps)[0]) + len(record(0, steps)[0])
+    half = (LIMIT - len(offer(0, 0, steps)[0])) // pair
     return offer(half, half, steps)
 
 
-def seconds(program, direction, file, rounds, tries=5):
+def claims():
+    """Packets that claim many members, frames or records and end there, and for comparison one that holds what it says."""
+    empty = offer(0, 0, 0)[0]
+    roster = header(2, 3)[0] + struct.pack(">QQ", 1, 1)
+    return [
+        ("Refuse", header(5, 3)[0] + struct.pack(">Q", 1)),
+        ("Roster of 4,096 members, none of which comes", roster + struct.pack(">H", 4096)),
+        ("Offer of 4,294,967,295 frames, none of which comes", empty[:-8] + struct.pack(">I", 2**32 - 1)),
+        ("Offer of 4,294,967,295 records, none of which comes", empty[:-4] + struct.pack(">I", 2**32 - 1)),
+        ("the longest Offer, places of 10 steps", full_offer(10)[0]),
+    ]
+
+
+def peak(program, file):
+    """The greatest memory in kB of the program while it reads a packet once."""
+    child = subprocess.Popen([program, "read", file, "1"], stdout=subprocess.DEVNULL, stderr=subprocess.DEVNULL)
+    return os.wait4(child.pid, 0)[2].ru_maxrss
+
+
+def run_seconds(program, direction, file, rounds, tries=5):
     """The least wall time of some tries."""
     best = float("inf")
     for _ in range(tries):
@@ -57,6 +97,21 @@ def seconds(program, direction, file, rounds, tries=5):
         subprocess.run([program, direction, file, str(rounds)], stdout=subprocess.DEVNULL, check=True)
         best = min(best, time.perf_counter() - start)
     return best
+
+
+def packet_seconds(program, direction, file, rounds):
+    """The time of one packet: two counts of rounds are compared, so that the start of the program falls out."""
+    return (run_seconds(program, direction, file, 2 * rounds) - run_seconds(program, direction, file, rounds)) / rounds
+
+
+def pickle_seconds(call, argument, rounds, tries=5):
+    best = float("inf")
+    for _ in range(tries):
+        start = time.perf_counter()
+        for _ in range(rounds):
+            call(argument)
+        best = min(best, time.perf_counter() - start)
+    return best / rounds
 
 
 def main():
@@ -67,19 +122,28 @@ def main():
         rows.append((name, offer(half, half, 10), 800_000 // half))
     rows.append(("the longest Offer, places of 10 steps", full_offer(10), 60))
     rows.append(("the longest Offer, places of 1,000", full_offer(1_000), 60))
-    print(f"{'packet':42} {'bytes':>9} {'read us':>10} {'MB/s':>7} {'write us':>10} {'MB/s':>7}")
+    titles = " ".join(f"{title:>9}" for title in ("read us", "MB/s", "of pickle", "write us", "MB/s", "of pickle"))
+    print(f"{'packet':40} {'bytes':>8} {titles}")
     with tempfile.TemporaryDirectory() as folder:
-        for name, packet, rounds in rows:
+        for name, (packet, fields), rounds in rows:
             file = os.path.join(folder, "packet")
             with open(file, "wb") as out:
                 out.write(packet)
             cells = []
             for direction, count in (("read", rounds), ("write", 8 * rounds)):
-                # two counts of rounds, so that the start of the program falls out
-                spent = seconds(program, direction, file, 2 * count) - seconds(program, direction, file, count)
-                each = spent / count
-                cells.append(f"{each * 1e6:10.2f} {len(packet) / each / 1e6:7.0f}")
-            print(f"{name:42} {len(packet):9} {' '.join(cells)}")
+                each = packet_seconds(program, direction, file, count)
+                if direction == "read":
+                    other = pickle_seconds(pickle.loads, pickle.dumps(fields), max(rounds // 10, 5))
+                else:
+                    other = pickle_seconds(pickle.dumps, fields, max(rounds // 10, 5))
+                cells.append(f"{each * 1e6:9.2f} {len(packet) / each / 1e6:9.0f} {each / other:9.2f}")
+            print(f"{name:40} {len(packet):8} {' '.join(cells)}")
+        print(f"\n{'packet':52} {'bytes':>8} {'peak kB':>9}")
+        for name, packet in claims():
+            file = os.path.join(folder, "packet")
+            with open(file, "wb") as out:
+                out.write(packet)
+            print(f"{name:52} {len(packet):8} {peak(program, file):9}")
 
 
 main()

@@ -1,9 +1,10 @@
 -- The formats of the table keep the laws of formats: those of each kind, those of the fields by kinds, and the packet.
-use Rattle.std.proofs.Common.{◌≡◌, ℕ, zero, suc, ◌^◌, ◌<◌, ◌≤◌, Bool, true, false, cond, eqb, ltb, List, [], ◌++◌, length, Result, Ok, Err, refl, sym, ap, subst, ◌∙◌, arith}
+use Rattle.std.proofs.Common.{◌≡◌, ℕ, zero, suc, ◌^◌, ◌<◌, ◌≤◌, Bool, true, false, ◌||◌, cond, eqb, ltb, List, [], ◌++◌, length, Result, Ok, Err, refl, sym, ap, subst, ◌∙◌, arith}
 use Rattle.std.specs.Prelude.{◌&&◌, IfOk}
-use Rattle.std.proofs.lemmas.Bool.{and_from, and_parts, eq-eqb, eqb-true, le-ltb, lt-ltb, ltb-false}
+use mathlib.Core.Logic.{⊎_elim}
+use Rattle.std.proofs.lemmas.Bool.{and_from, and_parts, eq-eqb, eqb-true, le-ltb, lt-ltb, ltb-false, ltb-true, or_cases}
 use Rattle.std.proofs.lemmas.List.{append-nil, nil_from_length}
-use Rattle.ids.specs.Names.{is_address}
+use Rattle.ids.specs.Names.{is_actor, is_address, is_worker}
 use Rattle.packet_fields.specs.declared.fault.Fault.{Fault}
 use Rattle.packet_fields.specs.declared.fault.Fault.TheVariants as fault
 use Rattle.packet_fields.specs.declared.fault.ReadError.{ReadError}
@@ -17,7 +18,7 @@ use Rattle.packet_fields.proofs.FormatLaws.{Lawful, bind_ok, constant_lawful, fo
 use Rattle.packet_fields.proofs.FieldLaws.{actor_lawful, address_lawful, counted_lawful, epoch_lawful, frames_lawful, grant_lawful, hop_lawful, members_lawful, other_worker_lawful, outcome_lawful, progress_lawful, raised_lawful, records_lawful, task_lawful, worker_lawful}
 use Rattle.codec.specs.declared.body.Body.{Body}
 use Rattle.codec.specs.declared.body.Body.TheVariants as body
-use Rattle.codec.specs.Table.{PacketOf, SpelledBody, Spells, abort, beat, done, fields, fits_body, granted, is_kind, is_packet, join, kind_of, leave, offer, offer_ack, packet, read_body, reading, reads, refuse, result_ack, roster, steal, suits, write_body}
+use Rattle.codec.specs.Table.{IsSpelled, IsTooBig, PacketOf, SpelledBody, Spelling, Spells, abort, beat, task_result, fields, fits_body, granted, is_house, is_kind, is_packet, join, kind_of, leave, offer, offer_ack, packet, read_body, reading, reads, refuse, result_ack, roster, steal, suits, write_body}
 
 -- ---- the kinds
 
@@ -53,9 +54,9 @@ pub refuse_lawful : Lawful refuse
 unfolding refuse
 refuse_lawful = made_lawful field.counted (λ x. record { seq = x }) (λ b. b.seq) counted_lawful (λ b. refl) (λ from to x s. refl)
 
-pub done_lawful : Lawful done
-unfolding done
-done_lawful =
+pub task_result_lawful : Lawful task_result
+unfolding task_result
+task_result_lawful =
     made_lawful (followed field.worker (λ _. followed field.grant (λ _. field.outcome))) (λ x. record { from = x.0; grant = x.1.0; outcome = x.1.1 }) (λ b. (b.from, (b.grant, b.outcome)))
     (followed_lawful field.worker (λ _. followed field.grant (λ _. field.outcome)) worker_lawful (λ _. followed_lawful field.grant (λ _. field.outcome) grant_lawful (λ _. outcome_lawful)))
     (λ b. refl)
@@ -148,7 +149,7 @@ body_found (suc (suc zero)) from to b bytes e = reads_found roster body.Roster 2
 body_found (suc (suc (suc zero))) from to b bytes e = reads_found steal body.Steal 3 steal_lawful (λ x. refl) (λ f t x s. s) from to b bytes e
 body_found (suc (suc (suc (suc zero)))) from to b bytes e = reads_found granted body.Grant 4 granted_lawful (λ x. refl) (λ f t x s. s) from to b bytes e
 body_found (suc (suc (suc (suc (suc zero))))) from to b bytes e = reads_found refuse body.Refuse 5 refuse_lawful (λ x. refl) (λ f t x s. s) from to b bytes e
-body_found (suc (suc (suc (suc (suc (suc zero)))))) from to b bytes e = reads_found done body.Result 6 done_lawful (λ x. refl) (λ f t x s. s) from to b bytes e
+body_found (suc (suc (suc (suc (suc (suc zero)))))) from to b bytes e = reads_found task_result body.Result 6 task_result_lawful (λ x. refl) (λ f t x s. s) from to b bytes e
 body_found (suc (suc (suc (suc (suc (suc (suc zero))))))) from to b bytes e = reads_found result_ack body.ResultAck 7 result_ack_lawful (λ x. refl) (λ f t x s. s) from to b bytes e
 body_found (suc (suc (suc (suc (suc (suc (suc (suc zero)))))))) from to b bytes e = reads_found offer body.Offer 8 offer_lawful (λ x. refl) (λ f t x s. s) from to b bytes e
 body_found (suc (suc (suc (suc (suc (suc (suc (suc (suc zero))))))))) from to b bytes e = reads_found offer_ack body.OfferAck 9 offer_ack_lawful (λ x. refl) (λ f t x s. s) from to b bytes e
@@ -163,7 +164,7 @@ body_only from to (body.Roster b) s = reads_only roster body.Roster roster_lawfu
 body_only from to (body.Steal b) s = reads_only steal body.Steal steal_lawful from to b s
 body_only from to (body.Grant b) s = reads_only granted body.Grant granted_lawful from to b s
 body_only from to (body.Refuse b) s = reads_only refuse body.Refuse refuse_lawful from to b s
-body_only from to (body.Result b) s = reads_only done body.Result done_lawful from to b s
+body_only from to (body.Result b) s = reads_only task_result body.Result task_result_lawful from to b s
 body_only from to (body.ResultAck b) s = reads_only result_ack body.ResultAck result_ack_lawful from to b s
 body_only from to (body.Offer b) s = reads_only offer body.Offer offer_lawful from to b s
 body_only from to (body.OfferAck b) s = reads_only offer_ack body.OfferAck offer_ack_lawful from to b s
@@ -177,7 +178,7 @@ body_one from to (body.Roster b) s = roster_lawful.one from to b s
 body_one from to (body.Steal b) s = steal_lawful.one from to b s
 body_one from to (body.Grant b) s = granted_lawful.one from to b s
 body_one from to (body.Refuse b) s = refuse_lawful.one from to b s
-body_one from to (body.Result b) s = done_lawful.one from to b s
+body_one from to (body.Result b) s = task_result_lawful.one from to b s
 body_one from to (body.ResultAck b) s = result_ack_lawful.one from to b s
 body_one from to (body.Offer b) s = offer_lawful.one from to b s
 body_one from to (body.OfferAck b) s = offer_ack_lawful.one from to b s
@@ -191,7 +192,7 @@ body_writes (body.Roster b) to f = roster_lawful.writes b to f
 body_writes (body.Steal b) to f = steal_lawful.writes b to f
 body_writes (body.Grant b) to f = granted_lawful.writes b to f
 body_writes (body.Refuse b) to f = refuse_lawful.writes b to f
-body_writes (body.Result b) to f = done_lawful.writes b to f
+body_writes (body.Result b) to f = task_result_lawful.writes b to f
 body_writes (body.ResultAck b) to f = result_ack_lawful.writes b to f
 body_writes (body.Offer b) to f = offer_lawful.writes b to f
 body_writes (body.OfferAck b) to f = offer_ack_lawful.writes b to f
@@ -205,7 +206,7 @@ body_fit from to (body.Roster b) s = roster_lawful.fit from to b s
 body_fit from to (body.Steal b) s = steal_lawful.fit from to b s
 body_fit from to (body.Grant b) s = granted_lawful.fit from to b s
 body_fit from to (body.Refuse b) s = refuse_lawful.fit from to b s
-body_fit from to (body.Result b) s = done_lawful.fit from to b s
+body_fit from to (body.Result b) s = task_result_lawful.fit from to b s
 body_fit from to (body.ResultAck b) s = result_ack_lawful.fit from to b s
 body_fit from to (body.Offer b) s = offer_lawful.fit from to b s
 body_fit from to (body.OfferAck b) s = offer_ack_lawful.fit from to b s
@@ -269,12 +270,50 @@ kind_in (body.Leave b) = refl
 kind_in (body.Abort b) = refl
 kind_in (body.Beat b) = refl
 
--- a packet can be written where its job and address are in their ranges
-pub packet_fits : (p : PacketOf) → is_packet p ≡ true → p.job < 2 ^ 64 → is_address p.to ≡ true → packet.fits p ≡ true
+-- an address that suits a kind is one
+in_range : (word : ℕ) → 0 < word → word < 2 ^ 64 → is_address word ≡ true
+in_range word low high = and_from (ltb 0 word) (ltb word (2 ^ 64)) (lt-ltb 0 word low) (lt-ltb word (2 ^ 64) high)
+
+worker_address : (word : ℕ) → is_worker word ≡ true → is_address word ≡ true
+worker_address word e =
+    let parts = and_parts (ltb 0 word) (ltb word (2 ^ 63)) e in
+    let high : word < 2 ^ 63 = ltb-true word (2 ^ 63) parts.1 in
+    in_range word (ltb-true 0 word parts.0) (omega (arith, high))
+
+house_address : (word : ℕ) → is_house word ≡ true → is_address word ≡ true
+house_address word e =
+    let parts = and_parts (ltb (2 ^ 63) word) (ltb word (2 ^ 64)) e in
+    let low : 2 ^ 63 < word = ltb-true (2 ^ 63) word parts.0 in
+    in_range word (omega (arith, low)) (ltb-true word (2 ^ 64) parts.1)
+
+actor_address : (word : ℕ) → is_actor word ≡ true → is_address word ≡ true
+actor_address word e = ⊎_elim (worker_address word) (house_address word) (or_cases (is_worker word) (is_house word) e)
+
+any_address : (word : ℕ) → eqb word (2 ^ 63) ≡ true → is_address word ≡ true
+any_address word e =
+    let same : word ≡ 2 ^ 63 = eqb-true word (2 ^ 63) e in
+    in_range word (omega (arith, same)) (omega (arith, same))
+
+either_way : (b x y z : Bool) → (x ≡ true → z ≡ true) → (y ≡ true → z ≡ true) → cond b x y ≡ true → z ≡ true
+either_way true x y z f g e = f e
+either_way false x y z f g e = g e
+
+suits_address : (kind to : ℕ) → suits kind to ≡ true → is_address to ≡ true
+suits_address kind to e =
+    let others : Bool = cond (eqb kind 10 || eqb kind 12) (is_house to) (is_worker to) in
+    either_way (eqb kind 1) (eqb to (2 ^ 63)) (cond (eqb kind 3 || eqb kind 6) (is_actor to) others) (is_address to) (any_address to)
+    (λ d. either_way (eqb kind 3 || eqb kind 6) (is_actor to) others (is_address to) (actor_address to)
+    (λ c. either_way (eqb kind 10 || eqb kind 12) (is_house to) (is_worker to) (is_address to) (house_address to) (worker_address to) c) d) e
+
+-- a packet can be written
+pub packet_fits : (p : PacketOf) → is_packet p ≡ true → packet.fits p ≡ true
 unfolding packet fields
-packet_fits p whole job address =
+packet_fits p whole =
     let kind : ℕ = kind_of p.body in
-    let parts = and_parts (suits kind p.to) (fits_body p.body) whole in
+    let head = and_parts (ltb p.job (2 ^ 64)) (suits kind p.to && fits_body p.body) whole in
+    let job : p.job < 2 ^ 64 = ltb-true p.job (2 ^ 64) head.0 in
+    let parts = and_parts (suits kind p.to) (fits_body p.body) head.1 in
+    let address : is_address p.to ≡ true = suits_address kind p.to parts.0 in
     let word = and_parts (ltb 0 p.to) (ltb p.to (2 ^ 64)) address in
     let to : (ltb p.to (256 ^ 8) && (is_address p.to && suits kind p.to)) ≡ true = and_from (ltb p.to (256 ^ 8)) (is_address p.to && suits kind p.to) word.1 (and_from (is_address p.to) (suits kind p.to) address parts.0) in
     let said : (eqb kind kind && fits_body p.body) ≡ true = and_from (eqb kind kind) (fits_body p.body) (eq-eqb kind kind refl) parts.1 in
@@ -292,7 +331,8 @@ packet_fits_parts p f =
     let c = and_parts (ltb p.to (256 ^ 8) && (is_address p.to && suits kind p.to)) (eqb kind kind && fits_body p.body) b.1 in
     let to = and_parts (ltb p.to (256 ^ 8)) (is_address p.to && suits kind p.to) c.0 in
     let said = and_parts (eqb kind kind) (fits_body p.body) c.1 in
-    and_from (suits kind p.to) (fits_body p.body) (and_parts (is_address p.to) (suits kind p.to) to.1).1 said.1
+    and_from (ltb p.job (2 ^ 64)) (suits kind p.to && fits_body p.body) b.0
+    (and_from (suits kind p.to) (fits_body p.body) (and_parts (is_address p.to) (suits kind p.to) to.1).1 said.1)
 
 -- what is read of bytes is a packet
 pub is_packet_read : (bytes to : List ℕ) (p : PacketOf) → IsBytes bytes → packet.read bytes ≡ Ok (p, to) → is_packet p ≡ true
@@ -301,17 +341,21 @@ is_packet_read bytes to p fits e = packet_fits_parts p (packet_lawful.fit bytes 
 -- ---- all of the bytes
 
 -- a packet has one spelling
-pub one_spelling : (a b : List ℕ) (p : PacketOf) → Spells a p → Spells b p → a ≡ b
-one_spelling a b p s t = packet_lawful.one a [] p s.0 ∙ sym (packet_lawful.one b [] p t.0)
+pub one_spelling : (a b : List ℕ) (p : PacketOf) → Spelling a p → Spelling b p → a ≡ b
+one_spelling a b p s t = packet_lawful.one a [] p s ∙ sym (packet_lawful.one b [] p t)
 
 -- what is spelled can be made
-pub spelled_made : (a : List ℕ) (p : PacketOf) → Spells a p → is_packet p ≡ true
-spelled_made a p s = packet_fits_parts p (packet_lawful.fit a [] p s.0)
+pub spelled_made : (a : List ℕ) (p : PacketOf) → Spelling a p → is_packet p ≡ true
+spelled_made a p s = packet_fits_parts p (packet_lawful.fit a [] p s)
+
+-- what can be made is spelled
+pub made_spelled : (p : PacketOf) → is_packet p ≡ true → IsSpelled p
+made_spelled p whole = record { bytes = packet.write p ++ []; spelling = packet_lawful.writes p [] (packet_fits p whole) }
 
 -- a spelling has one packet
-pub one_packet : (a : List ℕ) (p q : PacketOf) → Spells a p → Spells a q → p ≡ q
+pub one_packet : (a : List ℕ) (p q : PacketOf) → Spelling a p → Spelling a q → p ≡ q
 one_packet a p q s t =
-    ap (λ (x : PacketOf × List ℕ). x.0) (ok_is (p, []) (q, []) (sym (packet_lawful.only a [] p s.0) ∙ packet_lawful.only a [] q t.0))
+    ap (λ (x : PacketOf × List ℕ). x.0) (ok_is (p, []) (q, []) (sym (packet_lawful.only a [] p s) ∙ packet_lawful.only a [] q t))
 
 guard_err : {A : Type 0} (b : Bool) (d : Fault) (r : Result A Fault) (y : A) → cond b (Err d) r ≡ Ok y → (b ≡ false) × (r ≡ Ok y)
 guard_err true d r y e = absurd cc
@@ -341,14 +385,14 @@ is_found bytes (Err d) fits e = tt
 pub is_only : (bytes : List ℕ) (r : Result PacketOf ReadError) (p : PacketOf) → Spells bytes p → Gives (λ x. x) r (reading bytes) → Gives (λ x. x) r (Ok p)
 is_only bytes r p s e = subst (λ (read : Result PacketOf Fault). Gives (λ x. x) r read) (reading_only bytes p s) e
 
--- what is written for a packet spells it, unless it is too long
-pub is_written : (p : PacketOf) (old out : List ℕ) → old ≡ [] → out ≡ old ++ packet.write p → packet.fits p ≡ true → length out ≤ 1048576 → Spells out p
-is_written p old out none e fits short =
+-- what is written for a packet is its spelling
+written : (p : PacketOf) (old out : List ℕ) → old ≡ [] → out ≡ old ++ packet.write p → packet.fits p ≡ true → Spelling out p
+written p old out none e fits =
     let all : out ≡ packet.write p ++ [] = e ∙ ap (λ (front : List ℕ). front ++ packet.write p) none ∙ sym (append-nil (packet.write p)) in
-    (subst (λ (bytes : List ℕ). packet.Spelled bytes [] p) (sym all) (packet_lawful.writes p [] fits), short)
+    subst (λ (bytes : List ℕ). packet.Spelled bytes [] p) (sym all) (packet_lawful.writes p [] fits)
 
--- and then it has no spelling
-pub is_too_big : (p : PacketOf) (old out : List ℕ) → old ≡ [] → out ≡ old ++ packet.write p → 1048576 < length out → (bytes : List ℕ) → Spells bytes p → ⊥
-is_too_big p old out none e long bytes s =
-    let all : bytes ≡ out = packet_lawful.one bytes [] p s.0 ∙ append-nil (packet.write p) ∙ ap (λ (front : List ℕ). front ++ packet.write p) (sym none) ∙ sym e in
-    omega (arith, ap length all, s.1)
+pub is_written : (p : PacketOf) (old out : List ℕ) → old ≡ [] → out ≡ old ++ packet.write p → packet.fits p ≡ true → length out ≤ 1048576 → Spells out p
+is_written p old out none e fits short = (written p old out none e fits, short)
+
+pub is_too_big : (p : PacketOf) (old out : List ℕ) → old ≡ [] → out ≡ old ++ packet.write p → packet.fits p ≡ true → 1048576 < length out → IsTooBig p
+is_too_big p old out none e fits long = record { bytes = out; spelling = written p old out none e fits; long = long }

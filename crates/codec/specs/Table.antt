@@ -1,5 +1,5 @@
 -- The table of packets: the fields of each kind, and the packet.
-use Rattle.std.specs.Prelude.{◌≡◌, ◌^◌, ◌≤◌, ◌&&◌, ◌||◌, ℕ, zero, suc, Bool, nat_eq, nat_lt, if◌then◌else◌, List, [], length, Result, Ok, Err}
+use Rattle.std.specs.Prelude.{◌≡◌, ◌^◌, ◌≤◌, ◌<◌, ◌&&◌, ◌||◌, ℕ, zero, suc, Bool, nat_eq, nat_lt, if◌then◌else◌, List, [], length, Result, Ok, Err}
 use Rattle.ids.specs.Names.{is_actor, is_worker}
 use Rattle.packet_fields.specs.declared.fault.Fault.{Fault}
 use Rattle.packet_fields.specs.declared.fault.Fault.TheVariants as fault
@@ -12,7 +12,7 @@ use Rattle.codec.specs.declared.body.Roster.{Roster}
 use Rattle.codec.specs.declared.body.Steal.{Steal}
 use Rattle.codec.specs.declared.body.Grant.{Grant}
 use Rattle.codec.specs.declared.body.Refuse.{Refuse}
-use Rattle.codec.specs.declared.body.Done.{Done}
+use Rattle.codec.specs.declared.body.TaskResult.{TaskResult}
 use Rattle.codec.specs.declared.body.ResultAck.{ResultAck}
 use Rattle.codec.specs.declared.body.Offer.{Offer}
 use Rattle.codec.specs.declared.body.OfferAck.{OfferAck}
@@ -35,8 +35,8 @@ granted = made (followed field.counted (λ _. followed field.grant (λ _. field.
 unfoldable pub refuse : Format Refuse
 refuse = made field.counted (λ x. record { seq = x }) (λ b. b.seq)
 
-unfoldable pub done : Format Done
-done = made (followed field.worker (λ _. followed field.grant (λ _. field.outcome))) (λ x. record { from = x.0; grant = x.1.0; outcome = x.1.1 }) (λ b. (b.from, (b.grant, b.outcome)))
+unfoldable pub task_result : Format TaskResult
+task_result = made (followed field.worker (λ _. followed field.grant (λ _. field.outcome))) (λ x. record { from = x.0; grant = x.1.0; outcome = x.1.1 }) (λ b. (b.from, (b.grant, b.outcome)))
 
 unfoldable pub result_ack : Format ResultAck
 result_ack = made field.grant (λ x. record { grant = x }) (λ b. b.grant)
@@ -98,7 +98,7 @@ SpelledBody from to (body.Roster b) = roster.Spelled from to b
 SpelledBody from to (body.Steal b) = steal.Spelled from to b
 SpelledBody from to (body.Grant b) = granted.Spelled from to b
 SpelledBody from to (body.Refuse b) = refuse.Spelled from to b
-SpelledBody from to (body.Result b) = done.Spelled from to b
+SpelledBody from to (body.Result b) = task_result.Spelled from to b
 SpelledBody from to (body.ResultAck b) = result_ack.Spelled from to b
 SpelledBody from to (body.Offer b) = offer.Spelled from to b
 SpelledBody from to (body.OfferAck b) = offer_ack.Spelled from to b
@@ -113,7 +113,7 @@ write_body (body.Roster b) = roster.write b
 write_body (body.Steal b) = steal.write b
 write_body (body.Grant b) = granted.write b
 write_body (body.Refuse b) = refuse.write b
-write_body (body.Result b) = done.write b
+write_body (body.Result b) = task_result.write b
 write_body (body.ResultAck b) = result_ack.write b
 write_body (body.Offer b) = offer.write b
 write_body (body.OfferAck b) = offer_ack.write b
@@ -128,7 +128,7 @@ fits_body (body.Roster b) = roster.fits b
 fits_body (body.Steal b) = steal.fits b
 fits_body (body.Grant b) = granted.fits b
 fits_body (body.Refuse b) = refuse.fits b
-fits_body (body.Result b) = done.fits b
+fits_body (body.Result b) = task_result.fits b
 fits_body (body.ResultAck b) = result_ack.fits b
 fits_body (body.Offer b) = offer.fits b
 fits_body (body.OfferAck b) = offer_ack.fits b
@@ -148,7 +148,7 @@ read_body (suc (suc zero)) from = reads roster body.Roster from
 read_body (suc (suc (suc zero))) from = reads steal body.Steal from
 read_body (suc (suc (suc (suc zero)))) from = reads granted body.Grant from
 read_body (suc (suc (suc (suc (suc zero))))) from = reads refuse body.Refuse from
-read_body (suc (suc (suc (suc (suc (suc zero)))))) from = reads done body.Result from
+read_body (suc (suc (suc (suc (suc (suc zero)))))) from = reads task_result body.Result from
 read_body (suc (suc (suc (suc (suc (suc (suc zero))))))) from = reads result_ack body.ResultAck from
 read_body (suc (suc (suc (suc (suc (suc (suc (suc zero)))))))) from = reads offer body.Offer from
 read_body (suc (suc (suc (suc (suc (suc (suc (suc (suc zero))))))))) from = reads offer_ack body.OfferAck from
@@ -188,9 +188,9 @@ pub record PacketOf : Type 0 where
   pub to : ℕ
   pub body : Body
 
--- what must hold of a packet, so that it can be written
+-- what has to hold of a packet, so that it has a spelling: exactly then it has one
 abbrev pub is_packet : PacketOf → Bool
-is_packet p = suits (kind_of p.body) p.to && fits_body p.body
+is_packet p = nat_lt p.job (2 ^ 64) && (suits (kind_of p.body) p.to && fits_body p.body)
 
 -- 20 bytes stand in front of the fields: 43 4E, the version 1, the kind, the job and whom it goes to
 unfoldable pub packet : Format PacketOf
@@ -202,9 +202,24 @@ packet =
     (λ x. record { job = x.1.1.1.0; to = x.1.1.1.1.0; body = x.1.1.1.1.1 })
     (λ p. (tt, (tt, (kind_of p.body, (p.job, (p.to, p.body))))))
 
--- the bytes spell the packet, all of them, and they are not too many
+-- the bytes are the packet's fields one after the other, all of them, and however many
+abbrev pub Spelling : List ℕ → PacketOf → Type 0
+Spelling bytes p = packet.Spelled bytes [] p
+
+-- they spell the packet: they are not too many, too
 abbrev pub Spells : List ℕ → PacketOf → Type 0
-Spells bytes p = packet.Spelled bytes [] p × (length bytes ≤ 1048576)
+Spells bytes p = Spelling bytes p × (length bytes ≤ 1048576)
+
+-- the packet's spelling has too many bytes
+pub record IsTooBig (p : PacketOf) : Type 0 where
+  pub bytes : List ℕ
+  pub spelling : Spelling bytes p
+  pub long : 1048576 < length bytes
+
+-- the packet has a spelling
+pub record IsSpelled (p : PacketOf) : Type 0 where
+  pub bytes : List ℕ
+  pub spelling : Spelling bytes p
 
 -- reading all of the bytes: the packet, or the first fault
 unfoldable pub reading : List ℕ → Result PacketOf Fault

@@ -39,7 +39,7 @@ pub struct Refuse {
 
 /// The outcome of a granted task.
 #[derive(Clone, Copy, PartialEq, Eq, Debug)]
-pub struct Done {
+pub struct TaskResult {
     pub from: Incarnation,
     pub grant: GrantId,
     pub outcome: Outcome,
@@ -103,7 +103,7 @@ pub enum Body {
     Steal(Steal),
     Grant(Grant),
     Refuse(Refuse),
-    Result(Done),
+    Result(TaskResult),
     ResultAck(ResultAck),
     Offer(Offer),
     OfferAck(OfferAck),

@@ -14,6 +14,12 @@ use std::alloc::Global;
 /// A packet has at most so many bytes.
 pub const MOST_BYTES: usize = 1_048_576;
 
+/// What stands in front of each packet.
+pub const MAGIC: u16 = 0x434E;
+
+/// The version of all twelve kinds.
+pub const VERSION: u8 = 1;
+
 /// What a packet is made of.
 #[derive(Drop)]
 struct Parts {
@@ -27,10 +33,10 @@ struct Parts {
 fn parts_of(input: &mut Input<'_>) -> Result<Parts, ReadError>
     ensures { Gives (λ x. (record { job = x.job; to = x.to; body = x.body }, input.new)) result (table.packet.read input.old) }
 {
-    if input.u16()? != 0x434E {
+    if input.u16()? != MAGIC {
         return Err(ReadError::Fault(Fault::Magic));
     }
-    if input.byte()? != 1 {
+    if input.byte()? != VERSION {
         return Err(ReadError::Fault(Fault::Version));
     }
     let kind = input.byte()?;

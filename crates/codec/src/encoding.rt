@@ -1,9 +1,9 @@
-ghost use Rattle.std.specs.Prelude.{◌≡◌, ◌++◌, ℕ, List, IfOk, IsErrOf, IsTrue, OnOk};
-ghost use Rattle.codec.specs.Table.{Spells};
+ghost use Rattle.std.specs.Prelude.{◌≡◌, ◌++◌, IfOk, IsErrOf, IsTrue, OnOk};
+ghost use Rattle.codec.specs.Table.{IsTooBig, Spells};
 ghost use Rattle.codec.specs.Table as table;
 ghost use Rattle.codec.specs.declared.encoding.EncodeError.TheVariants.{TooBig};
 
-use crate::decoding::MOST_BYTES;
+use crate::decoding::{MAGIC, MOST_BYTES, VERSION};
 use crate::fields::{kind_of, write_fields};
 use crate::packet::Packet;
 use packet_fields::write;
@@ -37,8 +37,8 @@ fn put(packet: &Packet, out: &mut Vec<u8>) -> Result<(), AllocError>
     ensures written { OnOk result (out.new.items ≡ out.old.items ++ table.packet.write packet.now) }
     ensures fits { OnOk result (IsTrue (table.packet.fits packet.now)) }
 {
-    write::u16(out, 0x434E)?;
-    write::byte(out, 1)?;
+    write::u16(out, MAGIC)?;
+    write::byte(out, VERSION)?;
     write::byte(out, kind_of(packet.body()))?;
     write::u64(out, packet.job())?;
     write::u64(out, packet.to().word())?;
@@ -50,12 +50,13 @@ fn put(packet: &Packet, out: &mut Vec<u8>) -> Result<(), AllocError>
 pub fn encode(alloc: Global, packet: &Packet) -> Result<Vec<u8>, EncodeError>
     // What is written is the packet's spelling.
     ensures written { IfOk result (λ v. Spells v.items packet.now) }
-    // What is too big has no spelling.
-    ensures big { IsErrOf result TooBig → (bytes : List ℕ) → Spells bytes packet.now → ⊥ }
+    // What is too big has a spelling of more bytes than are allowed.
+    ensures big { IsErrOf result TooBig → IsTooBig packet.now }
 {
     let mut out = Vec::new(alloc);
     put(packet, &mut out)?;
-    if out.len() > MOST_BYTES {
+    let length = out.len();
+    if length > MOST_BYTES {
         return Err(EncodeError::TooBig);
     }
     Ok(out)

@@ -4,7 +4,7 @@ ghost use Rattle.packet_fields.specs.Format.{Gives};
 ghost use Rattle.codec.specs.Table as table;
 
 use crate::body::{
-    Abort, Beat, Body, Done, Grant, Join, Leave, Offer, OfferAck, Refuse, ResultAck, Roster, Steal,
+    Abort, Beat, Body, TaskResult, Grant, Join, Leave, Offer, OfferAck, Refuse, ResultAck, Roster, Steal,
 };
 use packet_fields::{Fault, Input, ReadError, fits, read, write};
 use std::alloc::AllocError;
@@ -19,7 +19,7 @@ macro_rules! each_field {
             3 Steal: Steal { from: worker, seq: counted }
             4 Grant: Grant { seq: counted, grant: grant, task: task }
             5 Refuse: Refuse { seq: counted }
-            6 Result: Done { from: worker, grant: grant, outcome: outcome }
+            6 Result: TaskResult { from: worker, grant: grant, outcome: outcome }
             7 ResultAck: ResultAck { grant: grant }
             8 Offer: Offer { from: worker, grant: grant, hop: raised, parent: actor, progress: progress, task: task, next: next_frame, frames: frames(progress, next), records: records(progress, next) }
             9 OfferAck: OfferAck { from: worker, grant: grant, hop: hop }
@@ -78,7 +78,7 @@ pub fn kind_of(body: &Body) -> u8
 }
 
 /// The fields of a kind.
-#[tactic(auto, unfolding(crate::specs::Table::fields, crate::specs::Table::join, crate::specs::Table::roster, crate::specs::Table::steal, crate::specs::Table::granted, crate::specs::Table::refuse, crate::specs::Table::done, crate::specs::Table::result_ack, crate::specs::Table::offer, crate::specs::Table::offer_ack, crate::specs::Table::leave, crate::specs::Table::abort, crate::specs::Table::beat))]
+#[tactic(auto, unfolding(crate::specs::Table::fields, crate::specs::Table::join, crate::specs::Table::roster, crate::specs::Table::steal, crate::specs::Table::granted, crate::specs::Table::refuse, crate::specs::Table::task_result, crate::specs::Table::result_ack, crate::specs::Table::offer, crate::specs::Table::offer_ack, crate::specs::Table::leave, crate::specs::Table::abort, crate::specs::Table::beat))]
 pub fn read_fields(kind: u8, input: &mut Input<'_>) -> Result<Body, ReadError>
     ensures { Gives (λ x. (x, input.new)) result ((table.fields kind).read input.old) }
 {
@@ -86,7 +86,7 @@ pub fn read_fields(kind: u8, input: &mut Input<'_>) -> Result<Body, ReadError>
 }
 
 /// Adds the fields of a kind to the bytes.
-#[tactic(auto, unfolding(crate::specs::Table::join, crate::specs::Table::roster, crate::specs::Table::steal, crate::specs::Table::granted, crate::specs::Table::refuse, crate::specs::Table::done, crate::specs::Table::result_ack, crate::specs::Table::offer, crate::specs::Table::offer_ack, crate::specs::Table::leave, crate::specs::Table::abort, crate::specs::Table::beat))]
+#[tactic(auto, unfolding(crate::specs::Table::join, crate::specs::Table::roster, crate::specs::Table::steal, crate::specs::Table::granted, crate::specs::Table::refuse, crate::specs::Table::task_result, crate::specs::Table::result_ack, crate::specs::Table::offer, crate::specs::Table::offer_ack, crate::specs::Table::leave, crate::specs::Table::abort, crate::specs::Table::beat))]
 pub fn write_fields(body: &Body, out: &mut Vec<u8>) -> Result<(), AllocError>
     ensures { OnOk result (out.new.items ≡ out.old.items ++ table.write_body body.now) }
 {
@@ -95,7 +95,7 @@ pub fn write_fields(body: &Body, out: &mut Vec<u8>) -> Result<(), AllocError>
 }
 
 /// Whether the fields can be written.
-#[tactic(auto, unfolding(crate::specs::Table::join, crate::specs::Table::roster, crate::specs::Table::steal, crate::specs::Table::granted, crate::specs::Table::refuse, crate::specs::Table::done, crate::specs::Table::result_ack, crate::specs::Table::offer, crate::specs::Table::offer_ack, crate::specs::Table::leave, crate::specs::Table::abort, crate::specs::Table::beat))]
+#[tactic(auto, unfolding(crate::specs::Table::join, crate::specs::Table::roster, crate::specs::Table::steal, crate::specs::Table::granted, crate::specs::Table::refuse, crate::specs::Table::task_result, crate::specs::Table::result_ack, crate::specs::Table::offer, crate::specs::Table::offer_ack, crate::specs::Table::leave, crate::specs::Table::abort, crate::specs::Table::beat))]
 pub fn fields_fit(body: &Body) -> bool
     ensures { result ≡ table.fits_body body.now }
 {

@@ -11,7 +11,7 @@ mod packet;
 mod tests;
 
 pub use body::{
-    Abort, Beat, Body, Done, Grant, Join, Leave, Offer, OfferAck, Refuse, ResultAck, Roster, Steal,
+    Abort, Beat, Body, TaskResult, Grant, Join, Leave, Offer, OfferAck, Refuse, ResultAck, Roster, Steal,
 };
 pub use decoding::decode;
 pub use encoding::{EncodeError, encode};

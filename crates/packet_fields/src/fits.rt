@@ -1,9 +1,11 @@
-//! Whether values can be written: for each field a test that answers what its format's `fits` says.
+//! Whether values can be written: for each field a test that answers what its format's `fits` says. Where any value can be
+//! written, as its type sees to it, the test looks at the value all the same: the prover then has what the type keeps.
 ghost use Rattle.std.specs.Prelude.{◌≡◌, length, None};
 ghost use Rattle.std.specs.List.{list_all};
 ghost use Rattle.packet_fields.specs.Format.{checked, items, number};
 ghost use Rattle.packet_fields.specs.Fields as field;
 
+use crate::limits::{MOST_MEMBERS, MOST_NUMBERS, MOST_SLOTS, MOST_STEPS, THREADS};
 use crate::parts::{Frame, Member, Progress, Record, Status, Task};
 use ids::{
     Actor, Count, Epoch, FrameNo, GrantId, Hop, Incarnation, Listed, Outcome, Place, Return,
@@ -93,7 +95,7 @@ pub fn grant(value: &GrantId) -> bool
 pub fn place(value: &Place) -> bool
     ensures { result ≡ field.place.fits value.now }
 {
-    value.len() <= 1024
+    value.len() <= MOST_STEPS
 }
 
 /// The number of a thread, below 64.
@@ -101,7 +103,7 @@ pub fn place(value: &Place) -> bool
 pub fn thread(value: &u8) -> bool
     ensures { result ≡ field.thread.fits value.now }
 {
-    *value < 64
+    *value < THREADS
 }
 
 /// A signed number: always.
@@ -124,7 +126,7 @@ fn each_number(numbers: &[i64]) -> bool
 pub fn numbers(value: &Listed<i64>) -> bool
     ensures { result ≡ field.numbers.fits value.now }
 {
-    value.len() <= 8 && each_number(value.as_slice())
+    value.len() <= MOST_NUMBERS as usize && each_number(value.as_slice())
 }
 
 /// A task: its thread below 64, at most 8 numbers.
@@ -180,7 +182,7 @@ fn each_slot(slots: &[Option<i64>]) -> bool
 pub fn slots(value: &Listed<Option<i64>>) -> bool
     ensures { result ≡ field.slots.fits value.now }
 {
-    value.len() <= 8 && each_slot(value.as_slice())
+    value.len() <= MOST_SLOTS as usize && each_slot(value.as_slice())
 }
 
 /// Where a value goes: a frame below the next one, and a slot of at most 7.
@@ -190,7 +192,7 @@ pub fn goes_to(next: &FrameNo, value: &Return) -> bool
 {
     match value {
         Return::Whole => true,
-        Return::Local(frame, slot) => below(next, frame) && *slot < 8,
+        Return::Local(frame, slot) => below(next, frame) && *slot < MOST_SLOTS,
     }
 }
 
@@ -236,7 +238,7 @@ fn each_member(members: &[Member]) -> bool
 pub fn members(value: &Listed<Member>) -> bool
     ensures { result ≡ field.members.fits value.now }
 {
-    value.len() <= 4096 && each_member(value.as_slice())
+    value.len() <= MOST_MEMBERS as usize && each_member(value.as_slice())
 }
 
 /// A count of frames or records: below 2^32, and 0 where the subcomputation is finished.

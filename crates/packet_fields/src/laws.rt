@@ -7,6 +7,10 @@ ghost use Rattle.packet_fields.specs.declared.parts.Progress.{Progress};
 /// Each field has one spelling: bytes spell at most one value and a value has at most one spelling; what is spelled is
 /// read and what is read is spelled; and what can be written is spelled by what is written.
 pub fn one_spelling()
+    ensures byte { OneSpelling (number 1) }
+    ensures two_bytes { OneSpelling (number 2) }
+    ensures four_bytes { OneSpelling (number 4) }
+    ensures eight_bytes { OneSpelling (number 8) }
     ensures worker { OneSpelling field.worker }
     ensures other_worker { (own : ℕ) → OneSpelling (field.other_worker own) }
     ensures epoch { OneSpelling field.epoch }
@@ -17,6 +21,8 @@ pub fn one_spelling()
     ensures raised { OneSpelling field.raised }
     ensures below { (next : ℕ) → OneSpelling (field.below next) }
     ensures grant { OneSpelling field.grant }
+    ensures step { OneSpelling field.step }
+    ensures steps { OneSpelling field.steps }
     ensures place { OneSpelling field.place }
     ensures thread { OneSpelling field.thread }
     ensures signed { OneSpelling field.signed }

@@ -5,6 +5,7 @@ mod fault;
 pub mod fits;
 mod input;
 mod laws;
+mod limits;
 mod parts;
 pub mod read;
 pub mod write;

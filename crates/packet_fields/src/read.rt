@@ -1,11 +1,13 @@
-//! The readers of fields. Each answers the value and leaves the bytes behind it, or answers the first fault. A reader
-//! takes memory only for what the bytes back.
+//! The readers of fields. Each answers the value and leaves the bytes behind it, or answers the first fault: E31 where the
+//! bytes end inside the field, E35 where it is outside its range or out of order, E9 where there is no memory. After a
+//! refusal it is open how much was read. A reader takes memory only for what the bytes back.
 ghost use Rattle.std.specs.Prelude.{◌≡◌, ◌∷◌, nat_lt, Some, None};
 ghost use Rattle.packet_fields.specs.Format.{Gives, checked, items, number, plain};
 ghost use Rattle.packet_fields.specs.Fields as field;
 
 use crate::fault::{Fault, ReadError};
 use crate::input::Input;
+use crate::limits::{LAST_STEP, MOST_MEMBERS, MOST_NUMBERS, MOST_SLOTS, MOST_STEPS, THREADS};
 use crate::parts::{Frame, Member, Progress, Record, Status, Task};
 use ids::{
     Actor, Count, Epoch, FrameNo, GrantId, Hop, Incarnation, Listed, Outcome, Place, Return,
@@ -117,7 +119,7 @@ fn step(input: &mut Input<'_>) -> Result<u8, ReadError>
     ensures { Gives (λ x. (x, input.new)) result (field.step.read input.old) }
 {
     let step = input.byte()?;
-    if step > 8 {
+    if step > LAST_STEP {
         return Err(ReadError::Fault(Fault::Field));
     }
     Ok(step)
@@ -140,7 +142,7 @@ pub fn place(input: &mut Input<'_>) -> Result<Place, ReadError>
     ensures { Gives (λ x. (x, input.new)) result (field.place.read input.old) }
 {
     let count = input.u16()?;
-    if count > 1024 {
+    if count > MOST_STEPS {
         return Err(ReadError::Fault(Fault::Field));
     }
     let steps = steps_of(count, input)?;
@@ -153,7 +155,7 @@ pub fn thread(input: &mut Input<'_>) -> Result<u8, ReadError>
     ensures { Gives (λ x. (x, input.new)) result (field.thread.read input.old) }
 {
     let thread = input.byte()?;
-    if thread > 63 {
+    if thread >= THREADS {
         return Err(ReadError::Fault(Fault::Field));
     }
     Ok(thread)
@@ -176,7 +178,7 @@ pub fn numbers(input: &mut Input<'_>) -> Result<Listed<i64>, ReadError>
     ensures { Gives (λ x. (x, input.new)) result (field.numbers.read input.old) }
 {
     let count = input.byte()?;
-    if count > 8 {
+    if count > MOST_NUMBERS {
         return Err(ReadError::Fault(Fault::Field));
     }
     numbers_of(count, input)
@@ -255,7 +257,7 @@ pub fn slots(input: &mut Input<'_>) -> Result<Listed<Option<i64>>, ReadError>
     ensures { Gives (λ x. (x, input.new)) result (field.slots.read input.old) }
 {
     let count = input.byte()?;
-    if count > 8 {
+    if count > MOST_SLOTS {
         return Err(ReadError::Fault(Fault::Field));
     }
     slots_of(count, input)
@@ -271,7 +273,7 @@ pub fn goes_to(next: &FrameNo, input: &mut Input<'_>) -> Result<Return, ReadErro
         1 => {
             let frame = below(next, input)?;
             let slot = input.byte()?;
-            if slot > 7 {
+            if slot >= MOST_SLOTS {
                 return Err(ReadError::Fault(Fault::Field));
             }
             Ok(Return::Local(frame, slot))
@@ -334,7 +336,7 @@ pub fn members(input: &mut Input<'_>) -> Result<Listed<Member>, ReadError>
     ensures { Gives (λ x. (x, input.new)) result (field.members.read input.old) }
 {
     let count = input.u16()?;
-    if count > 4096 {
+    if count > MOST_MEMBERS {
         return Err(ReadError::Fault(Fault::Field));
     }
     members_of(count, input)

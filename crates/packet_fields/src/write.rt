@@ -1,4 +1,5 @@
-//! The writers of fields. Each adds the bytes of a value behind those already there; a refusal is want of memory alone.
+//! The writers of fields. Each adds the bytes of a value behind those already there. A refusal is want of memory alone, and
+//! then it is open how much was added.
 ghost use Rattle.std.specs.Prelude.{◌≡◌, ◌++◌, ℕ, OnOk, Option, None};
 ghost use Rattle.std.specs.List.{flat_map};
 ghost use Rattle.ids.specs.Names.{Grant};
@@ -340,14 +341,14 @@ pub fn members(out: &mut Vec<u8>, value: &Listed<Member>) -> Result<(), AllocErr
 
 /// A frame: its number, its place, its thread, its slots, and where its value goes.
 #[tactic(auto, unfolding(crate::specs::Fields::frame))]
-fn frame(out: &mut Vec<u8>, value: &Frame) -> Result<(), AllocError>
-    ensures { OnOk result ((next : ℕ) (last : Option ℕ) → out.new.items ≡ out.old.items ++ (field.frame next last).write value.now) }
+fn frame(out: &mut Vec<u8>, frame: &Frame) -> Result<(), AllocError>
+    ensures { OnOk result ((next : ℕ) (last : Option ℕ) → out.new.items ≡ out.old.items ++ (field.frame next last).write frame.now) }
 {
-    below(out, &value.number)?;
-    place(out, &value.place)?;
-    thread(out, &value.thread)?;
-    slots(out, &value.slots)?;
-    goes_to(out, &value.returns)?;
+    below(out, &frame.number)?;
+    place(out, &frame.place)?;
+    thread(out, &frame.thread)?;
+    slots(out, &frame.slots)?;
+    goes_to(out, &frame.returns)?;
     Ok(())
 }
 
@@ -373,14 +374,14 @@ pub fn frames(out: &mut Vec<u8>, value: &Listed<Frame>) -> Result<(), AllocError
 
 /// A record: its grant, its holder, its frame's number, its task, and where its value goes.
 #[tactic(auto, unfolding(crate::specs::Fields::stolen))]
-fn stolen(out: &mut Vec<u8>, value: &Record) -> Result<(), AllocError>
-    ensures { OnOk result ((next : ℕ) (last : Option Grant) → out.new.items ≡ out.old.items ++ (field.stolen next last).write value.now) }
+fn stolen(out: &mut Vec<u8>, lent: &Record) -> Result<(), AllocError>
+    ensures { OnOk result ((next : ℕ) (last : Option Grant) → out.new.items ≡ out.old.items ++ (field.stolen next last).write lent.now) }
 {
-    grant(out, &value.grant)?;
-    worker(out, &value.holder)?;
-    below(out, &value.frame)?;
-    task(out, &value.task)?;
-    goes_to(out, &value.returns)?;
+    grant(out, &lent.grant)?;
+    worker(out, &lent.holder)?;
+    below(out, &lent.frame)?;
+    task(out, &lent.task)?;
+    goes_to(out, &lent.returns)?;
     Ok(())
 }
 

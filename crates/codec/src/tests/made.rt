@@ -2,7 +2,7 @@
 
 use super::example;
 use crate::{
-    Abort, Beat, Body, Done, EncodeError, Frame, Grant, Join, Leave, Member, Offer, OfferAck,
+    Abort, Beat, Body, TaskResult, EncodeError, Frame, Grant, Join, Leave, Member, Offer, OfferAck,
     Packet, Progress, Record, Refuse, ResultAck, Roster, Status, Steal, Task, decode, encode,
 };
 use ids::{
@@ -99,7 +99,7 @@ fn refuse() -> Option<Body> {
 }
 
 fn result(grant: GrantId, outcome: Outcome) -> Option<Body> {
-    Some(Body::Result(Done {
+    Some(Body::Result(TaskResult {
         from: worker(3)?,
         grant,
         outcome,

@@ -3,9 +3,9 @@ use Rattle.std.proofs.Common.{arith}
 use Rattle.codec.proofs.TableLaws.{is_too_big, is_written}
 use Rattle.codec.proofs.encoding.encode.Goals as goal
 
-pub returns-then-len-gt-MOST_BYTES-clause-big : goal.returns-then-len-gt-MOST_BYTES-clause-big
-returns-then-len-gt-MOST_BYTES-clause-big c =
-    λ _ bytes s. is_too_big c.args.packet.now c.new-out.result.items c.put.new.out.items c.new-out.ensures.items c.in_ok-put.ensures.written (omega arith) bytes s
+pub returns-then-length-gt-MOST_BYTES-clause-big : goal.returns-then-length-gt-MOST_BYTES-clause-big
+returns-then-length-gt-MOST_BYTES-clause-big c =
+    λ _. is_too_big c.args.packet.now c.new-out.result.items c.put.new.out.items c.new-out.ensures.items c.in_ok-put.ensures.written c.in_ok-put.ensures.fits (omega arith)
 
 pub returns-clause-written : goal.returns-clause-written
 returns-clause-written c =

@@ -1,5 +1,5 @@
--- The pieces of a packet, and that they fit: its model says that it is a packet, and so does that of its address.
-use Rattle.std.proofs.Common.{ℕ, ◌++◌, ap, ◌∙◌, arith}
+-- The pieces of a packet, and that they fit: its model says that it is a packet.
+use Rattle.std.proofs.Common.{ℕ, ◌++◌, ap, ◌∙◌}
 use Rattle.packet_fields.specs.Format.{number}
 use Rattle.codec.specs.declared.body.Body.{Body}
 use Rattle.codec.specs.Table.{kind_of, write_body}
@@ -18,4 +18,4 @@ returns-clause-written c =
     (c.in_ok-write_fields.ensures ∙ ap (λ (b : Body). c.u64-2.new.out.items ++ write_body b) c.body-2.ensures.body)
 
 pub returns-clause-fits : goal.returns-clause-fits
-returns-clause-fits c = packet_fits c.args.packet.now c.body.ensures.packet (omega (arith, c.job.ensures)) (rw c.to.ensures at c.word.ensures.address)
+returns-clause-fits c = packet_fits c.args.packet.now c.body.ensures.packet

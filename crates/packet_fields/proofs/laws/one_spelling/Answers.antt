@@ -1,8 +1,21 @@
 -- Each field keeps the laws of formats, and so has one spelling.
 use Rattle.packet_fields.specs.Fields as field
-use Rattle.packet_fields.proofs.FormatLaws.{one_spelling_of}
-use Rattle.packet_fields.proofs.FieldLaws.{actor_lawful, address_lawful, below_lawful, counted_lawful, epoch_lawful, frame_lawful, frames_lawful, goes_to_lawful, grant_lawful, hop_lawful, member_lawful, members_lawful, numbers_lawful, other_worker_lawful, outcome_lawful, place_lawful, progress_lawful, raised_lawful, records_lawful, signed_lawful, slot_lawful, slots_lawful, status_lawful, stolen_lawful, task_lawful, thread_lawful, worker_lawful}
+use Rattle.packet_fields.specs.Format.{number}
+use Rattle.packet_fields.proofs.FormatLaws.{number_lawful, one_spelling_of, wide1, wide2, wide4, wide8}
+use Rattle.packet_fields.proofs.FieldLaws.{actor_lawful, address_lawful, below_lawful, counted_lawful, epoch_lawful, frame_lawful, frames_lawful, goes_to_lawful, grant_lawful, hop_lawful, member_lawful, members_lawful, numbers_lawful, other_worker_lawful, outcome_lawful, place_lawful, progress_lawful, raised_lawful, records_lawful, signed_lawful, slot_lawful, slots_lawful, status_lawful, step_lawful, steps_lawful, stolen_lawful, task_lawful, thread_lawful, worker_lawful}
 use Rattle.packet_fields.proofs.laws.one_spelling.Goals as goal
+
+pub returns-clause-byte : goal.returns-clause-byte
+returns-clause-byte c = one_spelling_of (number 1) (number_lawful 1 wide1)
+
+pub returns-clause-two_bytes : goal.returns-clause-two_bytes
+returns-clause-two_bytes c = one_spelling_of (number 2) (number_lawful 2 wide2)
+
+pub returns-clause-four_bytes : goal.returns-clause-four_bytes
+returns-clause-four_bytes c = one_spelling_of (number 4) (number_lawful 4 wide4)
+
+pub returns-clause-eight_bytes : goal.returns-clause-eight_bytes
+returns-clause-eight_bytes c = one_spelling_of (number 8) (number_lawful 8 wide8)
 
 pub returns-clause-worker : goal.returns-clause-worker
 returns-clause-worker c = one_spelling_of field.worker worker_lawful
@@ -30,6 +43,12 @@ returns-clause-below c = λ next. one_spelling_of (field.below next) (below_lawf
 
 pub returns-clause-grant : goal.returns-clause-grant
 returns-clause-grant c = one_spelling_of field.grant grant_lawful
+
+pub returns-clause-step : goal.returns-clause-step
+returns-clause-step c = one_spelling_of field.step step_lawful
+
+pub returns-clause-steps : goal.returns-clause-steps
+returns-clause-steps c = one_spelling_of field.steps steps_lawful
 
 pub returns-clause-place : goal.returns-clause-place
 returns-clause-place c = one_spelling_of field.place place_lawful

@@ -7,5 +7,5 @@ use Rattle.packet_fields.proofs.read.place.Goals as goal
 pub returns : goal.returns
 unfolding field.place field.steps
 returns c =
-    let test : is_place c.in_ok-steps.steps ≡ true = is_place_read c.in_ok-count.count c.u16.new.self c.in_ok-steps.steps c.steps_of.new.input c.if-count-gt1024.false c.in_ok-steps.ensures in
+    let test : is_place c.in_ok-steps.steps ≡ true = is_place_read c.in_ok-count.count c.u16.new.self c.in_ok-steps.steps c.steps_of.new.input c.if-count-gt-MOST_STEPS.false c.in_ok-steps.ensures in
     search rules
