@@ -9,6 +9,7 @@ import tempfile
 import time
 
 LIMIT = 1_048_576
+CLOCK = "/usr/bin/time"
 ROOT = (2**63 + 1, 1)
 
 # Each of these gives the bytes, and the fields as tuples, numbers and places.
@@ -56,7 +57,7 @@ def offer(frames, records, steps):
     spelled, fields = header(8, 5)
     head = struct.pack(">QQQIQB", 3, *ROOT, 1, ROOT[0], 0)
     root, of_root = task(0, 0, 10)
-    count = frames + records
+    count = max(frames + records, 1)
     kept, of_kept = counted([frame(i, steps) for i in range(frames)])
     lent, of_lent = counted([record(frames + i, steps) for i in range(records)])
     spelled += head + root + struct.pack(">I", count) + kept + lent
@@ -84,9 +85,10 @@ def claims():
 
 
 def peak(program, file):
-    """The greatest memory in kB of the program while it reads a packet once."""
-    child = subprocess.Popen([program, "read", file, "1"], stdout=subprocess.DEVNULL, stderr=subprocess.DEVNULL)
-    return os.wait4(child.pid, 0)[2].ru_maxrss
+    """What the program says of a packet that it reads once, and its peak memory in KiB by GNU time."""
+    words = [CLOCK, "-f", "%M", program, "read", file, "1"]
+    said = subprocess.run(words, stdout=subprocess.DEVNULL, stderr=subprocess.PIPE, text=True).stderr.split()
+    return next((word for word in said if word.startswith("E3")), "read"), said[-1]
 
 
 def run_seconds(program, direction, file, rounds, tries=5):
@@ -138,12 +140,15 @@ def main():
                     other = pickle_seconds(pickle.dumps, fields, max(rounds // 10, 5))
                 cells.append(f"{each * 1e6:9.2f} {len(packet) / each / 1e6:9.0f} {each / other:9.2f}")
             print(f"{name:40} {len(packet):8} {' '.join(cells)}")
-        print(f"\n{'packet':52} {'bytes':>8} {'peak kB':>9}")
+        if not os.path.exists(CLOCK):
+            return
+        print(f"\n{'packet':52} {'bytes':>8} {'answer':>7} {'peak KiB':>9}")
         for name, packet in claims():
             file = os.path.join(folder, "packet")
             with open(file, "wb") as out:
                 out.write(packet)
-            print(f"{name:52} {len(packet):8} {peak(program, file):9}")
+            answer, memory = peak(program, file)
+            print(f"{name:52} {len(packet):8} {answer:>7} {memory:>9}")
 
 
 main()

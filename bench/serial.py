@@ -3,6 +3,7 @@ import os
 import shutil
 import subprocess
 import sys
+import tempfile
 import time
 
 PYTHON = """
@@ -53,15 +54,30 @@ def turns(n):
     return 2 * fib(n + 1) - 1 + fib(n + 1) - 1
 
 
+def long_texts():
+    """Programs of nearly 65,536 bytes: one of many short `let`s, and one of `let`s with longer expressions."""
+    for name, value in (("short lets", "n"), ("longer expressions", "(n * 3 + 1) % 97 ^ n << 2 | n - 5 & 12 < n")):
+        text, i = "thread main(k, n) {\n", 0
+        while len(text) < 65_400:
+            text, i = text + f"let a{i} = {value};\n", i + 1
+        yield name, text + "send_argument(k, n);\n}\n"
+
+
 def main():
+    with tempfile.TemporaryDirectory() as folder:
+        measure(folder)
+
+
+def measure(folder):
     program, text = sys.argv[1:]
     rows = [("cilknow serial", [program, "serial", text]), ("cilknow run", [program, "run", text])]
     rows.append(("CPython " + sys.version.split()[0], [sys.executable, "-c", PYTHON]))
     lua = shutil.which("lua5.4")
     if lua:
-        with open("/tmp/bench_serial_fib.lua", "w") as file:
+        script = os.path.join(folder, "fib.lua")
+        with open(script, "w") as file:
             file.write(LUA)
-        rows.append(("Lua 5.4", [lua, "/tmp/bench_serial_fib.lua"]))
+        rows.append(("Lua 5.4", [lua, script]))
     print(f"{os.cpu_count()} cores; each time is the least of 5, less that of the smallest input")
     times = {}
     for n in (24, 27):
@@ -78,6 +94,12 @@ def main():
         for _, words in rows[:2]:
             columns.append(f"{seconds_of([*words, str(n)], 3) * 1000:12.1f} {memory_of([*words, str(n)]):>12}")
         print(f"{n:5} {turns(n):10} {' '.join(columns)}")
+    print("\ntext                    bytes    check ms")
+    for name, text in long_texts():
+        file = os.path.join(folder, "text.ck")
+        with open(file, "w") as out:
+            out.write(text)
+        print(f"{name:20} {len(text):8} {seconds_of([program, 'check', file]) * 1000:11.1f}")
 
 
 main()

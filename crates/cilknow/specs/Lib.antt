@@ -2,3 +2,4 @@ pub mod Slots
 pub mod Sub
 pub mod Holding
 pub mod Outcome
+pub mod Status

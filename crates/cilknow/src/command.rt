@@ -1,3 +1,6 @@
+ghost use Rattle.std.specs.Prelude.{◌≡◌};
+ghost use Rattle.cilknow.specs.Status.{status_of};
+
 use crate::fault::SoloFault;
 use crate::solo::solo;
 use crate::words::{JobWords, Request, read_words};
@@ -31,7 +34,9 @@ pub enum CommandFault {
 impl CommandFault {
     /// The status that the program ends with: 1 for a text or an input that is refused, 2 for the words, 3 for a run without
     /// outcome, 4 for a file.
-    pub fn status(self) -> u8 {
+    pub fn status(self) -> u8
+        ensures { result ≡ status_of self }
+    {
         match self {
             CommandFault::Run(SoloFault::Memory | SoloFault::TurnsSpent)
             | CommandFault::TurnsSpent => 3,
@@ -167,7 +172,9 @@ pub fn command<R: Files + AllocGlobal, S: AsStr, O: Write, E: Write>(
 }
 
 /// Writes a fault to `err` as one line; the status to end with.
-pub fn refused<E: Write>(fault: CommandFault, err: &mut E) -> u8 {
+pub fn refused<E: Write>(fault: CommandFault, err: &mut E) -> u8
+    ensures { result ≡ status_of fault }
+{
     let _ = write_line(err, format_args!("cilknow: {fault}"));
     fault.status()
 }

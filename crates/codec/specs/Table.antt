@@ -7,6 +7,8 @@ use Rattle.packet_fields.specs.Format.{Format, ◌>>=◌, constant, followed, ma
 use Rattle.packet_fields.specs.Fields as field
 use Rattle.codec.specs.declared.body.Body.{Body}
 use Rattle.codec.specs.declared.body.Body.TheVariants as body
+use Rattle.codec.specs.declared.body.Kind.{Kind}
+use Rattle.codec.specs.declared.body.Kind.TheVariants as kinds
 use Rattle.codec.specs.declared.body.Join.{Join}
 use Rattle.codec.specs.declared.body.Roster.{Roster}
 use Rattle.codec.specs.declared.body.Steal.{Steal}
@@ -20,28 +22,35 @@ use Rattle.codec.specs.declared.body.Leave.{Leave}
 use Rattle.codec.specs.declared.body.Abort.{Abort}
 use Rattle.codec.specs.declared.body.Beat.{Beat}
 
+-- a worker wants to be a member
 unfoldable pub join : Format Join
 join = made field.worker (λ x. record { from = x }) (λ b. b.from)
 
+-- the members of an epoch, in a version that counts their changes
 unfoldable pub roster : Format Roster
 roster = made (followed field.epoch (λ _. followed field.counted (λ _. field.members))) (λ x. record { epoch = x.0; version = x.1.0; members = x.1.1 }) (λ b. (b.epoch, (b.version, b.members)))
 
+-- a worker asks for work
 unfoldable pub steal : Format Steal
 steal = made (followed field.worker (λ _. field.counted)) (λ x. record { from = x.0; seq = x.1 }) (λ b. (b.from, b.seq))
 
+-- the task that a request is answered with, under the name of its grant
 unfoldable pub granted : Format Grant
 granted = made (followed field.counted (λ _. followed field.grant (λ _. field.task))) (λ x. record { seq = x.0; grant = x.1.0; task = x.1.1 }) (λ b. (b.seq, (b.grant, b.task)))
 
+-- a request is answered with no work
 unfoldable pub refuse : Format Refuse
 refuse = made field.counted (λ x. record { seq = x }) (λ b. b.seq)
 
+-- the outcome of a granted task
 unfoldable pub task_result : Format TaskResult
 task_result = made (followed field.worker (λ _. followed field.grant (λ _. field.outcome))) (λ x. record { from = x.0; grant = x.1.0; outcome = x.1.1 }) (λ b. (b.from, (b.grant, b.outcome)))
 
+-- the outcome of a grant has come
 unfoldable pub result_ack : Format ResultAck
 result_ack = made field.grant (λ x. record { grant = x }) (λ b. b.grant)
 
--- frames and records have numbers below the next one, and there are none where the subcomputation is finished
+-- a subcomputation for the heir: frames and records have numbers below the next one, and there are none where it is finished
 unfoldable pub offer : Format Offer
 offer =
     made
@@ -61,22 +70,40 @@ offer =
     })
     (λ b. (b.from, (b.grant, (b.hop, (b.parent, (b.progress, (b.task, (b.next, (b.frames, b.records)))))))))
 
+-- an offer of this hop was taken, or a grant for hop 0
 unfoldable pub offer_ack : Format OfferAck
 offer_ack = made (followed field.worker (λ _. followed field.grant (λ _. field.hop))) (λ x. record { from = x.0; grant = x.1.0; hop = x.1.1 }) (λ b. (b.from, (b.grant, b.hop)))
 
--- the heir is another worker
+-- a worker leaves; its heir is another worker
 unfoldable pub leave : Format Leave
 leave =
     made (followed field.worker (λ from. field.other_worker from)) (λ x. record { from = x.0; heir = x.1 })
     (λ b. (b.from, b.heir))
 
+-- the outcome of a grant isn't wanted any more
 unfoldable pub abort : Format Abort
 abort = made field.grant (λ x. record { grant = x }) (λ b. b.grant)
 
+-- a worker lives, and has a roster of this version
 unfoldable pub beat : Format Beat
 beat = made (followed field.worker (λ _. field.counted)) (λ x. record { from = x.0; version = x.1 }) (λ b. (b.from, b.version))
 
 -- the number of a kind
+abbrev pub number_of : Kind → ℕ
+number_of kinds.Join = 1
+number_of kinds.Roster = 2
+number_of kinds.Steal = 3
+number_of kinds.Grant = 4
+number_of kinds.Refuse = 5
+number_of kinds.Result = 6
+number_of kinds.ResultAck = 7
+number_of kinds.Offer = 8
+number_of kinds.OfferAck = 9
+number_of kinds.Leave = 10
+number_of kinds.Abort = 11
+number_of kinds.Beat = 12
+
+-- the number of the kind of a body
 abbrev pub kind_of : Body → ℕ
 kind_of (body.Join b) = 1
 kind_of (body.Roster b) = 2

@@ -111,3 +111,20 @@ pub enum Body {
     Abort(Abort),
     Beat(Beat),
 }
+
+/// The kinds of packets.
+#[derive(Clone, Copy, PartialEq, Eq, Debug)]
+pub enum Kind {
+    Join,
+    Roster,
+    Steal,
+    Grant,
+    Refuse,
+    Result,
+    ResultAck,
+    Offer,
+    OfferAck,
+    Leave,
+    Abort,
+    Beat,
+}

@@ -4,7 +4,7 @@ ghost use Rattle.codec.specs.Table.{PacketOf, Spells};
 ghost use Rattle.codec.specs.Table as table;
 ghost use Rattle.packet_fields.specs.Fields as field;
 
-use crate::body::Body;
+use crate::body::{Body, Kind};
 use crate::fields::read_fields;
 use crate::packet::{Packet, suits};
 use ids::Address;
@@ -39,10 +39,9 @@ fn parts_of(input: &mut Input<'_>) -> Result<Parts, ReadError>
     if input.byte()? != VERSION {
         return Err(ReadError::Fault(Fault::Version));
     }
-    let kind = input.byte()?;
-    if kind == 0 || kind > 12 {
+    let Some(kind) = Kind::of(input.byte()?) else {
         return Err(ReadError::Fault(Fault::Kind));
-    }
+    };
     let job = input.u64()?;
     let to = address(kind, input)?;
     let body = read_fields(kind, input)?;
@@ -50,8 +49,8 @@ fn parts_of(input: &mut Input<'_>) -> Result<Parts, ReadError>
 }
 
 /// Whom a packet of a kind goes to.
-fn address(kind: u8, input: &mut Input<'_>) -> Result<Address, ReadError>
-    ensures { Gives (λ x. (x, input.new)) result ((field.address (table.suits kind)).read input.old) }
+fn address(kind: Kind, input: &mut Input<'_>) -> Result<Address, ReadError>
+    ensures { Gives (λ x. (x, input.new)) result ((field.address (table.suits (table.number_of kind))).read input.old) }
 {
     let word = input.u64()?;
     match Address::of(word) {

@@ -39,7 +39,7 @@ fn put(packet: &Packet, out: &mut Vec<u8>) -> Result<(), AllocError>
 {
     write::u16(out, MAGIC)?;
     write::byte(out, VERSION)?;
-    write::byte(out, kind_of(packet.body()))?;
+    write::byte(out, kind_of(packet.body()).number())?;
     write::u64(out, packet.job())?;
     write::u64(out, packet.to().word())?;
     write_fields(packet.body(), out)?;

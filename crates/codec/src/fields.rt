@@ -1,12 +1,13 @@
 //! The fields of each kind of packet, listed once, for reading, for writing and for the test of what can be written.
-ghost use Rattle.std.specs.Prelude.{◌≡◌, ◌++◌, OnOk};
+ghost use Rattle.std.specs.Prelude.{◌≡◌, ◌++◌, IfSome, IsNone, OnOk, false};
 ghost use Rattle.packet_fields.specs.Format.{Gives};
 ghost use Rattle.codec.specs.Table as table;
 
 use crate::body::{
-    Abort, Beat, Body, TaskResult, Grant, Join, Leave, Offer, OfferAck, Refuse, ResultAck, Roster, Steal,
+    Abort, Beat, Body, Grant, Join, Kind, Leave, Offer, OfferAck, Refuse, ResultAck, Roster, Steal,
+    TaskResult,
 };
-use packet_fields::{Fault, Input, ReadError, fits, read, write};
+use packet_fields::{Input, ReadError, fits, read, write};
 use std::alloc::AllocError;
 
 /// Hands the table of kinds to another macro: a kind's number, its variant, its struct, and the fields with their formats
@@ -33,7 +34,24 @@ macro_rules! each_field {
 macro_rules! kind_arms {
     ([$body:ident] $($number:literal $variant:ident: $struct:ident { $($field:ident: $format:ident $(($($context:ident),*))?),* })*) => {
         match $body {
-            $(Body::$variant(_) => $number,)*
+            $(Body::$variant(_) => Kind::$variant,)*
+        }
+    };
+}
+
+macro_rules! number_arms {
+    ([$kind:ident] $($number:literal $variant:ident: $struct:ident { $($field:ident: $format:ident $(($($context:ident),*))?),* })*) => {
+        match $kind {
+            $(Kind::$variant => $number,)*
+        }
+    };
+}
+
+macro_rules! numbered_arms {
+    ([$byte:ident] $($number:literal $variant:ident: $struct:ident { $($field:ident: $format:ident $(($($context:ident),*))?),* })*) => {
+        match $byte {
+            $($number => Some(Kind::$variant),)*
+            _ => None,
         }
     };
 }
@@ -41,11 +59,10 @@ macro_rules! kind_arms {
 macro_rules! read_arms {
     ([$kind:ident $input:ident] $($number:literal $variant:ident: $struct:ident { $($field:ident: $format:ident $(($($context:ident),*))?),* })*) => {
         match $kind {
-            $($number => {
+            $(Kind::$variant => {
                 $(let $field = read::$format($($(&$context,)*)? $input)?;)*
                 Ok(Body::$variant($struct { $($field),* }))
             })*
-            _ => Err(ReadError::Fault(Fault::Kind)),
         }
     };
 }
@@ -70,17 +87,34 @@ macro_rules! fits_arms {
     };
 }
 
-/// The number of a packet's kind.
-pub fn kind_of(body: &Body) -> u8
-    ensures { result ≡ table.kind_of body.now }
+impl Kind {
+    /// The kind with a number; none where no kind has it.
+    pub fn of(number: u8) -> Option<Kind>
+        ensures some { IfSome result (λ k. table.number_of k ≡ number) }
+        ensures none { IsNone result → table.is_kind number ≡ false }
+    {
+        each_field!(numbered_arms! number)
+    }
+
+    /// The number of the kind.
+    pub fn number(self) -> u8
+        ensures { result ≡ table.number_of self }
+    {
+        each_field!(number_arms! self)
+    }
+}
+
+/// The kind of a packet that says this.
+pub fn kind_of(body: &Body) -> Kind
+    ensures { table.number_of result ≡ table.kind_of body.now }
 {
     each_field!(kind_arms! body)
 }
 
 /// The fields of a kind.
 #[tactic(auto, unfolding(crate::specs::Table::fields, crate::specs::Table::join, crate::specs::Table::roster, crate::specs::Table::steal, crate::specs::Table::granted, crate::specs::Table::refuse, crate::specs::Table::task_result, crate::specs::Table::result_ack, crate::specs::Table::offer, crate::specs::Table::offer_ack, crate::specs::Table::leave, crate::specs::Table::abort, crate::specs::Table::beat))]
-pub fn read_fields(kind: u8, input: &mut Input<'_>) -> Result<Body, ReadError>
-    ensures { Gives (λ x. (x, input.new)) result ((table.fields kind).read input.old) }
+pub fn read_fields(kind: Kind, input: &mut Input<'_>) -> Result<Body, ReadError>
+    ensures { Gives (λ x. (x, input.new)) result ((table.fields (table.number_of kind)).read input.old) }
 {
     each_field!(read_arms! kind input)
 }

@@ -11,7 +11,8 @@ mod packet;
 mod tests;
 
 pub use body::{
-    Abort, Beat, Body, TaskResult, Grant, Join, Leave, Offer, OfferAck, Refuse, ResultAck, Roster, Steal,
+    Abort, Beat, Body, Grant, Join, Leave, Offer, OfferAck, Refuse, ResultAck, Roster, Steal,
+    TaskResult,
 };
 pub use decoding::decode;
 pub use encoding::{EncodeError, encode};

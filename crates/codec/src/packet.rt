@@ -1,7 +1,7 @@
 ghost use Rattle.std.specs.Prelude.{◌≡◌, IsTrue, Some, None, if◌then◌else◌};
 ghost use Rattle.codec.specs.Table as table;
 
-use crate::body::Body;
+use crate::body::{Body, Kind};
 use crate::fields::{fields_fit, kind_of};
 use ids::Address;
 use std::marker::Model;
@@ -73,15 +73,15 @@ impl Packet {
 }
 
 /// Whether a kind goes to an address.
-pub fn suits(kind: u8, to: Address) -> bool
-    ensures { result ≡ table.suits kind to }
+pub fn suits(kind: Kind, to: Address) -> bool
+    ensures { result ≡ table.suits (table.number_of kind) to }
 {
     let word = to.word();
     let any_house = Address::any_house().word();
     match kind {
-        1 => word == any_house,
-        3 | 6 => word != any_house,
-        10 | 12 => word > any_house,
+        Kind::Join => word == any_house,
+        Kind::Steal | Kind::Result => word != any_house,
+        Kind::Leave | Kind::Beat => word > any_house,
         _ => word < any_house,
     }
 }

@@ -46,7 +46,7 @@ impl Incarnation {
     }
 }
 
-/// Who acts: a worker's incarnation, or the clearinghouse in an epoch, which is named 2^63 and the epoch. Contracts see
+/// Who acts: a worker's incarnation, or the clearinghouse in an epoch, which is named 2^63 plus the epoch. Contracts see
 /// the number.
 #[derive(Clone, Copy, PartialEq, Eq, Debug)]
 pub struct Actor {

@@ -65,7 +65,7 @@ impl Place {
         }
     }
 
-    /// The place of the kid of a hole, 1 to 8. `Full` comes only at 1,024 steps.
+    /// The place of the kid of a hole, 1 to 8, and for 0 that of the successor. `Full` comes only at 1,024 steps.
     pub fn child(&self, alloc: Global, hole: u8) -> Result<Place, PlaceError>
         requires { hole < 9 }
         ensures place { IfOk result (λ p. p ≡ hole ∷ self.now) }

@@ -120,7 +120,7 @@ impl Checked {
         &self.program
     }
 
-    /// How many threads the program has, 1 to 64. It takes no memory.
+    /// How many threads the program has, at most 64. It takes no memory.
     pub fn threads(&self) -> usize
         ensures count { result ≡ length self.now.threads }
         ensures few { result < 65 }

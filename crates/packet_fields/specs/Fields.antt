@@ -54,6 +54,7 @@ raised = checked (number 4) (λ n. nat_lt 0 n)
 abbrev pub below : ℕ → Format ℕ
 below next = checked (number 4) (λ n. nat_lt n next)
 
+-- the name of a grant: who minted it, then its number
 unfoldable pub grant : Format Grant
 grant = made (followed actor (λ minter. counted)) (λ p. record { minter = p.0; number = p.1 }) (λ g. (g.minter, g.number))
 
@@ -69,6 +70,7 @@ steps = listed 2 (at_most 1024) (plain step)
 unfoldable pub place : Format (List ℕ)
 place = made steps reverse reverse
 
+-- the number of a thread, below 64
 unfoldable pub thread : Format ℕ
 thread = checked (number 1) (λ t. nat_lt t 64)
 
@@ -86,9 +88,11 @@ signed = record {
   fits = is_word;
 }
 
+-- at most 8 signed numbers behind their count
 unfoldable pub numbers : Format (List ℤ)
 numbers = listed 1 (at_most 8) (plain signed)
 
+-- a thread on numbers, and where it stands
 unfoldable pub task : Format Task
 task =
     made (followed place (λ _. followed thread (λ _. numbers)))
@@ -154,6 +158,7 @@ slot_arm (suc (suc n)) = never Field
 unfoldable pub slot : Format (Option ℤ)
 slot = chosen (number 1) slot_arm tag_of_slot
 
+-- at most 8 slots behind their count
 unfoldable pub slots : Format (List (Option ℤ))
 slots = listed 1 (at_most 8) (plain slot)
 

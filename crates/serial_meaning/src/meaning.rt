@@ -45,7 +45,8 @@ impl<T: Drop> From<AllocFailed<T>> for SerialError {
 }
 
 /// The meaning of a job, in at most `max_turns` turns: kids in the order of their holes, then the successor, ending at
-/// the first place that is too deep. The memory that it takes grows with the depth alone.
+/// the first place that is too deep. The memory that it takes grows with the depth times the numbers in scope there, and
+/// not with the turns.
 #[tactic(auto, using(crate::proofs::MeaningLaws::meaning_is, crate::proofs::MeaningLaws::turns_are))]
 pub fn serial(alloc: Global, job: &Job, max_turns: u64) -> Result<Outcome, SerialError>
     ensures meaning { IfOk result (λ o. o ≡ meaning job.now.program job.now.input) }

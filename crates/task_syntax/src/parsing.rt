@@ -36,8 +36,7 @@ fn beyond_ascii(text: &[u8]) -> Option<usize>
     text.iter().position(|b| *b >= 128)
 }
 
-/// That the answer of `parse` is the only one, but for want of memory: a text that is read meets no refusal, and
-/// another meets one alone. Does nothing.
+/// A text meets at most one refusal, and a text that is read meets none. Does nothing.
 pub fn answers_are_exact()
     ensures one_refusal { (text : List ℕ) (e f : ParseError) → MeetsText text e → MeetsText text f → e ≡ f }
     ensures not_both { (text : List ℕ) (p : Program) (e : ParseError) → Reads text p → MeetsText text e → ⊥ }

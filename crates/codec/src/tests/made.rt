@@ -1,9 +1,9 @@
 //! Packets made of their parts, as the examples have them.
 
-use super::example;
+use super::{answer, example, is_kept};
 use crate::{
-    Abort, Beat, Body, TaskResult, EncodeError, Frame, Grant, Join, Leave, Member, Offer, OfferAck,
-    Packet, Progress, Record, Refuse, ResultAck, Roster, Status, Steal, Task, decode, encode,
+    Abort, Beat, Body, EncodeError, Frame, Grant, Join, Leave, Member, Offer, OfferAck, Packet,
+    Progress, Record, Refuse, ResultAck, Roster, Status, Steal, Task, TaskResult, decode, encode,
 };
 use ids::{
     Actor, Address, Count, Epoch, FrameNo, GrantId, Hop, Incarnation, Listed, Outcome, Place,
@@ -317,14 +317,14 @@ fn offer(
     }))
 }
 
-fn finished_offer(alloc: Global) -> Option<Body> {
+fn finished_offer(alloc: Global, outcome: Outcome) -> Option<Body> {
     let parent = Actor::worker(worker(4)?);
     Some(Body::Offer(Offer {
         from: worker(3)?,
         grant: grant(parent, 2)?,
         hop: Hop::of(2),
         parent,
-        progress: Progress::Finished(Outcome::Value(89)),
+        progress: Progress::Finished(outcome),
         task: task(alloc, &[], 0, &[])?,
         next: FrameNo::of(1),
         frames: Listed::new(alloc),
@@ -337,7 +337,10 @@ fn offers_are_written(rt: HostRuntime) -> Result<(), Fail> {
     let alloc = rt.alloc();
     let active = offer(alloc, Progress::Active, 1, 5, (1, 4));
     assert!(rt; is_written(alloc, to_worker(5), active, "OFFER")?);
-    assert!(rt; is_written(alloc, to_worker(5), finished_offer(alloc), "FINISHED_OFFER")?);
+    let finished = finished_offer(alloc, Outcome::Value(89));
+    assert!(rt; is_written(alloc, to_worker(5), finished, "FINISHED_OFFER")?);
+    let finished = finished_offer(alloc, Outcome::TooDeep);
+    assert!(rt; is_written(alloc, to_worker(5), finished, "TOO_DEEP_OFFER")?);
     Ok(())
 }
 
@@ -388,19 +391,22 @@ fn each_kind_has_its_addresses(rt: HostRuntime) -> Result<(), Fail> {
     Ok(())
 }
 
-fn long_frames(alloc: Global, count: u32) -> Option<Listed<Frame>> {
+/// 1,029 frames at places of 1,000 steps, each of 1,018 bytes, and one at a place of so many.
+fn long_frames(alloc: Global, last: usize) -> Option<Listed<Frame>> {
     let mut frames = Listed::new(alloc);
     let steps = [0; 1000];
-    for number in 0..count {
+    for number in 0..1030 {
+        let length = if number < 1029 { 1000 } else { last };
+        let steps = steps.get(..length)?;
         frames
-            .push(frame(alloc, number, &steps, 0, &[Some(1)], Return::Whole)?)
+            .push(frame(alloc, number, steps, 0, &[Some(1)], Return::Whole)?)
             .ok()?;
     }
     Some(frames)
 }
 
-/// An offer of so many frames at places of 1,000 steps, each of 1,018 bytes.
-fn long_offer(alloc: Global, count: u32) -> Option<Packet> {
+/// An offer of these frames.
+fn long_offer(alloc: Global, last: usize) -> Option<Packet> {
     let body = Body::Offer(Offer {
         from: worker(3)?,
         grant: root()?,
@@ -408,23 +414,43 @@ fn long_offer(alloc: Global, count: u32) -> Option<Packet> {
         parent: house()?,
         progress: Progress::Active,
         task: root_task(alloc)?,
-        next: FrameNo::of(count),
-        frames: long_frames(alloc, count)?,
+        next: FrameNo::of(1030),
+        frames: long_frames(alloc, last)?,
         records: Listed::new(alloc),
     });
     Packet::of(7, to_worker(5)?, body)
 }
 
+/// The spelling of such an offer.
+fn long_bytes(alloc: Global, last: usize) -> Result<Vec<u8>, Fail> {
+    let packet = long_offer(alloc, last).ok_or("a packet")?;
+    Ok(encode(alloc, &packet)?)
+}
+
+/// Whether such an offer is too big to be written.
+fn is_too_big(alloc: Global, last: usize) -> Result<bool, Fail> {
+    let packet = long_offer(alloc, last).ok_or("a packet")?;
+    Ok(encode(alloc, &packet).err() == Some(EncodeError::TooBig))
+}
+
+/// The spelling of the offer whose last place has 955 steps, with one step more in that place.
+fn one_step_more(alloc: Global, bytes: &[u8]) -> Option<Vec<u8>> {
+    let (before, place) = bytes.split_at_checked(77 + 1029 * 1018 + 4)?;
+    let mut longer = Vec::from_slice(alloc, before).ok()?;
+    longer.extend_from_slice(&[0x03, 0xBC, 0]).ok()?;
+    longer.extend_from_slice(place.get(2..)?).ok()?;
+    Some(longer)
+}
+
 #[test]
 fn a_packet_has_at_most_1048576_bytes(rt: HostRuntime) -> Result<(), Fail> {
     let alloc = rt.alloc();
-    let bytes = encode(alloc, &long_offer(alloc, 1029).ok_or("a packet")?)?;
-    assert_eq!(rt; bytes.len(), 81 + 1029 * 1018);
-    let packet = decode(alloc, bytes.as_slice())?;
-    assert_eq!(rt; encode(alloc, &packet)?.as_slice(), bytes.as_slice());
-    assert_eq!(rt;
-        encode(alloc, &long_offer(alloc, 1030).ok_or("a packet")?).err(),
-        Some(EncodeError::TooBig)
-    );
+    let bytes = long_bytes(alloc, 955)?;
+    assert_eq!(rt; bytes.len(), 1_048_576);
+    assert!(rt; is_kept(alloc, bytes.as_slice())?);
+    let longer = one_step_more(alloc, bytes.as_slice()).ok_or("bytes")?;
+    assert_eq!(rt; longer.len(), 1_048_577);
+    assert_eq!(rt; answer(alloc, longer.as_slice())?.as_str(), "E30");
+    assert!(rt; is_too_big(alloc, 956)?);
     Ok(())
 }

@@ -12,7 +12,7 @@ returns-clause-written c =
     packet_written c.args.packet.now c.args.out.now.items c.u16.new.out.items c.byte.new.out.items c.byte-2.new.out.items c.u64.new.out.items c.u64-2.new.out.items c.write_fields.new.out.items
     c.in_ok-u16.ensures
     c.in_ok-byte.ensures
-    (c.in_ok-byte-2.ensures ∙ ap (λ (kind : ℕ). c.byte.new.out.items ++ (number 1).write kind) (c.kind_of.ensures ∙ ap kind_of c.body.ensures.body))
+    (c.in_ok-byte-2.ensures ∙ ap (λ (kind : ℕ). c.byte.new.out.items ++ (number 1).write kind) (c.number.ensures ∙ c.kind_of.ensures ∙ ap kind_of c.body.ensures.body))
     (c.in_ok-u64.ensures ∙ ap (λ (job : ℕ). c.byte-2.new.out.items ++ (number 8).write job) c.job.ensures)
     (c.in_ok-u64-2.ensures ∙ ap (λ (to : ℕ). c.u64.new.out.items ++ (number 8).write to) (c.word.ensures.same ∙ c.to.ensures))
     (c.in_ok-write_fields.ensures ∙ ap (λ (b : Body). c.u64-2.new.out.items ++ write_body b) c.body-2.ensures.body)
