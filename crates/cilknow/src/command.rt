@@ -4,7 +4,6 @@ ghost use Rattle.cilknow.specs.Status.{status_of};
 use crate::fault::SoloFault;
 use crate::solo::solo;
 use crate::words::{JobWords, Request, read_words};
-use clap::Error;
 use clap::error::ErrorKind;
 use kind_check::{Checked, check};
 use serial_meaning::{Job, Outcome, SerialError, serial};
@@ -14,20 +13,25 @@ use std::io::{self, Read, Write};
 use std::rt::Files;
 use std::{fmt, fs};
 use task_syntax::parse;
+use thiserror::Error;
 
 /// One byte more than the longest text.
 const MOST_BYTES: u64 = 65_537;
 
 /// Why a command ends without its answer.
-#[derive(Clone, Copy, Debug, PartialEq, Eq)]
+#[derive(Clone, Copy, Debug, PartialEq, Eq, Error)]
 pub enum CommandFault {
     /// The words ask for nothing that is there.
+    #[error("usage")]
     Usage,
     /// A file can't be read, or the answer can't be written.
+    #[error("file")]
     File,
     /// The text or the input is refused, or there is no outcome.
+    #[error(transparent)]
     Run(SoloFault),
     /// E20: more turns than `--turns` would be needed.
+    #[error("E20")]
     TurnsSpent,
 }
 
@@ -43,17 +47,6 @@ impl CommandFault {
             CommandFault::Run(SoloFault::Parse(_) | SoloFault::Kind(_) | SoloFault::Input(_)) => 1,
             CommandFault::Usage => 2,
             CommandFault::File => 4,
-        }
-    }
-}
-
-impl fmt::Display for CommandFault {
-    fn fmt<W: fmt::Write>(&self, f: &mut fmt::Formatter<W>) -> fmt::Result {
-        match self {
-            CommandFault::Usage => f.write_str("usage"),
-            CommandFault::File => f.write_str("file"),
-            CommandFault::Run(fault) => write!(f, "{fault}"),
-            CommandFault::TurnsSpent => f.write_str("E20"),
         }
     }
 }
@@ -141,7 +134,7 @@ fn answer<R: Files + AllocGlobal, O: Write>(
 }
 
 /// What is told of a command line that asks for no answer: a fault, or a text to be shown.
-fn shown<O: Write>(error: Error, out: &mut O) -> Result<(), CommandFault> {
+fn shown<O: Write>(error: clap::Error, out: &mut O) -> Result<(), CommandFault> {
     match error.kind() {
         ErrorKind::DisplayHelp | ErrorKind::DisplayVersion => {
             write!(out, "{error}").map_err(|_| CommandFault::File)?;
