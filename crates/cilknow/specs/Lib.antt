@@ -3,3 +3,4 @@ pub mod Sub
 pub mod Holding
 pub mod Outcome
 pub mod Status
+pub mod Faults

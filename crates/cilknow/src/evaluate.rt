@@ -3,7 +3,7 @@ ghost use Rattle.serial_meaning.specs.Places.{meaning, value_at};
 ghost use Rattle.serial_meaning.specs.Agrees.{numbers_in, given_of};
 ghost use Rattle.cilknow.specs.Slots.{filled_with};
 
-use crate::fault::SoloFault;
+use crate::fault::RunFault;
 use crate::frames::{Filled, Frame, Frames, Return, fill, insert, missing, remove};
 use crate::ready::Ready;
 use body_eval::{Slot, Turn, turn};
@@ -73,7 +73,7 @@ impl<'a> Run<'a> {
     ghost use Rattle.cilknow.specs.Holding.{frames_of, RunHolds, TakenHolds, FrameFits, IsAdded, TaskJoins, IsJoining};
 
     /// A run whose only frame, a ready one, is that of the root task.
-    fn start(alloc: Global, job: &'a Job) -> Result<Run<'a>, SoloFault>
+    fn start(alloc: Global, job: &'a Job) -> Result<Run<'a>, RunFault>
         ensures job { IfOk result (λ run. run.job.now ≡ job.now) }
         ensures holds { IfOk result (λ run. RunHolds run) }
     {
@@ -95,7 +95,7 @@ impl<'a> Run<'a> {
     }
 
     /// Takes the newest ready frame of the greatest level; none where no frame is ready.
-    fn take(&mut self, alloc: Global) -> Result<Option<Taken>, SoloFault>
+    fn take(&mut self, alloc: Global) -> Result<Option<Taken>, RunFault>
         requires { RunHolds self.old }
         ensures job { self.new.job.now ≡ self.old.job.now }
         ensures holds { OnOk result (RunHolds self.new) }
@@ -122,7 +122,7 @@ impl<'a> Run<'a> {
     }
 
     /// Gives the value of a task to whom it is owed: it is the outcome of the whole, or fills a slot of a frame.
-    fn send(&mut self, task: &Taken, value: i64) -> Result<Option<Outcome>, SoloFault>
+    fn send(&mut self, task: &Taken, value: i64) -> Result<Option<Outcome>, RunFault>
         requires holds { RunHolds self.old }
         requires task { TakenHolds self.old task.now }
         requires value { value_at self.old.job.now.program self.old.job.now.input task.now.place ≡ Some value }
@@ -142,7 +142,7 @@ impl<'a> Run<'a> {
     }
 
     /// Adds a frame under the next number, and posts it where it is ready.
-    fn add(&mut self, frame: Frame) -> Result<u64, SoloFault>
+    fn add(&mut self, frame: Frame) -> Result<u64, RunFault>
         requires holds { RunHolds self.old }
         requires frame { FrameFits self.old.job.now (frames_of self.old) frame }
         ensures job { self.new.job.now ≡ self.old.job.now }
@@ -152,7 +152,7 @@ impl<'a> Run<'a> {
         let number = self.next;
         let level = frame.place.level();
         let empty = missing(frame.slots.as_slice());
-        self.next = number.checked_add(1).ok_or(SoloFault::Memory)?;
+        self.next = number.checked_add(1).ok_or(RunFault::Memory)?;
         insert(&mut self.frames, number, frame)?;
         if empty == 0 {
             self.ready.post(level, number)?;
@@ -168,7 +168,7 @@ impl<'a> Run<'a> {
         place: Place,
         thread: u8,
         slots: &[Slot],
-    ) -> Result<u64, SoloFault>
+    ) -> Result<u64, RunFault>
         requires holds { RunHolds self.old }
         requires task { TakenHolds self.old task.now }
         requires joins { TaskJoins self.old.job.now task.now.thread task.now.numbers thread slots.now }
@@ -195,7 +195,7 @@ impl<'a> Run<'a> {
         successor: u64,
         slots: &[Slot],
         index: usize,
-    ) -> Result<(), SoloFault>
+    ) -> Result<(), RunFault>
         requires joining { IsJoining self.old task.now successor slots.now index }
         requires index { index < length slots.now }
         ensures job { self.new.job.now ≡ self.old.job.now }
@@ -221,7 +221,7 @@ impl<'a> Run<'a> {
         task: &Taken,
         thread: u8,
         slots: &[Slot],
-    ) -> Result<Option<Outcome>, SoloFault>
+    ) -> Result<Option<Outcome>, RunFault>
         requires holds { RunHolds self.old }
         requires task { TakenHolds self.old task.now }
         requires joins { TaskJoins self.old.job.now task.now.thread task.now.numbers thread slots.now }
@@ -232,7 +232,7 @@ impl<'a> Run<'a> {
         let place = match task.place.next(alloc) {
             Ok(place) => place,
             Err(PlaceError::Full) => return Ok(Some(Outcome::TooDeep)),
-            Err(PlaceError::Memory) => return Err(SoloFault::Memory),
+            Err(PlaceError::Memory) => return Err(RunFault::Memory),
         };
         let successor = self.add_successor(alloc, task, place, thread, slots)?;
         for index in 0..slots.len() {
@@ -242,14 +242,14 @@ impl<'a> Run<'a> {
     }
 
     /// One turn: the newest ready frame of the greatest level runs. The outcome, if that ends the whole.
-    fn turn(&mut self, alloc: Global) -> Result<Option<Outcome>, SoloFault>
+    fn turn(&mut self, alloc: Global) -> Result<Option<Outcome>, RunFault>
         requires { RunHolds self.old }
         ensures job { self.new.job.now ≡ self.old.job.now }
         ensures holds { IfOk result (λ o. IfNone o (RunHolds self.new)) }
         ensures outcome { IfOk result (λ o. IfSome o (λ x. x ≡ meaning self.old.job.now.program self.old.job.now.input)) }
     {
         let Some(task) = self.take(alloc)? else {
-            return Err(SoloFault::TurnsSpent);
+            return Err(RunFault::TurnsSpent);
         };
         match turn(
             alloc,
@@ -264,7 +264,7 @@ impl<'a> Run<'a> {
 }
 
 /// The outcome of a job, in at most so many turns on one node.
-pub fn evaluate(alloc: Global, job: &Job, turns: u64) -> Result<Outcome, SoloFault>
+pub fn evaluate(alloc: Global, job: &Job, turns: u64) -> Result<Outcome, RunFault>
     ensures { IfOk result (λ o. o ≡ meaning job.now.program job.now.input) }
 {
     let mut run = Run::start(alloc, job)?;
@@ -273,5 +273,5 @@ pub fn evaluate(alloc: Global, job: &Job, turns: u64) -> Result<Outcome, SoloFau
             return Ok(outcome);
         }
     }
-    Err(SoloFault::TurnsSpent)
+    Err(RunFault::TurnsSpent)
 }

@@ -1,3 +1,7 @@
+ghost use Rattle.std.specs.Prelude.{◌≡◌};
+ghost use Rattle.cilknow.specs.Faults.{of_kinds, of_run, of_text};
+ghost use Rattle.cilknow.specs.declared.fault.SoloFault.TheVariants as solo;
+
 use ids::PlaceError;
 use kind_check::KindError;
 use serial_meaning::JobError;
@@ -26,6 +30,8 @@ pub enum SoloFault {
 }
 
 impl From<ParseError> for SoloFault {
+    ghost from_gives = { λ e f. f ≡ of_text e };
+
     fn from(e: ParseError) -> SoloFault {
         match e {
             ParseError::Memory => SoloFault::Memory,
@@ -35,6 +41,8 @@ impl From<ParseError> for SoloFault {
 }
 
 impl From<KindError> for SoloFault {
+    ghost from_gives = { λ e f. f ≡ of_kinds e };
+
     fn from(e: KindError) -> SoloFault {
         match e {
             KindError::Memory => SoloFault::Memory,
@@ -44,26 +52,48 @@ impl From<KindError> for SoloFault {
 }
 
 impl From<JobError> for SoloFault {
+    ghost from_gives = { λ e f. f ≡ solo.Input e };
+
     fn from(e: JobError) -> SoloFault {
         SoloFault::Input(e)
     }
 }
 
-impl From<AllocError> for SoloFault {
-    fn from(_e: AllocError) -> SoloFault {
-        SoloFault::Memory
+/// Why a run ends without its outcome.
+#[derive(Clone, Copy, Debug, PartialEq, Eq)]
+pub enum RunFault {
+    /// E95: more turns would be needed.
+    TurnsSpent,
+    /// E9: there is no memory.
+    Memory,
+}
+
+impl From<RunFault> for SoloFault {
+    ghost from_gives = { λ e f. f ≡ of_run e };
+
+    fn from(e: RunFault) -> SoloFault {
+        match e {
+            RunFault::TurnsSpent => SoloFault::TurnsSpent,
+            RunFault::Memory => SoloFault::Memory,
+        }
     }
 }
 
-impl<T: Drop> From<AllocFailed<T>> for SoloFault {
-    fn from(_e: AllocFailed<T>) -> SoloFault {
-        SoloFault::Memory
+impl From<AllocError> for RunFault {
+    fn from(_e: AllocError) -> RunFault {
+        RunFault::Memory
+    }
+}
+
+impl<T: Drop> From<AllocFailed<T>> for RunFault {
+    fn from(_e: AllocFailed<T>) -> RunFault {
+        RunFault::Memory
     }
 }
 
 /// Only for want of memory: the kids of a task whose successor has a place have places too.
-impl From<PlaceError> for SoloFault {
-    fn from(_e: PlaceError) -> SoloFault {
-        SoloFault::Memory
+impl From<PlaceError> for RunFault {
+    fn from(_e: PlaceError) -> RunFault {
+        RunFault::Memory
     }
 }

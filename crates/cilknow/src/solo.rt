@@ -1,5 +1,5 @@
-ghost use Rattle.std.specs.Prelude.{IfOk};
-ghost use Rattle.cilknow.specs.Outcome.{IsOutcomeOf};
+ghost use Rattle.std.specs.Prelude.{IfErr, IfOk};
+ghost use Rattle.cilknow.specs.Outcome.{IsOutcomeOf, IsRefusalOf};
 
 use crate::evaluate::evaluate;
 use crate::fault::SoloFault;
@@ -19,10 +19,11 @@ pub fn solo(
     job: u64,
     turns: u64,
 ) -> Result<Outcome, SoloFault>
-    ensures { IfOk result (IsOutcomeOf text.now input.items) }
+    ensures outcome { IfOk result (IsOutcomeOf text.now input.items) }
+    ensures refused { IfErr result (IsRefusalOf text.now input.items) }
 {
     let program = parse(alloc, text)?;
     let checked = check(alloc, program)?;
     let job = Job::new(checked, input, job)?;
-    evaluate(alloc, &job, turns)
+    Ok(evaluate(alloc, &job, turns)?)
 }

@@ -1,5 +1,7 @@
 pub mod Exactness
 pub mod Meeting
+pub mod OneExpr
+pub mod OneTree
 pub mod Reading
 pub mod Readings
 pub mod Refusals

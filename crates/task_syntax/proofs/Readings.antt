@@ -26,14 +26,14 @@ other_stands : {k j : TokenKind} {from to : List Token} → Begins k from to →
 other_stands b n (stands c) = n (same_first (record { front = b.front }) (record { front = c.front }) refl).kinds
 
 -- behind a part a comma follows, or a closing parenthesis
-stops_further : {A : Type 0} {R : List Token → List Token → A → Type 0} {level : ℕ} {from to uo : List Token} {xs : List A} → Many (Further R) from to xs → IsMark sign.Close to uo → Stops level from
+pub stops_further : {A : Type 0} {R : List Token → List Token → A → Type 0} {level : ℕ} {from to uo : List Token} {xs : List A} → Many (Further R) from to xs → IsMark sign.Close to uo → Stops level from
 stops_further none b = stops_mark b
 stops_further (more (further c r) q) b = stops_mark c
 
 let_reads : {from to : List Token} {l : Let} → IsLet from to l → let_part.reads from to
 let_reads (bound w n a v s) = both w (both (named n) (both a (both (valued v (stops_mark s)) s)))
 
-let_stands : {from to : List Token} {l : Let} → IsLet from to l → Stands (kind.Keyword word.Let) from
+pub let_stands : {from to : List Token} {l : Let} → IsLet from to l → Stands (kind.Keyword word.Let) from
 let_stands (bound w n a v s) = stands w
 
 lets_read : {from to : List Token} {ls : List Let} → Many IsLet from to ls → (Stands (kind.Keyword word.Let) to → ⊥) → lets_part.reads from to
@@ -49,7 +49,7 @@ names_read none b = done (other_stands b (λ e. cc))
 names_read (more (further c n) q) b = again (stands c) (both c (named n)) (names_read q b)
 
 -- no expression begins with a question mark
-no_question : {parens level : ℕ} {from to : List Token} {e : Expr} → ReadsExpr parens level from to e → Stands (kind.Mark sign.Question) from → ⊥
+pub no_question : {parens level : ℕ} {from to : List Token} {e : Expr} → ReadsExpr parens level from to e → Stands (kind.Mark sign.Question) from → ⊥
 no_question (number b) q = other_stands b (λ e. cc) q
 no_question (variable b) q = other_stands (begins_at b) (λ e. cc) q
 no_question (grouped p o r c) q = other_stands o (λ e. cc) q
@@ -67,14 +67,14 @@ arguments_read (more (further c x) q) b = again (stands c) (both c (argument_rea
 send_reads : {from to : List Token} {k : Name} {e : Expr} → IsSend from to k e → send_part.reads from to
 send_reads (send w o n c v d s) = both w (both o (both (named n) (both c (both (valued v (stops_mark d)) (both d s)))))
 
-send_begins : {from to : List Token} {k : Name} {e : Expr} → IsSend from to k e → Stands (kind.Keyword word.SendArgument) from
+pub send_begins : {from to : List Token} {k : Name} {e : Expr} → IsSend from to k e → Stands (kind.Keyword word.SendArgument) from
 send_begins (send w o n c v d s) = stands w
 
 use_reads : {from to : List Token} {u : Use} → IsUse from to u → use_part.reads from to
 use_reads (sent (send w o n c v d s)) = other (other_stands w (λ e. cc)) (send_reads (send w o n c v d s))
 use_reads (spawned (spawn w t o k vs d s)) = one (stands w) (both w (both (named t) (both o (both (named k) (both (values_read vs d) (both d s))))))
 
-use_begins : {from to : List Token} {u : Use} → IsUse from to u → UseStands from
+pub use_begins : {from to : List Token} {u : Use} → IsUse from to u → UseStands from
 use_begins (sent s) = send_stands (send_begins s)
 use_begins (spawned (spawn w t o k vs d s)) = spawn_stands (stands w)
 
@@ -86,13 +86,13 @@ next_reads : {from to : List Token} {t k : Name} {xs : List Argument} → IsNext
 next_reads (next w t o k xs d s) = both w (both (named t) (both o (both (named k) (both (arguments_read xs d) (both d s)))))
 
 -- behind the condition of an `if` a brace stands
-block_stops : {deep level : ℕ} {from to : List Token} {b : Block} → IsBlock deep from to b → Stops level from
+pub block_stops : {deep level : ℕ} {from to : List Token} {b : Block} → IsBlock deep from to b → Stops level from
 block_stops (ends_in_if d o ls i v yb e nb c) = stops_mark o
 block_stops (ends_in_send d o ls s c) = stops_mark o
 block_stops (ends_in_next d o ls n us c) = stops_mark o
 
 -- no use of a hole begins with a closing brace
-no_use : {from to : List Token} → IsMark sign.CloseBrace from to → UseStands from → ⊥
+pub no_use : {from to : List Token} → IsMark sign.CloseBrace from to → UseStands from → ⊥
 no_use b (send_stands s) = other_stands b (λ e. cc) s
 no_use b (spawn_stands s) = other_stands b (λ e. cc) s
 
@@ -107,7 +107,7 @@ block_reads (ends_in_next {deep = deep} d o ls (next w t p k xs q s) us c) =
 thread_reads : {from to : List Token} {t : Thread} → IsThread from to t → thread_part.reads from to
 thread_reads (thread w x o k ns d b) = both w (both (named x) (both o (both (named k) (both (names_read ns d) (both d (block_reads b))))))
 
-thread_stands : {from to : List Token} {t : Thread} → IsThread from to t → Stands (kind.Keyword word.Thread) from
+pub thread_stands : {from to : List Token} {t : Thread} → IsThread from to t → Stands (kind.Keyword word.Thread) from
 thread_stands (thread w x o k ns d b) = stands w
 
 threads_read : {from to : List Token} {ts : List Thread} → Many IsThread from to ts → (Stands (kind.Keyword word.Thread) to → ⊥) → threads_part.reads from to

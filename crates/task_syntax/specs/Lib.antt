@@ -5,5 +5,6 @@ pub mod Meeting
 pub mod Errors
 pub mod Printed
 pub mod Shapes
+pub mod Equal
 pub mod PrintSteps
 pub mod PrintedBack

@@ -3,6 +3,7 @@ ghost use Rattle.task_syntax.specs.Grammar.{Reads};
 ghost use Rattle.task_syntax.specs.declared.error.ParseError.{ParseError};
 ghost use Rattle.task_syntax.specs.declared.tree.Program.{Program};
 ghost use Rattle.task_syntax.specs.Meeting.{MeetsText};
+ghost use Rattle.task_syntax.specs.Equal.{EqualProgram};
 
 use crate::error::ParseError;
 use crate::reader::program;
@@ -36,8 +37,10 @@ fn beyond_ascii(text: &[u8]) -> Option<usize>
     text.iter().position(|b| *b >= 128)
 }
 
-/// A text meets at most one refusal, and a text that is read meets none. Does nothing.
+/// That the answer of `parse` is the only one, but for want of memory: a text reads as at most one program, but for
+/// where its parts lie in memory; a text meets at most one refusal; a text that is read meets none. Does nothing.
 pub fn answers_are_exact()
     ensures one_refusal { (text : List ℕ) (e f : ParseError) → MeetsText text e → MeetsText text f → e ≡ f }
     ensures not_both { (text : List ℕ) (p : Program) (e : ParseError) → Reads text p → MeetsText text e → ⊥ }
+    ensures one_program { (text : List ℕ) (p q : Program) → Reads text p → Reads text q → EqualProgram p q }
 {}

@@ -1,0 +1,28 @@
+-- Why a run of a text gives no outcome, by what it came from.
+use Rattle.task_syntax.specs.declared.error.ParseError.{ParseError}
+use Rattle.task_syntax.specs.declared.error.ParseError.TheVariants as parse
+use Rattle.kind_check.specs.declared.checked.KindError.{KindError}
+use Rattle.kind_check.specs.declared.checked.KindError.TheVariants as check
+use Rattle.cilknow.specs.declared.fault.RunFault.{RunFault}
+use Rattle.cilknow.specs.declared.fault.RunFault.TheVariants as run
+use Rattle.cilknow.specs.declared.fault.SoloFault.{SoloFault}
+use Rattle.cilknow.specs.declared.fault.SoloFault.TheVariants as solo
+
+-- a text that isn't read
+abbrev pub of_text : ParseError → SoloFault
+of_text (parse.Unexpected at) = solo.Parse (parse.Unexpected at)
+of_text (parse.TooLong at) = solo.Parse (parse.TooLong at)
+of_text (parse.TooDeepNest at) = solo.Parse (parse.TooDeepNest at)
+of_text (parse.NumberRange at) = solo.Parse (parse.NumberRange at)
+of_text (parse.NotAscii at) = solo.Parse (parse.NotAscii at)
+of_text parse.Memory = solo.Memory
+
+-- a program that isn't accepted
+abbrev pub of_kinds : KindError → SoloFault
+of_kinds (check.Fault kind at) = solo.Kind (check.Fault kind at)
+of_kinds check.Memory = solo.Memory
+
+-- a run without outcome
+abbrev pub of_run : RunFault → SoloFault
+of_run run.TurnsSpent = solo.TurnsSpent
+of_run run.Memory = solo.Memory
