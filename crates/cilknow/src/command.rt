@@ -12,11 +12,11 @@ use std::convert::AsStr;
 use std::io::{self, Read, Write};
 use std::rt::Files;
 use std::{fmt, fs};
-use task_syntax::parse;
+use task_syntax::{LONGEST_TEXT, parse};
 use thiserror::Error;
 
 /// One byte more than the longest text.
-const MOST_BYTES: u64 = 65_537;
+const MOST_BYTES: u64 = LONGEST_TEXT as u64 + 1;
 
 /// Why a command ends without its answer.
 #[derive(Clone, Copy, Debug, PartialEq, Eq, Error)]

@@ -29,6 +29,15 @@ pub enum SoloFault {
     Memory,
 }
 
+/// Why a run ends without its outcome.
+#[derive(Clone, Copy, Debug, PartialEq, Eq)]
+pub enum RunFault {
+    /// E95: more turns would be needed.
+    TurnsSpent,
+    /// E9: there is no memory.
+    Memory,
+}
+
 impl From<ParseError> for SoloFault {
     ghost from_gives = { λ e f. f ≡ of_text e };
 
@@ -57,15 +66,6 @@ impl From<JobError> for SoloFault {
     fn from(e: JobError) -> SoloFault {
         SoloFault::Input(e)
     }
-}
-
-/// Why a run ends without its outcome.
-#[derive(Clone, Copy, Debug, PartialEq, Eq)]
-pub enum RunFault {
-    /// E95: more turns would be needed.
-    TurnsSpent,
-    /// E9: there is no memory.
-    Memory,
 }
 
 impl From<RunFault> for SoloFault {

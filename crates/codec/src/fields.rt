@@ -31,6 +31,7 @@ macro_rules! each_field {
     };
 }
 
+// The kind of a body.
 macro_rules! kind_arms {
     ([$body:ident] $($number:literal $variant:ident: $struct:ident { $($field:ident: $format:ident $(($($context:ident),*))?),* })*) => {
         match $body {
@@ -39,6 +40,7 @@ macro_rules! kind_arms {
     };
 }
 
+// The number of a kind.
 macro_rules! number_arms {
     ([$kind:ident] $($number:literal $variant:ident: $struct:ident { $($field:ident: $format:ident $(($($context:ident),*))?),* })*) => {
         match $kind {
@@ -47,6 +49,7 @@ macro_rules! number_arms {
     };
 }
 
+// The kind with a number.
 macro_rules! numbered_arms {
     ([$byte:ident] $($number:literal $variant:ident: $struct:ident { $($field:ident: $format:ident $(($($context:ident),*))?),* })*) => {
         match $byte {
@@ -56,6 +59,7 @@ macro_rules! numbered_arms {
     };
 }
 
+// Reads the fields of a kind, one after the other.
 macro_rules! read_arms {
     ([$kind:ident $input:ident] $($number:literal $variant:ident: $struct:ident { $($field:ident: $format:ident $(($($context:ident),*))?),* })*) => {
         match $kind {
@@ -67,6 +71,7 @@ macro_rules! read_arms {
     };
 }
 
+// Writes the fields of a body, one after the other.
 macro_rules! write_arms {
     ([$body:ident $out:ident] $($number:literal $variant:ident: $struct:ident { $($field:ident: $format:ident $(($($context:ident),*))?),* })*) => {
         match $body {
@@ -77,6 +82,7 @@ macro_rules! write_arms {
     };
 }
 
+// Whether each field of a body can be written.
 macro_rules! fits_arms {
     ([$body:ident] $($number:literal $variant:ident: $struct:ident { $($field:ident: $format:ident $(($($context:ident),*))?),* })*) => {
         match $body {
