@@ -1,30 +1,45 @@
-ghost use Rattle.std.specs.Prelude.{◌≡◌, length, IfOk, Some};
-ghost use Rattle.kind_check.specs.Turns.{turn_of};
-ghost use Rattle.kind_check.specs.Total.{Takes, TurnFits};
+ghost use Rattle.std.specs.Prelude.{◌≡◌, length, IfOk};
+ghost use Rattle.kind_check.specs.Total.{Takes};
 
 use crate::body;
 use ids::Listed;
 use kind_check::{Checked, Turn};
 use std::alloc::{AllocError, Global};
 use std::marker::Model;
+use std::snapshot::Snapshot;
 
-/// A turn that was evaluated: the thread, its numbers and the end that it reached.
+/// A turn that was evaluated: the thread, its numbers and the end that it reached. It keeps what makes it a turn of its
+/// program, wherever it is passed, also to another thread. Which program that is, only contracts see.
 #[derive(Drop)]
 pub struct Done {
+    // It has no bytes. `of` takes it from the program itself, and nothing else makes a `Done`.
+    program: Snapshot<Checked>,
     thread: u8,
     numbers: Listed<i64>,
     turn: Turn,
 }
 
 impl Model for Done {
+    ghost use Rattle.std.specs.Coded.{codes};
+    ghost use Rattle.task_syntax.specs.contracts.tree.Expr as expr;
+    ghost use Rattle.task_syntax.specs.contracts.tree.Block as block;
+    ghost use Rattle.task_syntax.specs.contracts.tree.End as end;
     ghost use Rattle.body_eval.specs.Done.{DoneOf};
 
     ghost Value = { DoneOf };
 
-    ghost view = { λ d. record { thread = d.thread; numbers = d.numbers; turn = d.turn } };
+    ghost coded = { Prim.hlevel (codes, expr.the_row.coded, block.the_row.coded, end.the_row.coded) };
+
+    ghost use Rattle.body_eval.specs.Done.{IsEvaluated};
+
+    ghost view = { λ d. record { program = d.program.value; thread = d.thread; numbers = d.numbers; turn = d.turn } };
+
+    ghost invariant = { λ d. IsEvaluated (record { program = d.program.value; thread = d.thread; numbers = d.numbers; turn = d.turn }) };
 }
 
 impl Done {
+    ghost use Rattle.body_eval.specs.Done.{IsEvaluated};
+
     /// Evaluates a turn, and keeps the numbers with it; refused for want of memory alone.
     pub fn of(
         alloc: Global,
@@ -33,12 +48,12 @@ impl Done {
         numbers: Vec<i64>,
     ) -> Result<Done, AllocError>
         requires { Takes checked.now thread (length numbers.items) }
-        ensures same { IfOk result (λ d. (d.thread ≡ thread) × (d.numbers ≡ numbers.items)) }
-        ensures reached { IfOk result (λ d. turn_of checked.now d.thread d.numbers ≡ Some d.turn) }
-        ensures fits { IfOk result (λ d. TurnFits checked.now d.turn) }
+        ensures same { IfOk result (λ d. (d.program ≡ checked.now) × (d.thread ≡ thread) × (d.numbers ≡ numbers.items)) }
+        ensures evaluated { IfOk result IsEvaluated }
     {
         let turn = body::turn(alloc, checked, thread, &numbers)?;
         Ok(Done {
+            program: Snapshot::of(checked),
             thread,
             numbers: Listed::from_vec(numbers),
             turn,
@@ -47,28 +62,32 @@ impl Done {
 
     /// The number of the thread.
     pub fn thread(&self) -> u8
-        ensures { result ≡ self.now.thread }
+        ensures same { result ≡ self.now.thread }
+        ensures evaluated { IsEvaluated self.now }
     {
         self.thread
     }
 
     /// The numbers that the thread ran on.
     pub fn numbers(&self) -> &[i64]
-        ensures { result.now ≡ self.now.numbers }
+        ensures same { result.now ≡ self.now.numbers }
+        ensures evaluated { IsEvaluated self.now }
     {
         self.numbers.as_slice()
     }
 
     /// The end that the thread reached.
     pub fn turn(&self) -> &Turn
-        ensures { result.now ≡ self.now.turn }
+        ensures same { result.now ≡ self.now.turn }
+        ensures evaluated { IsEvaluated self.now }
     {
         &self.turn
     }
 
     /// The end that the thread reached, without the rest.
     pub fn into_turn(self) -> Turn
-        ensures { result ≡ self.turn }
+        ensures same { result ≡ self.turn }
+        ensures evaluated { IsEvaluated self }
     {
         self.turn
     }

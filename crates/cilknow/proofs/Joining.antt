@@ -7,10 +7,10 @@ use Rattle.kind_check.specs.declared.turn.Slot.{Slot}
 use Rattle.kind_check.specs.declared.turn.Slot.TheVariants.{Filled, Awaits}
 use Rattle.kind_check.specs.Total.{Takes, SlotsFit}
 use Rattle.ids.specs.declared.outcome.Outcome.TheVariants.{TooDeep}
-use Rattle.serial_meaning.specs.Job.{JobOf}
-use Rattle.serial_meaning.specs.Places.{value_at, task_at, outcome_of, meaning}
+use Rattle.serial_meaning.specs.Job.{JobOf, meaning_of}
+use Rattle.serial_meaning.specs.Places.{value_at, task_at, outcome_of}
 use Rattle.serial_meaning.specs.Agrees.{FrameAgrees, given_of}
-use Rattle.serial_meaning.proofs.FrameLaws.{joined_value, kid_value, kid_task, kid_small, next_agrees, last_value, none_at_root, task_of}
+use Rattle.serial_meaning.proofs.FrameLaws.{joined_value, kid_value, kid_task, kid_small, next_agrees, last_value, none_at_root, call_of}
 use Rattle.cilknow.specs.declared.frames.Frame.{Frame}
 use Rattle.cilknow.specs.declared.frames.Return.{Return}
 use Rattle.cilknow.specs.declared.frames.Return.TheVariants.{Whole, Local}
@@ -111,7 +111,7 @@ given_empty (Awaits k ∷ slots) zero kid at = refl
 given_empty (slot ∷ slots) (suc index) kid at = given_empty slots index kid at
 
 -- the frame of a kid agrees
-kid_agrees : (p : Program) (input : List ℤ) (q : List ℕ) (hole : ℕ) (t : ℕ) (numbers : List ℤ) → 0 < hole → task_at p input (hole ∷ q) ≡ Some (task_of t numbers) → FrameAgrees p input (hole ∷ q) t (filled_with numbers)
+kid_agrees : (p : Program) (input : List ℤ) (q : List ℕ) (hole : ℕ) (t : ℕ) (numbers : List ℤ) → 0 < hole → task_at p input (hole ∷ q) ≡ Some (call_of t numbers) → FrameAgrees p input (hole ∷ q) t (filled_with numbers)
 kid_agrees p input q zero t numbers pos task = absurd (omega arith)
 kid_agrees p input q (suc i) t numbers pos task = record { numbers = numbers; given = numbers_filled numbers; task = task }
 
@@ -162,8 +162,8 @@ got (y ∷ ys) zero x h e = ap Some (sym e)
 got (y ∷ ys) (suc i) x h e = got ys i x (omega arith) e
 
 -- where no place is below a task that joins, the whole is too deep
-pub too_deep : (job : JobOf) (frames : Numbered) (q : List ℕ) (t : ℕ) (numbers : List ℤ) (r : Return) (thread : ℕ) (slots : List Slot) → IsTaken job frames q t numbers r → TaskJoins job t numbers thread slots → 1024 ≤ length q → length q ≤ 1024 → TooDeep ≡ meaning job.program job.input
+pub too_deep : (job : JobOf) (frames : Numbered) (q : List ℕ) (t : ℕ) (numbers : List ℤ) (r : Return) (thread : ℕ) (slots : List Slot) → IsTaken job frames q t numbers r → TaskJoins job t numbers thread slots → 1024 ≤ length q → length q ≤ 1024 → TooDeep ≡ meaning_of job
 too_deep job frames q t numbers r thread slots taken joins long short =
     let none = last_value job.program job.input q t numbers thread slots long taken.task joins.turn in
-    let root = none_at_root job.program job.input q (task_of t numbers) short taken.task none in
+    let root = none_at_root job.program job.input q (call_of t numbers) short taken.task none in
     sym (ap outcome_of root)

@@ -1,8 +1,12 @@
--- Why a run of a text gives no outcome, by what it came from.
+-- Why a run of a text gives no outcome, by what it came from, and the number of that.
+use Rattle.std.specs.Prelude.{ℕ}
+use Rattle.task_syntax.specs.Errors as texts
 use Rattle.task_syntax.specs.declared.error.ParseError.{ParseError}
 use Rattle.task_syntax.specs.declared.error.ParseError.TheVariants as parse
 use Rattle.kind_check.specs.declared.checked.KindError.{KindError}
 use Rattle.kind_check.specs.declared.checked.KindError.TheVariants as check
+use Rattle.kind_check.specs.Refused as kinds
+use Rattle.serial_meaning.specs.Errors.{number_of_job_error}
 use Rattle.cilknow.specs.declared.fault.RunFault.{RunFault}
 use Rattle.cilknow.specs.declared.fault.RunFault.TheVariants as run
 use Rattle.cilknow.specs.declared.fault.SoloFault.{SoloFault}
@@ -26,3 +30,11 @@ of_kinds check.Memory = solo.Memory
 abbrev pub of_run : RunFault → SoloFault
 of_run run.TurnsSpent = solo.TurnsSpent
 of_run run.Memory = solo.Memory
+
+-- the number of a fault
+abbrev pub number_of_fault : SoloFault → ℕ
+number_of_fault (solo.Parse e) = texts.number_of_error e
+number_of_fault (solo.Kind e) = kinds.number_of_error e
+number_of_fault (solo.Input e) = number_of_job_error e
+number_of_fault solo.TurnsSpent = 95
+number_of_fault solo.Memory = 9

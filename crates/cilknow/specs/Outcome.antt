@@ -12,11 +12,12 @@ use Rattle.serial_meaning.specs.Places.{meaning}
 use Rattle.cilknow.specs.declared.fault.SoloFault.{SoloFault}
 use Rattle.cilknow.specs.declared.fault.SoloFault.TheVariants as solo
 
--- the text reads as an accepted program, and the outcome is its meaning on the input
+-- the text reads as an accepted program that takes the input, and the outcome is its meaning on it
 pub record IsOutcomeOf (text : List ℕ) (input : List ℤ) (o : Outcome) : Type 0 where
   pub program : Program
   pub reads : Reads text program
   pub accepted : faults program ≡ []
+  pub taken : TakesInput program input
   pub outcome : o ≡ meaning program input
 
 -- the text reads as a program whose least fault is this one

@@ -31,7 +31,7 @@ pub enum CommandFault {
     #[error(transparent)]
     Run(SoloFault),
     /// E20: more turns than `--turns` would be needed.
-    #[error("E20")]
+    #[error("{spent}", spent = SerialError::TurnsSpent)]
     TurnsSpent,
 }
 

@@ -1,5 +1,6 @@
 ghost use Rattle.std.specs.Prelude.{◌≡◌, ◌≢◌, ℕ, ◌≤◌, ◌<◌, OnOk, IfOk, IfSome, IfNone, Some, None, List, zero, ◌∷◌, ◌+◌, [], length, map};
-ghost use Rattle.serial_meaning.specs.Places.{meaning, value_at};
+ghost use Rattle.serial_meaning.specs.Places.{value_at};
+ghost use Rattle.serial_meaning.specs.Job.{meaning_of};
 ghost use Rattle.serial_meaning.specs.Agrees.{numbers_in, given_of};
 ghost use Rattle.cilknow.specs.Slots.{filled_with};
 
@@ -128,7 +129,7 @@ impl<'a> Run<'a> {
         requires value { value_at self.old.job.now.program self.old.job.now.input task.now.place ≡ Some value }
         ensures job { self.new.job.now ≡ self.old.job.now }
         ensures holds { IfOk result (λ o. IfNone o (RunHolds self.new)) }
-        ensures outcome { IfOk result (λ o. IfSome o (λ x. x ≡ meaning self.old.job.now.program self.old.job.now.input)) }
+        ensures outcome { IfOk result (λ o. IfSome o (λ x. x ≡ meaning_of self.old.job.now)) }
     {
         match task.returns {
             Return::Whole => Ok(Some(Outcome::Value(value))),
@@ -227,7 +228,7 @@ impl<'a> Run<'a> {
         requires joins { TaskJoins self.old.job.now task.now.thread task.now.numbers thread slots.now }
         ensures job { self.new.job.now ≡ self.old.job.now }
         ensures holds { IfOk result (λ o. IfNone o (RunHolds self.new)) }
-        ensures outcome { IfOk result (λ o. IfSome o (λ x. x ≡ meaning self.old.job.now.program self.old.job.now.input)) }
+        ensures outcome { IfOk result (λ o. IfSome o (λ x. x ≡ meaning_of self.old.job.now)) }
     {
         let place = match task.place.next(alloc) {
             Ok(place) => place,
@@ -246,7 +247,7 @@ impl<'a> Run<'a> {
         requires { RunHolds self.old }
         ensures job { self.new.job.now ≡ self.old.job.now }
         ensures holds { IfOk result (λ o. IfNone o (RunHolds self.new)) }
-        ensures outcome { IfOk result (λ o. IfSome o (λ x. x ≡ meaning self.old.job.now.program self.old.job.now.input)) }
+        ensures outcome { IfOk result (λ o. IfSome o (λ x. x ≡ meaning_of self.old.job.now)) }
     {
         let Some(task) = self.take(alloc)? else {
             return Err(RunFault::TurnsSpent);
@@ -265,7 +266,7 @@ impl<'a> Run<'a> {
 
 /// The outcome of a job, in at most so many turns on one node.
 pub fn evaluate(alloc: Global, job: &Job, turns: u64) -> Result<Outcome, RunFault>
-    ensures { IfOk result (λ o. o ≡ meaning job.now.program job.now.input) }
+    ensures { IfOk result (λ o. o ≡ meaning_of job.now) }
 {
     let mut run = Run::start(alloc, job)?;
     for _ in 0..turns {

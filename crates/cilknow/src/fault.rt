@@ -1,5 +1,5 @@
 ghost use Rattle.std.specs.Prelude.{◌≡◌};
-ghost use Rattle.cilknow.specs.Faults.{of_kinds, of_run, of_text};
+ghost use Rattle.cilknow.specs.Faults.{number_of_fault, of_kinds, of_run, of_text};
 ghost use Rattle.cilknow.specs.declared.fault.SoloFault.TheVariants as solo;
 
 use ids::PlaceError;
@@ -22,11 +22,26 @@ pub enum SoloFault {
     #[error(transparent)]
     Input(JobError),
     /// E95: more turns would be needed.
-    #[error("E95")]
+    #[error("E{number}", number = self.number())]
     TurnsSpent,
     /// E9: there is no memory.
-    #[error("E9")]
+    #[error("E{number}", number = self.number())]
     Memory,
+}
+
+impl SoloFault {
+    /// The number of the fault.
+    pub fn number(self) -> u8
+        ensures { result ≡ number_of_fault self }
+    {
+        match self {
+            SoloFault::Parse(e) => e.number(),
+            SoloFault::Kind(e) => e.number(),
+            SoloFault::Input(e) => e.number(),
+            SoloFault::TurnsSpent => 95,
+            SoloFault::Memory => 9,
+        }
+    }
 }
 
 /// Why a run ends without its outcome.

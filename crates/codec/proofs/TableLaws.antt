@@ -8,10 +8,10 @@ use Rattle.ids.specs.Names.{is_actor, is_address, is_worker}
 use Rattle.packet_fields.specs.declared.fault.Fault.{Fault}
 use Rattle.packet_fields.specs.declared.fault.Fault.TheVariants as fault
 use Rattle.packet_fields.specs.declared.fault.ReadError.{ReadError}
-use Rattle.packet_fields.specs.declared.parts.Frame.{Frame}
-use Rattle.packet_fields.specs.declared.parts.Progress.{Progress}
-use Rattle.packet_fields.specs.declared.parts.Record.{Record}
-use Rattle.packet_fields.specs.declared.parts.Task.{Task}
+use Rattle.ids.specs.declared.work.Frame.{Frame}
+use Rattle.ids.specs.declared.outcome.Progress.{Progress}
+use Rattle.ids.specs.declared.work.Record.{Record}
+use Rattle.ids.specs.declared.work.Task.{Task}
 use Rattle.packet_fields.specs.Format.{Format, Gives, IsBytes, ◌>>=◌, constant, followed, number, tested}
 use Rattle.packet_fields.specs.Fields as field
 use Rattle.packet_fields.proofs.FormatLaws.{Lawful, bind_ok, constant_lawful, followed_lawful, made_lawful, number_lawful, ok_is, test_ok, tested_lawful, wide1, wide2, wide8}

@@ -1,5 +1,7 @@
-use ids::{Actor, Count, Epoch, FrameNo, GrantId, Hop, Incarnation, Listed, Outcome};
-use packet_fields::{Frame, Member, Progress, Record, Task};
+use ids::{
+    Actor, Count, Epoch, Frame, FrameNo, GrantId, Hop, Incarnation, Listed, Member, Outcome,
+    Progress, Record, Task,
+};
 
 /// A worker asks the clearinghouse of any epoch to list it.
 #[derive(Clone, Copy, PartialEq, Eq, Debug)]

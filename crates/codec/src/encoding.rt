@@ -6,6 +6,7 @@ ghost use Rattle.codec.specs.declared.encoding.EncodeError.TheVariants.{TooBig};
 use crate::decoding::{MAGIC, MOST_BYTES, VERSION};
 use crate::fields::{kind_of, write_fields};
 use crate::packet::Packet;
+use crate::room::room_for;
 use packet_fields::write;
 use std::alloc::{AllocError, Global};
 use thiserror::Error;
@@ -14,11 +15,25 @@ use thiserror::Error;
 #[derive(Clone, Copy, Debug, PartialEq, Eq, Error)]
 pub enum EncodeError {
     /// Its spelling has more than 1,048,576 bytes.
-    #[error("E30")]
+    #[error("E{number}", number = self.number())]
     TooBig,
     /// There is no memory.
-    #[error("E9")]
+    #[error("E{number}", number = self.number())]
     Memory,
+}
+
+impl EncodeError {
+    ghost use Rattle.codec.specs.Errors.{number_of_error};
+
+    /// The number of the refusal: 9 or 30.
+    pub fn number(self) -> u8
+        ensures { result ≡ number_of_error self }
+    {
+        match self {
+            EncodeError::TooBig => 30,
+            EncodeError::Memory => 9,
+        }
+    }
 }
 
 impl From<AllocError> for EncodeError {
@@ -53,7 +68,7 @@ pub fn encode(alloc: Global, packet: &Packet) -> Result<Vec<u8>, EncodeError>
     // What is too big has a spelling of more bytes than are allowed.
     ensures big { IsErrOf result TooBig → IsTooBig packet.now }
 {
-    let mut out = Vec::new(alloc);
+    let mut out = Vec::with_capacity(alloc, room_for(packet.body()))?;
     put(packet, &mut out)?;
     let length = out.len();
     if length > MOST_BYTES {

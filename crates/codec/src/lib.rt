@@ -7,6 +7,7 @@ mod encoding;
 mod fields;
 mod laws;
 mod packet;
+mod room;
 #[cfg(test)]
 mod tests;
 
@@ -18,4 +19,4 @@ pub use decoding::decode;
 pub use encoding::{EncodeError, encode};
 pub use laws::one_to_one;
 pub use packet::Packet;
-pub use packet_fields::{Fault, Frame, Member, Progress, ReadError, Record, Status, Task};
+pub use packet_fields::{Fault, ReadError};

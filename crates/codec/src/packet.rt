@@ -1,9 +1,13 @@
-ghost use Rattle.std.specs.Prelude.{◌≡◌, IsTrue, Some, None, if◌then◌else◌};
+ghost use Rattle.std.specs.Prelude.{◌≡◌, ◌^◌, ◌<◌, ◌≤◌, length, IsTrue, Some, None, if◌then◌else◌};
+ghost use Rattle.ids.specs.Names.{house_of};
 ghost use Rattle.codec.specs.Table as table;
 
-use crate::body::{Body, Kind};
+use crate::body::{
+    Abort, Beat, Body, Grant, Join, Kind, OfferAck, Refuse, ResultAck, Steal, TaskResult,
+};
 use crate::fields::{fields_fit, kind_of};
-use ids::Address;
+use ids::{Actor, Address, Epoch, Incarnation};
+use packet_fields::fits;
 use std::marker::Model;
 
 /// A packet that can be written, but for its size: the number of its job, whom it goes to and what it says. Contracts see
@@ -38,6 +42,119 @@ impl Packet {
             Some(Packet { job, to, body })
         } else {
             None
+        }
+    }
+
+    /// A worker asks the clearinghouse of any epoch to list it.
+    #[tactic(auto, unfolding(crate::specs::Table::join, packet_fields::specs::Fields::worker))]
+    pub fn join(job: u64, join: Join) -> Packet
+        ensures { result ≡ record { job = job; to = 2 ^ 63; body = Body.Join join } }
+    {
+        Packet {
+            job,
+            to: Address::any_house(),
+            body: Body::Join(join),
+        }
+    }
+
+    /// A thief asks a worker, or the clearinghouse in an epoch, for work.
+    #[tactic(auto, unfolding(crate::specs::Table::steal, packet_fields::specs::Fields::worker, packet_fields::specs::Fields::counted))]
+    pub fn steal(job: u64, to: Actor, steal: Steal) -> Packet
+        ensures { result ≡ record { job = job; to = to; body = Body.Steal steal } }
+    {
+        Packet {
+            job,
+            to: Address::actor(to),
+            body: Body::Steal(steal),
+        }
+    }
+
+    /// The task that answers a request.
+    #[tactic(auto, unfolding(crate::specs::Table::granted, packet_fields::specs::Fields::grant, packet_fields::specs::Fields::actor, packet_fields::specs::Fields::counted))]
+    pub fn grant(job: u64, to: Incarnation, grant: Grant) -> Packet
+        requires thread { grant.task.thread < 64 }
+        requires numbers { length grant.task.numbers ≤ 8 }
+        ensures { result ≡ record { job = job; to = to; body = Body.Grant grant } }
+    {
+        prove!(fits::task(&grant.task));
+        Packet {
+            job,
+            to: Address::actor(Actor::worker(to)),
+            body: Body::Grant(grant),
+        }
+    }
+
+    /// The answer to a request where there is no work.
+    #[tactic(auto, unfolding(crate::specs::Table::refuse, packet_fields::specs::Fields::counted))]
+    pub fn refuse(job: u64, to: Incarnation, refuse: Refuse) -> Packet
+        ensures { result ≡ record { job = job; to = to; body = Body.Refuse refuse } }
+    {
+        Packet {
+            job,
+            to: Address::actor(Actor::worker(to)),
+            body: Body::Refuse(refuse),
+        }
+    }
+
+    /// The outcome of a granted task, to who minted the grant or holds what waits for it.
+    #[tactic(auto, unfolding(crate::specs::Table::task_result, packet_fields::specs::Fields::worker, packet_fields::specs::Fields::grant, packet_fields::specs::Fields::actor, packet_fields::specs::Fields::counted))]
+    pub fn result(job: u64, to: Actor, outcome: TaskResult) -> Packet
+        ensures { result ≡ record { job = job; to = to; body = Body.Result outcome } }
+    {
+        prove!(fits::outcome(&outcome.outcome));
+        Packet {
+            job,
+            to: Address::actor(to),
+            body: Body::Result(outcome),
+        }
+    }
+
+    /// The outcome of a grant has come.
+    #[tactic(auto, unfolding(crate::specs::Table::result_ack, packet_fields::specs::Fields::grant, packet_fields::specs::Fields::actor, packet_fields::specs::Fields::counted))]
+    pub fn result_ack(job: u64, to: Incarnation, ack: ResultAck) -> Packet
+        ensures { result ≡ record { job = job; to = to; body = Body.ResultAck ack } }
+    {
+        Packet {
+            job,
+            to: Address::actor(Actor::worker(to)),
+            body: Body::ResultAck(ack),
+        }
+    }
+
+    /// An offer at a hop has come, or, at hop 0, a grant.
+    #[tactic(auto, unfolding(crate::specs::Table::offer_ack, packet_fields::specs::Fields::worker, packet_fields::specs::Fields::grant, packet_fields::specs::Fields::actor, packet_fields::specs::Fields::counted))]
+    pub fn offer_ack(job: u64, to: Incarnation, ack: OfferAck) -> Packet
+        ensures { result ≡ record { job = job; to = to; body = Body.OfferAck ack } }
+    {
+        prove!(fits::hop(&ack.hop));
+        Packet {
+            job,
+            to: Address::actor(Actor::worker(to)),
+            body: Body::OfferAck(ack),
+        }
+    }
+
+    /// The outcome of a grant isn't wanted any more.
+    #[tactic(auto, unfolding(crate::specs::Table::abort, packet_fields::specs::Fields::grant, packet_fields::specs::Fields::actor, packet_fields::specs::Fields::counted))]
+    pub fn abort(job: u64, to: Incarnation, abort: Abort) -> Packet
+        ensures { result ≡ record { job = job; to = to; body = Body.Abort abort } }
+    {
+        Packet {
+            job,
+            to: Address::actor(Actor::worker(to)),
+            body: Body::Abort(abort),
+        }
+    }
+
+    /// A worker tells the clearinghouse in an epoch that it lives.
+    #[tactic(auto, unfolding(crate::specs::Table::beat, packet_fields::specs::Fields::worker, packet_fields::specs::Fields::counted))]
+    pub fn beat(job: u64, epoch: Epoch, beat: Beat) -> Packet
+        ensures { result ≡ record { job = job; to = house_of epoch; body = Body.Beat beat } }
+    {
+        Packet {
+            job,
+            to: Address::actor(epoch.house()),
+            body: Body::Beat(beat),
         }
     }
 

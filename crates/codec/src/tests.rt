@@ -1,6 +1,7 @@
 //! Each kind of packet, written out by hand from the table of packets, and the faults of each field.
 
 mod made;
+mod makers;
 
 use crate::{Body, EncodeError, Fault, Leave, ReadError, decode, encode};
 use std::alloc::{AllocError, Global};
@@ -320,6 +321,7 @@ OFFER 181 ffffffffffffffff ok;
 /// else.
 const ENDS: &str = "
 GRANT 44 0400*1 08*1024 0000*1 ok;
+GRANT 44 0400*1 08*1024 3f08*1 7fffffffffffffff*8 ok;
 GRANT 44 0401*1 08*1025 0000*1 E35;
 GRANT 44 0400*1 08*1024 E31;
 GRANT 44 0400*1 09*1 E35;
@@ -391,10 +393,14 @@ fn example(alloc: Global, name: &str) -> Result<Vec<u8>, Fail> {
     Err("no such example".into())
 }
 
-/// `ok`, or the fault.
+/// `ok` where bytes are read, and written again as they are, or the fault.
 fn answer(alloc: Global, bytes: &[u8]) -> Result<String, AllocError> {
     match decode(alloc, bytes) {
-        Ok(_) => String::from_str(alloc, "ok"),
+        Ok(packet) => match encode(alloc, &packet) {
+            Ok(written) if written.as_slice() == bytes => String::from_str(alloc, "ok"),
+            Ok(_) => String::from_str(alloc, "other bytes"),
+            Err(refused) => format!(in alloc; "not written: {refused}"),
+        },
         Err(fault) => format!(in alloc; "{fault}"),
     }
 }
@@ -553,5 +559,35 @@ fn a_packet_gives_what_it_holds(rt: HostRuntime) -> Result<(), Fail> {
         ReadError::Memory
     )?;
     assert_eq!(rt; printed.as_str(), "E30 E9 E9");
+    Ok(())
+}
+
+#[test]
+fn refusals_are_printed(rt: HostRuntime) -> Result<(), Fail> {
+    let alloc = rt.alloc();
+    for (fault, want) in [
+        (Fault::TooBig, "E30"),
+        (Fault::Short, "E31"),
+        (Fault::Magic, "E32"),
+        (Fault::Version, "E33"),
+        (Fault::Kind, "E34"),
+        (Fault::Field, "E35"),
+        (Fault::Trailing, "E36"),
+    ] {
+        assert_eq!(rt; format!(in alloc; "{fault}")?.as_str(), want);
+        assert_eq!(rt;
+            format!(in alloc; "{}", ReadError::Fault(fault))?.as_str(),
+            want
+        );
+    }
+    assert_eq!(rt; format!(in alloc; "{}", ReadError::Memory)?.as_str(), "E9");
+    assert_eq!(rt;
+        format!(in alloc; "{}", EncodeError::TooBig)?.as_str(),
+        "E30"
+    );
+    assert_eq!(rt;
+        format!(in alloc; "{}", EncodeError::Memory)?.as_str(),
+        "E9"
+    );
     Ok(())
 }

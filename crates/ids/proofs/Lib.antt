@@ -1,1 +1,5 @@
 pub mod Places
+pub mod KeyedLaws
+pub mod NameOrder
+pub mod Replacing
+pub mod RisingLaws

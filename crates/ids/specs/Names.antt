@@ -1,5 +1,7 @@
 -- Names of incarnations, actors and grants, as numbers.
 use Rattle.std.specs.Prelude.{ℕ, ◌+◌, ◌^◌, ◌&&◌, ◌||◌, Bool, nat_lt, nat_eq}
+use Rattle.std.specs.declared.cmp.Ordering.{Ordering}
+use Rattle.std.specs.Ordering.{nat_cmp, on, then_cmp}
 
 -- the word of a worker's start: 1 to 2^63 - 1
 abbrev pub is_worker : ℕ → Bool
@@ -30,9 +32,10 @@ pub record Grant : Type 0 where
   pub minter : ℕ
   pub number : ℕ
 
-abbrev pub is_grant : Grant → Bool
-is_grant g = is_actor g.minter && is_counted g.number
+-- the order of grants: by the minter, then by the number
+abbrev pub grant_cmp : Grant → Grant → Ordering
+grant_cmp = then_cmp (on (λ g. g.minter) nat_cmp) (on (λ g. g.number) nat_cmp)
 
--- g stands before h: by the minter, then by the number
+-- g stands before h in that order
 abbrev pub grant_before : Grant → Grant → Bool
 grant_before g h = nat_lt g.minter h.minter || (nat_eq g.minter h.minter && nat_lt g.number h.number)

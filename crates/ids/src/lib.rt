@@ -1,16 +1,23 @@
-//! Names and places that every layer speaks of, and the list type that contracts see as a list.
+//! Names, places, tasks and frames that every layer speaks of, and the types that contracts see as a list or as a map.
 #![tactic(auto)]
 
+pub mod limits;
 mod listed;
+mod member;
 mod names;
 mod outcome;
 mod place;
 mod returns;
+mod store;
 #[cfg(test)]
 mod tests;
+mod work;
 
 pub use listed::Listed;
+pub use member::{Member, Status};
 pub use names::{Actor, Address, Count, Epoch, FrameNo, GrantId, Hop, Incarnation};
-pub use outcome::Outcome;
+pub use outcome::{Outcome, Progress};
 pub use place::{Place, PlaceError};
 pub use returns::Return;
+pub use store::{Change, Exact, Named, Store};
+pub use work::{Frame, Record, Task};

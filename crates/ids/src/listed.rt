@@ -1,4 +1,5 @@
 ghost use Rattle.std.specs.Prelude.{◌≡◌, ◌<◌, [], ◌∷◌, ◌++◌, length, IfOk, OnErr, OnOk, ◌==◌, option_copied, slice_get, slice_set};
+ghost use Rattle.std.specs.List.{AllZip};
 
 use std::alloc::{AllocError, Global};
 use std::marker::Model;
@@ -99,5 +100,16 @@ impl<T: Drop> Listed<T> {
         ensures { self.new ≡ slice_set self.old index item }
     {
         self.items[index] = item;
+    }
+}
+
+/// The copies of the items.
+impl<T: Clone> Clone for Listed<T> {
+    ghost is_clone = { λ source copy. AllZip T.is_clone source copy };
+
+    fn clone(&self) -> Result<Listed<T>, AllocError> {
+        Ok(Listed {
+            items: self.items.clone()?,
+        })
     }
 }

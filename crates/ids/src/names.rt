@@ -1,6 +1,12 @@
-ghost use Rattle.std.specs.Prelude.{◌≡◌, ◌+◌, ◌-◌, ◌^◌, nat_lt, IsTrue, Some, None, if◌then◌else◌};
-ghost use Rattle.ids.specs.Names.{is_worker, is_epoch, is_actor, is_counted, is_address, house_of, grant_before};
+ghost use Rattle.std.specs.Prelude.{◌≡◌, ◌+◌, ◌-◌, ◌^◌, ◌↔◌, nat_lt, IsTrue, Some, None, if◌then◌else◌};
+ghost use Rattle.std.specs.declared.cmp.Ordering.TheVariants.{Less};
+ghost use Rattle.std.proofs.Common.{rules};
+ghost use Rattle.std.specs.Cmp.{partial_order_from_own_ties};
+ghost use Rattle.std.specs.Cmp.Rules.{comparing};
+ghost use Rattle.std.specs.Ordering.{as_partial_cmp};
+ghost use Rattle.ids.specs.Names.{is_worker, is_epoch, is_actor, is_counted, is_address, house_of, grant_before, grant_cmp};
 
+use std::cmp::Ordering;
 use std::marker::Model;
 
 const HALF: u64 = 1 << 63;
@@ -175,10 +181,36 @@ impl GrantId {
 
     /// Whether it stands before another: by the minter, then by the number.
     pub fn is_before(self, other: GrantId) -> bool
-        ensures { result ≡ grant_before self other }
+        ensures before { result ≡ grant_before self other }
+        ensures less { IsTrue result ↔ (grant_cmp self other ≡ Less) }
     {
         let (here, there) = (self.minter.word(), other.minter.word());
         here < there || (here == there && self.number < other.number)
+    }
+}
+
+/// By the minter, then by the number.
+impl Ord for GrantId {
+    ghost cmp = { grant_cmp };
+
+    ghost total = { Prim.search (comparing, rules) };
+
+    ghost matches_partial_cmp = { Prim.search (comparing, rules) };
+
+    ghost matches_eq = { Prim.search (comparing, rules) };
+
+    fn cmp(&self, other: &GrantId) -> Ordering {
+        (self.minter.word().cmp(&other.minter.word())).then(self.number.cmp(&other.number))
+    }
+}
+
+impl PartialOrd for GrantId {
+    ghost partial_cmp = { as_partial_cmp grant_cmp };
+
+    ghost laws = { partial_order_from_own_ties (Prim.search (comparing, rules)) (Prim.search (comparing, rules)) };
+
+    fn partial_cmp(&self, other: &GrantId) -> Option<Ordering> {
+        Some(self.cmp(other))
     }
 }
 

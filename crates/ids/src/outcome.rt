@@ -4,3 +4,10 @@ pub enum Outcome {
     Value(i64),
     TooDeep,
 }
+
+/// How far a subcomputation is: it goes on, or it has its outcome.
+#[derive(Clone, Copy, PartialEq, Eq, Debug)]
+pub enum Progress {
+    Active,
+    Finished(Outcome),
+}

@@ -2,23 +2,33 @@ ghost use Rattle.std.specs.Prelude.{◌≡◌, ◌≤◌, ◌<◌, ◌↔◌, []
 ghost use Rattle.std.specs.List.{list_all};
 ghost use Rattle.ids.specs.Place.{level_of, is_place, IsPlace};
 
+use crate::limits::{LAST_STEP, MOST_STEPS};
 use crate::listed::Listed;
 use std::alloc::{AllocError, Global};
 use std::marker::Model;
 use thiserror::Error;
 
-/// A place has at most so many steps.
-pub const MOST_STEPS: usize = 1024;
-
 /// Why a place isn't made.
 #[derive(Clone, Copy, Debug, PartialEq, Eq, Error)]
+#[error("E{number}", number = self.number())]
 pub enum PlaceError {
-    /// The place has 1,024 steps.
-    #[error("E1")]
+    /// E1: the place has 1,024 steps.
     Full,
-    /// There is no memory.
-    #[error("E9")]
+    /// E9: there is no memory.
     Memory,
+}
+
+impl PlaceError {
+    /// The number of the refusal: 1 or 9.
+    pub fn number(self) -> u8
+        ensures full { self ≡ PlaceError.Full → result ≡ 1 }
+        ensures memory { self ≡ PlaceError.Memory → result ≡ 9 }
+    {
+        match self {
+            PlaceError::Full => 1,
+            PlaceError::Memory => 9,
+        }
+    }
 }
 
 /// Where a task stands in the tree of a run: the steps from the root, at most 1,024 of them. Step 0 goes to the
@@ -56,7 +66,7 @@ impl Place {
     pub fn of(steps: Listed<u8>) -> Option<Place>
         ensures { result ≡ (if is_place steps then Some (reverse steps) else None) }
     {
-        if steps.len() <= MOST_STEPS && are_steps(steps.as_slice()) {
+        if steps.len() <= MOST_STEPS as usize && are_steps(steps.as_slice()) {
             Some(Place {
                 steps: steps.into_vec(),
             })
@@ -72,7 +82,7 @@ impl Place {
         ensures full { IsErrOf result PlaceError.Full ↔ (1024 ≤ length self.now) }
         ensures short { length self.now ≤ 1024 }
     {
-        if self.steps.len() >= MOST_STEPS {
+        if self.steps.len() >= MOST_STEPS as usize {
             return Err(PlaceError::Full);
         }
         let mut steps = Vec::with_capacity(alloc, self.steps.len() + 1).map_err(memory)?;
@@ -121,11 +131,21 @@ impl Place {
     }
 }
 
+impl Clone for Place {
+    ghost is_clone = { λ source copy. copy ≡ source };
+
+    fn clone(&self) -> Result<Place, AllocError> {
+        Ok(Place {
+            steps: self.steps.clone()?,
+        })
+    }
+}
+
 /// Whether each byte is a step: 0 to the successor, or 1 to 8 to a kid.
 fn are_steps(bytes: &[u8]) -> bool
     ensures { result ≡ list_all (λ step. nat_lt step 9) bytes.now }
 {
-    bytes.iter().all(|step| *step < 9)
+    bytes.iter().all(|step| *step <= LAST_STEP)
 }
 
 /// The byte at an index, where there is one.

@@ -1,6 +1,8 @@
 use crate::{
-    Actor, Address, Count, Epoch, FrameNo, GrantId, Hop, Incarnation, Listed, Place, PlaceError,
+    Actor, Address, Count, Epoch, Frame, FrameNo, GrantId, Hop, Incarnation, Listed, Member, Named,
+    Place, PlaceError, Record, Return, Status, Store, Task,
 };
+use std::alloc::Global;
 use std::test::Fail;
 
 #[test]
@@ -154,5 +156,167 @@ fn places_are_made_of_their_steps(rt: HostRuntime) -> Result<(), Fail> {
     assert!(rt; Place::of(steps).is_some());
     let steps = Listed::from_vec(Vec::from_slice(alloc, &[0; 1025])?);
     assert!(rt; Place::of(steps).is_none());
+    Ok(())
+}
+
+#[test]
+fn refusals_have_their_texts(rt: HostRuntime) -> Result<(), Fail> {
+    let alloc = rt.alloc();
+    let full = format!(in alloc; "{}", PlaceError::Full)?;
+    let memory = format!(in alloc; "{}", PlaceError::Memory)?;
+    assert_eq!(rt; (full.as_str(), memory.as_str()), ("E1", "E9"));
+    Ok(())
+}
+
+/// A frame of thread 5 at the place of steps 2 and 0, whose second slot is empty.
+fn frame(alloc: Global, number: u32) -> Result<Frame, Fail> {
+    Ok(Frame {
+        number: FrameNo::of(number),
+        place: Place::root(alloc).child(alloc, 2)?.next(alloc)?,
+        thread: 5,
+        slots: Listed::from_vec(Vec::from_slice(alloc, &[Some(-7), None])?),
+        returns: Return::Local(FrameNo::of(1), 3),
+    })
+}
+
+fn is_frame(frame: &Frame, number: u32) -> bool {
+    frame.number == FrameNo::of(number)
+        && frame.place.steps() == [2, 0].as_slice()
+        && frame.thread == 5
+        && frame.slots.as_slice() == [Some(-7), None].as_slice()
+        && frame.returns == Return::Local(FrameNo::of(1), 3)
+}
+
+/// The record of worker 3's eighth grant, which worker 6 holds: frame 4, of thread 63 at the place of step 8.
+fn record(alloc: Global) -> Result<Record, Fail> {
+    Ok(Record {
+        grant: GrantId::of(Actor::of(3).ok_or("a worker")?, 8).ok_or("a grant")?,
+        holder: Incarnation::worker(6).ok_or("a worker")?,
+        frame: FrameNo::of(4),
+        task: Task {
+            place: Place::root(alloc).child(alloc, 8)?,
+            thread: 63,
+            numbers: Listed::from_vec(Vec::from_slice(alloc, &[1, i64::MIN])?),
+        },
+        returns: Return::Whole,
+    })
+}
+
+fn is_record(record: &Record) -> bool {
+    let grant = record.grant;
+    grant.minter().word() == 3
+        && grant.number() == 8
+        && record.holder.word() == 6
+        && record.frame == FrameNo::of(4)
+        && record.returns == Return::Whole
+        && is_task(&record.task)
+}
+
+fn is_task(task: &Task) -> bool {
+    task.place.steps() == [8].as_slice()
+        && task.thread == 63
+        && task.numbers.as_slice() == [1, i64::MIN].as_slice()
+}
+
+#[test]
+fn a_copy_of_a_frame_is_equal(rt: HostRuntime) -> Result<(), Fail> {
+    let first = frame(rt.alloc(), 9)?;
+    let copy = first.clone()?;
+    assert!(rt; is_frame(&first, 9) && is_frame(&copy, 9));
+    Ok(())
+}
+
+#[test]
+fn a_copy_of_a_record_is_equal(rt: HostRuntime) -> Result<(), Fail> {
+    let first = record(rt.alloc())?;
+    let copy = first.clone()?;
+    assert!(rt; is_record(&first) && is_record(&copy));
+    Ok(())
+}
+
+#[test]
+fn names_tell_what_is_kept_apart(rt: HostRuntime) -> Result<(), Fail> {
+    let worker = Incarnation::worker(6).ok_or("a worker")?;
+    let member = Member {
+        incarnation: worker,
+        status: Status::Left(Incarnation::worker(7).ok_or("a worker")?),
+    };
+    assert_eq!(rt;
+        (member.name(), frame(rt.alloc(), 9)?.name()),
+        ((6, 0), (9, 0))
+    );
+    Ok(())
+}
+
+fn member(word: u64, status: Status) -> Option<Member> {
+    let incarnation = Incarnation::worker(word)?;
+    Some(Member {
+        incarnation,
+        status,
+    })
+}
+
+/// Members that live.
+fn members(alloc: Global, words: &[u64]) -> Result<Store<Member>, Fail> {
+    let mut store = Store::new(alloc);
+    for word in words {
+        store.put(member(*word, Status::Live).ok_or("a member")?)?;
+    }
+    Ok(store)
+}
+
+/// Whether a store keeps a member of this status under a word.
+fn keeps(store: &Store<Member>, word: u64, status: Status) -> bool {
+    match store.get((word, 0)) {
+        Some(kept) => kept.incarnation.word() == word && kept.status == status,
+        None => false,
+    }
+}
+
+#[test]
+fn items_are_found_by_their_names(rt: HostRuntime) -> Result<(), Fail> {
+    let store = members(rt.alloc(), &[7, 2, 9, 2])?;
+    assert_eq!(rt; store.len(), 3);
+    assert!(rt; keeps(&store, 2, Status::Live) && keeps(&store, 9, Status::Live));
+    assert!(rt; store.get((3, 0)).is_none() && store.get((2, 1)).is_none());
+    Ok(())
+}
+
+#[test]
+fn items_stand_by_rising_names(rt: HostRuntime) -> Result<(), Fail> {
+    let store = members(rt.alloc(), &[7, 2, 9])?;
+    let mut last = 0;
+    for kept in store.values() {
+        assert!(rt; last < kept.incarnation.word());
+        last = kept.incarnation.word();
+    }
+    assert_eq!(rt; last, 9);
+    Ok(())
+}
+
+#[test]
+fn an_item_makes_room_for_one_of_its_name(rt: HostRuntime) -> Result<(), Fail> {
+    let mut store = members(rt.alloc(), &[7, 2])?;
+    store.put(member(7, Status::Dead).ok_or("a member")?)?;
+    assert!(rt; store.len() == 2 && keeps(&store, 7, Status::Dead));
+    Ok(())
+}
+
+#[test]
+fn an_item_is_taken_once(rt: HostRuntime) -> Result<(), Fail> {
+    let mut store = members(rt.alloc(), &[7, 2])?;
+    assert_eq!(rt; store.take((7, 0)), member(7, Status::Live));
+    assert_eq!(rt; store.take((7, 0)), None);
+    assert!(rt; store.len() == 1 && keeps(&store, 2, Status::Live));
+    Ok(())
+}
+
+#[test]
+fn a_copied_store_keeps_its_items(rt: HostRuntime) -> Result<(), Fail> {
+    let mut store = Store::new(rt.alloc());
+    store.put(frame(rt.alloc(), 7)?)?;
+    let copy = store.clone()?;
+    assert!(rt; store.take((7, 0)).is_some_and(|taken| is_frame(&taken, 7)));
+    assert!(rt; store.len() == 0 && copy.get((7, 0)).is_some_and(|kept| is_frame(kept, 7)));
     Ok(())
 }

@@ -22,7 +22,7 @@ use Rattle.kind_check.specs.declared.turn.Turn.{Turn}
 use Rattle.kind_check.specs.declared.turn.Turn.TheVariants.{Sends, Joins}
 use Rattle.kind_check.specs.Value.{Env, value_of}
 use Rattle.kind_check.specs.Turns.{◌>>=◌, after_lets, thread_from, thread_of, use_of, slot_for, slots_of, end_turn, block_turn}
-use Rattle.kind_check.specs.Faults.{Scope, kind_of, with_name, new_faults, own_faults, hole_faults, expr_faults, exprs_faults, lets_faults, after_names, arity_faults, thread_named, call_faults, arguments_faults, after_arguments, again_faults, given_faults, uses_faults, used_faults, unused_faults, end_faults, block_faults}
+use Rattle.kind_check.specs.Faults.{Scope, kind_of, with_name, new_faults, own_faults, hole_faults, expr_faults, exprs_faults, lets_faults, after_names, arity_faults, thread_named, call_faults, arguments_faults, after_arguments, given_faults, uses_faults, used_faults, unused_faults, end_faults, block_faults}
 use Rattle.kind_check.specs.Total.{Takes, SlotFits, SlotsFit, TurnFits}
 use Rattle.kind_check.proofs.Known.{Defined, Covers, none_left, test_passed, covers_hole, expr_known, exprs_known, lets_known}
 
@@ -69,9 +69,8 @@ call_known p name count h = at_thread (thread_named p.threads name.text) refl h
 pub given_there : (ts : List Thread) (s : Scope) (before us : List Use) (name : List ℕ) (given : Given) → uses_faults ts s before us ≡ [] → use_of us name ≡ Some given → given_faults ts s given ≡ []
 given_there ts s before [] name given h e = absurd cc
 given_there ts s before (u ∷ us) name given h e =
-    let a = none_left (hole_faults u.hole.offset (kind_of s u.hole.text)) (again_faults u.hole.offset (use_of before u.hole.text) ++ (given_faults ts s u.given ++ uses_faults ts s (before ++ u ∷ []) us)) h in
-    let b = none_left (again_faults u.hole.offset (use_of before u.hole.text)) (given_faults ts s u.given ++ uses_faults ts s (before ++ u ∷ []) us) a.1 in
-    let d = none_left (given_faults ts s u.given) (uses_faults ts s (before ++ u ∷ []) us) b.1 in
+    let a = none_left (hole_faults u.hole.offset (kind_of s u.hole.text) (use_of before u.hole.text)) (given_faults ts s u.given ++ uses_faults ts s (before ++ u ∷ []) us) h in
+    let d = none_left (given_faults ts s u.given) (uses_faults ts s (before ++ u ∷ []) us) a.1 in
     at_test (bytes_eq u.hole.text name) d.0 (given_there ts s (before ++ u ∷ []) us name given d.1) e
   where
     at_test : (t : Bool) → given_faults ts s u.given ≡ [] → (use_of us name ≡ Some given → given_faults ts s given ≡ []) → (if t then Some u.given else use_of us name) ≡ Some given → given_faults ts s given ≡ []

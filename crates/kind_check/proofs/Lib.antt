@@ -10,3 +10,4 @@ pub mod Resolving
 pub mod Scopes
 pub mod Steps
 pub mod Once
+pub mod EqualKinds

@@ -16,7 +16,7 @@ use Rattle.task_syntax.specs.declared.tree.Program.{Program}
 use Rattle.kind_check.specs.declared.names.Kind.{Kind}
 use Rattle.kind_check.specs.declared.names.Kind.TheVariants.{Own, Value, Waits}
 use Rattle.kind_check.specs.Turns.{use_of}
-use Rattle.kind_check.specs.Faults.{Scope, kind_of, with_name, own_faults, hole_faults, expr_faults, lets_faults, after_names, call_faults, arguments_faults, after_arguments, again_faults, given_faults, uses_faults, used_faults, unused_faults, end_faults, block_faults, limit_faults, parameters_faults, after_parameters, own_scope, thread_faults, again_named, threads_faults, thread_named, main_faults, faults}
+use Rattle.kind_check.specs.Faults.{Scope, kind_of, with_name, own_faults, hole_faults, expr_faults, lets_faults, after_names, call_faults, arguments_faults, after_arguments, given_faults, uses_faults, used_faults, unused_faults, end_faults, block_faults, limit_faults, parameters_faults, after_parameters, own_scope, thread_faults, again_named, threads_faults, thread_named, main_faults, faults}
 use Rattle.kind_check.specs.Holes.{uses_count, UsedOnce, has_hole, AreHoles, EndUsesOnce, ThreadsUseOnce, HolesUsedOnce}
 use Rattle.kind_check.proofs.Known.{none_left, or_else, kind_of_more}
 
@@ -47,20 +47,21 @@ second_there None x = record { value = x; is = refl }
 
 -- the parts of what no use is at fault for
 pub record UseSound (ts : List Thread) (s : Scope) (before : List Use) (u : Use) (us : List Use) : Type 0 where
-  pub hole : hole_faults u.hole.offset (kind_of s u.hole.text) ≡ []
-  pub again : again_faults u.hole.offset (use_of before u.hole.text) ≡ []
+  pub hole : hole_faults u.hole.offset (kind_of s u.hole.text) (use_of before u.hole.text) ≡ []
   pub rest : uses_faults ts s (before ++ u ∷ []) us ≡ []
 
 use_sound : (ts : List Thread) (s : Scope) (before : List Use) (u : Use) (us : List Use) → uses_faults ts s before (u ∷ us) ≡ [] → UseSound ts s before u us
 use_sound ts s before u us h =
-    let a = none_left (hole_faults u.hole.offset (kind_of s u.hole.text)) (again_faults u.hole.offset (use_of before u.hole.text) ++ (given_faults ts s u.given ++ uses_faults ts s (before ++ u ∷ []) us)) h in
-    let b = none_left (again_faults u.hole.offset (use_of before u.hole.text)) (given_faults ts s u.given ++ uses_faults ts s (before ++ u ∷ []) us) a.1 in
-    let d = none_left (given_faults ts s u.given) (uses_faults ts s (before ++ u ∷ []) us) b.1 in
-    record { hole = a.0; again = b.0; rest = d.1 }
+    let a = none_left (hole_faults u.hole.offset (kind_of s u.hole.text) (use_of before u.hole.text)) (given_faults ts s u.given ++ uses_faults ts s (before ++ u ∷ []) us) h in
+    let b = none_left (given_faults ts s u.given) (uses_faults ts s (before ++ u ∷ []) us) a.1 in
+    record { hole = a.0; rest = b.1 }
 
-not_again : (at : ℕ) (o : Option Given) → again_faults at o ≡ [] → There o → ⊥
-not_again at None h t = let e = t.is in cc
-not_again at (Some g) h t = cc
+not_again : (at : ℕ) (k : Option Kind) (o : Option Given) → hole_faults at k o ≡ [] → There o → ⊥
+not_again at k None h t = let e = t.is in cc
+not_again at None (Some g) h t = cc
+not_again at (Some Waits) (Some g) h t = cc
+not_again at (Some Value) (Some g) h t = cc
+not_again at (Some Own) (Some g) h t = cc
 
 nothing_counted : (m n : ℕ) → n ≡ 0 + m → m ≡ 0 → n ≡ 0
 nothing_counted m n e none = omega arith
@@ -73,7 +74,7 @@ none_later ts s before (u ∷ us) name h t =
     let more : There (use_of (before ++ u ∷ []) name) = rw (use_of_more before u name) (first_there (use_of before name) (if bytes_eq u.hole.text name then Some u.given else None) t) in
     let later = none_later ts s (before ++ u ∷ []) us name u1.rest more in
     let same = (bytes_eq-Decides u.hole.text name).0 in
-    none_counted (bytes_eq u.hole.text name) (λ equal. not_again u.hole.offset (use_of before u.hole.text) u1.again (rw (same equal) t)) (uses_count us name) (uses_count (u ∷ us) name) (count_more u us name) later
+    none_counted (bytes_eq u.hole.text name) (λ equal. not_again u.hole.offset (kind_of s u.hole.text) (use_of before u.hole.text) u1.hole (rw (same equal) t)) (uses_count us name) (uses_count (u ∷ us) name) (count_more u us name) later
   where
     none_counted : (t : Bool) → (t ≡ true → ⊥) → (m n : ℕ) → n ≡ cond t 1 0 + m → m ≡ 0 → n ≡ 0
     none_counted true clean m n e later = absurd (clean refl)
@@ -132,17 +133,17 @@ waits_behind s (argument.Hole x ∷ args) name e = elim (waits_behind (with_name
   | inr among ↦ inr (or_true (bytes_eq x.text name) (has_hole args name) among)
 ]
 
-it_waits : (at : ℕ) (o : Option Kind) → hole_faults at o ≡ [] → o ≡ Some Waits
-it_waits at None h = absurd cc
-it_waits at (Some Waits) h = refl
-it_waits at (Some Value) h = absurd cc
-it_waits at (Some Own) h = absurd cc
+it_waits : (at : ℕ) (o : Option Kind) (g : Option Given) → hole_faults at o g ≡ [] → o ≡ Some Waits
+it_waits at None g h = absurd cc
+it_waits at (Some Waits) g h = refl
+it_waits at (Some Value) g h = absurd cc
+it_waits at (Some Own) g h = absurd cc
 
 are_holes : (ts : List Thread) (s : Scope) (args : List Argument) (before us : List Use) → NoHoles s → uses_faults ts (after_arguments s args) before us ≡ [] → AreHoles args us
 are_holes ts s args before [] clean h = tt
 are_holes ts s args before (u ∷ us) clean h =
     let u1 = use_sound ts (after_arguments s args) before u us h in
-    let waits = it_waits u.hole.offset (kind_of (after_arguments s args) u.hole.text) u1.hole in
+    let waits = it_waits u.hole.offset (kind_of (after_arguments s args) u.hole.text) (use_of before u.hole.text) u1.hole in
     (elim (waits_behind s args u.hole.text waits) [ inl before ↦ absurd (clean.none u.hole.text before) | inr among ↦ among ], are_holes ts s args (before ++ u ∷ []) us clean u1.rest)
 
 value_more : (o : Option Kind) (t : Bool) → or_else o (if t then Some Value else None) ≡ Some Waits → o ≡ Some Waits

@@ -11,7 +11,7 @@ use Rattle.task_syntax.specs.declared.tree.Use.{Use}
 use Rattle.task_syntax.specs.declared.tree.Thread.{Thread}
 use Rattle.kind_check.specs.Turns.{use_of}
 use Rattle.kind_check.specs.declared.names.Kind.TheVariants.{Value, Waits}
-use Rattle.kind_check.specs.Faults.{Fault, Scope, kind_of, with_name, new_faults, expr_faults, exprs_faults, lets_faults, after_names, arguments_faults, after_arguments, hole_faults, again_faults, given_faults, uses_faults}
+use Rattle.kind_check.specs.Faults.{Fault, Scope, kind_of, with_name, new_faults, expr_faults, exprs_faults, lets_faults, after_names, arguments_faults, after_arguments, hole_faults, given_faults, uses_faults}
 use Rattle.kind_check.specs.Least.{least_with}
 use Rattle.kind_check.proofs.Leasts.{least_append}
 
@@ -59,12 +59,11 @@ after_hole_step s after args i x h at a =
     ap (λ t. after_arguments t (drop (i + 1) args)) a ∙ ap (after_arguments s) (sym (rest_at args i (argument.Hole x) h at))
 
 -- one use more is met
-pub uses_step : (ts : List Thread) (s : Scope) (us : List Use) (i : ℕ) (u : Use) (least used met : Option Fault) → i < length us → u ≡ get_or us i u → used ≡ least_with least (hole_faults u.hole.offset (kind_of s u.hole.text) ++ again_faults u.hole.offset (use_of (take i us) u.hole.text)) → met ≡ least_with used (given_faults ts s u.given) → least_with met (uses_faults ts s (take (i + 1) us) (drop (i + 1) us)) ≡ least_with least (uses_faults ts s (take i us) (drop i us))
+pub uses_step : (ts : List Thread) (s : Scope) (us : List Use) (i : ℕ) (u : Use) (least used met : Option Fault) → i < length us → u ≡ get_or us i u → used ≡ least_with least (hole_faults u.hole.offset (kind_of s u.hole.text) (use_of (take i us) u.hole.text)) → met ≡ least_with used (given_faults ts s u.given) → least_with met (uses_faults ts s (take (i + 1) us) (drop (i + 1) us)) ≡ least_with least (uses_faults ts s (take i us) (drop i us))
 uses_step ts s us i u least used met h at a m =
     let rest : List Fault = uses_faults ts s (take i us ++ u ∷ []) (drop (i + 1) us) in
     let given : List Fault = given_faults ts s u.given in
-    let hole : List Fault = hole_faults u.hole.offset (kind_of s u.hole.text) in
-    let again : List Fault = again_faults u.hole.offset (use_of (take i us) u.hole.text) in
+    let hole : List Fault = hole_faults u.hole.offset (kind_of s u.hole.text) (use_of (take i us) u.hole.text) in
     let more : take (i + 1) us ≡ take i us ++ u ∷ [] = take_more us i u h ∙ ap (λ x. take i us ++ x ∷ []) (sym at) in
-    ap (λ before. least_with met (uses_faults ts s before (drop (i + 1) us))) more ∙ ap (λ o. least_with o rest) m ∙ sym (least_append used given rest) ∙ ap (λ o. least_with o (given ++ rest)) (a ∙ least_append least hole again) ∙ sym (least_append (least_with least hole) again (given ++ rest)) ∙ sym (least_append least hole (again ++ (given ++ rest)))
+    ap (λ before. least_with met (uses_faults ts s before (drop (i + 1) us))) more ∙ ap (λ o. least_with o rest) m ∙ sym (least_append used given rest) ∙ ap (λ o. least_with o (given ++ rest)) a ∙ sym (least_append least hole (given ++ rest))
     ∙ ap (λ left. least_with least (uses_faults ts s (take i us) left)) (sym (rest_at us i u h at))

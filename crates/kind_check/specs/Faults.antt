@@ -53,12 +53,13 @@ own_faults at (Some Own) = []
 own_faults at (Some Value) = (at, KindMismatch) ∷ []
 own_faults at (Some Waits) = (at, KindMismatch) ∷ []
 
--- a name where a hole stands; the own continuation was taken before
-abbrev pub hole_faults : ℕ → Option Kind → List Fault
-hole_faults at None = (at, UnknownName) ∷ []
-hole_faults at (Some Waits) = []
-hole_faults at (Some Value) = (at, KindMismatch) ∷ []
-hole_faults at (Some Own) = (at, ContTwice) ∷ []
+-- a name where a hole is used, and what was given to it before; the own continuation was taken before
+abbrev pub hole_faults : ℕ → Option Kind → Option Given → List Fault
+hole_faults at None before = (at, UnknownName) ∷ []
+hole_faults at (Some Waits) None = []
+hole_faults at (Some Waits) (Some given) = (at, ContTwice) ∷ []
+hole_faults at (Some Value) before = (at, KindMismatch) ∷ []
+hole_faults at (Some Own) before = (at, ContTwice) ∷ []
 
 abbrev pub expr_faults : Scope → Expr → List Fault
 expr_faults s (Number n) = []
@@ -108,11 +109,6 @@ after_arguments s [] = s
 after_arguments s (argument.Value e ∷ args) = after_arguments s args
 after_arguments s (argument.Hole x ∷ args) = after_arguments (with_name s x.text Waits) args
 
--- a hole that was used before
-abbrev pub again_faults : ℕ → Option Given → List Fault
-again_faults at None = []
-again_faults at (Some given) = (at, ContTwice) ∷ []
-
 -- what is given to a hole
 abbrev pub given_faults : List Thread → Scope → Given → List Fault
 given_faults ts s (Sent e) = expr_faults s e
@@ -121,7 +117,7 @@ given_faults ts s (Spawned name es) = call_faults ts name (length es) ++ exprs_f
 -- uses of holes, after those before
 abbrev pub uses_faults : List Thread → Scope → List Use → List Use → List Fault
 uses_faults ts s before [] = []
-uses_faults ts s before (u ∷ us) = hole_faults u.hole.offset (kind_of s u.hole.text) ++ (again_faults u.hole.offset (use_of before u.hole.text) ++ (given_faults ts s u.given ++ uses_faults ts s (before ++ u ∷ []) us))
+uses_faults ts s before (u ∷ us) = hole_faults u.hole.offset (kind_of s u.hole.text) (use_of before u.hole.text) ++ (given_faults ts s u.given ++ uses_faults ts s (before ++ u ∷ []) us)
 
 -- at the closing brace, a hole that wasn't used
 abbrev pub used_faults : ℕ → Option Given → List Fault

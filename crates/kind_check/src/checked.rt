@@ -57,11 +57,25 @@ impl KindFault {
 #[derive(Clone, Copy, Debug, PartialEq, Eq, Error)]
 pub enum KindError {
     /// The least kind fault of the program, and its byte offset in the text.
-    #[error("E{number} at {1}", number = .0.number())]
+    #[error("E{number} at {1}", number = self.number())]
     Fault(KindFault, u32),
     /// E9: there is no memory.
-    #[error("E9")]
+    #[error("E{number}", number = self.number())]
     Memory,
+}
+
+impl KindError {
+    ghost use Rattle.kind_check.specs.Refused.{number_of_error};
+
+    /// The number of the refusal: 9, or 10 to 18.
+    pub fn number(self) -> u8
+        ensures { result ≡ number_of_error self }
+    {
+        match self {
+            KindError::Fault(fault, _) => fault.number(),
+            KindError::Memory => 9,
+        }
+    }
 }
 
 /// An accepted program: no kind is wrong, and so every body reaches an end on any numbers.

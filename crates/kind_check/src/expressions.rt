@@ -1,5 +1,5 @@
 ghost use Rattle.std.specs.Prelude.{◌≡◌};
-ghost use Rattle.kind_check.specs.Faults.{kind_of, new_faults, number_faults, own_faults, hole_faults, expr_faults, exprs_faults};
+ghost use Rattle.kind_check.specs.Faults.{kind_of, new_faults, number_faults, own_faults, expr_faults, exprs_faults};
 ghost use Rattle.kind_check.specs.Least.{least_with};
 
 use crate::checked::KindFault;
@@ -37,18 +37,6 @@ pub fn own_name(scope: &Scope<'_>, name: &Name, least: &mut Least)
         None => least.note(name.offset, KindFault::UnknownName),
         Some(Kind::Own) => {}
         Some(Kind::Value | Kind::Waits) => least.note(name.offset, KindFault::KindMismatch),
-    }
-}
-
-/// A name where a hole stands, behind a `spawn_next` that took the own continuation.
-pub fn hole_name(scope: &Scope<'_>, name: &Name, least: &mut Least)
-    ensures { least.new ≡ least_with least.old (hole_faults name.now.offset (kind_of scope.now name.now.text)) }
-{
-    match scope.kind(name.text.as_slice()) {
-        None => least.note(name.offset, KindFault::UnknownName),
-        Some(Kind::Waits) => {}
-        Some(Kind::Value) => least.note(name.offset, KindFault::KindMismatch),
-        Some(Kind::Own) => least.note(name.offset, KindFault::ContTwice),
     }
 }
 

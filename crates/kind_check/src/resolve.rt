@@ -5,11 +5,9 @@ use crate::code::{BlockCode, Code, EndCode, Leaf, SlotCode};
 use crate::index::Index;
 use crate::tables::{Threads, Uses};
 use ids::Listed;
+use ids::limits::MOST_SLOTS;
 use std::alloc::{AllocError, Global};
 use task_syntax::{Argument, Block, End, Expr, Given, Let, Name, Program, Thread, Use};
-
-/// A successor has at most so many holes.
-const MOST_HOLES: usize = 8;
 
 /// An expression, by the places of its names.
 fn expression(alloc: Global, names: &Index<'_>, expr: &Expr) -> Result<Code, AllocError>
@@ -100,7 +98,7 @@ fn hole_slot(
     requires { length threads.now.all.now < 65 }
     ensures { IfOk result (ResolvesSlot threads.now.all.now names.now uses.now.all.now hole (Argument.Hole name.now)) }
 {
-    if hole > MOST_HOLES {
+    if hole > MOST_SLOTS as usize {
         return Ok(SlotCode::Absent);
     }
     match uses.given(name.text.as_slice()) {

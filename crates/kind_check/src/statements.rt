@@ -1,20 +1,18 @@
 ghost use Rattle.std.specs.Prelude.{◌≡◌, ◌++◌, [], OnOk, length, take};
 ghost use Rattle.kind_check.specs.Turns.{use_of};
-ghost use Rattle.kind_check.specs.Faults.{kind_of, hole_faults, again_faults, lets_faults, after_names, arguments_faults, after_arguments, call_faults, given_faults, uses_faults, unused_faults, parameters_faults, after_parameters};
+ghost use Rattle.kind_check.specs.Faults.{kind_of, hole_faults, lets_faults, after_names, arguments_faults, after_arguments, call_faults, given_faults, uses_faults, unused_faults, parameters_faults, after_parameters};
 ghost use Rattle.kind_check.specs.Least.{least_with};
 
 use crate::checked::KindFault;
-use crate::expressions::{expression, expressions, hole_name, new_name};
+use crate::expressions::{expression, expressions, new_name};
 use crate::least::Least;
 use crate::names::Kind;
 use crate::scope::Scope;
 use crate::tables::{Threads, Uses};
 use ids::Listed;
+use ids::limits::MOST_NUMBERS;
 use std::alloc::AllocError;
 use task_syntax::{Argument, Given, Let, Name};
-
-/// How many number parameters a thread may have.
-const MOST_PARAMETERS: usize = 8;
 
 /// Number parameters: each name is new, and there are at most 8.
 #[tactic(auto, using(crate::proofs::Leasts::least_append))]
@@ -28,7 +26,7 @@ pub fn parameters<'a>(
 {
     for (i, name) in numbers.as_slice().iter().enumerate() {
         new_name(scope, name, least);
-        if i >= MOST_PARAMETERS {
+        if i >= MOST_NUMBERS as usize {
             least.note(name.offset, KindFault::Limit);
         }
         scope.add(&name.text, Kind::Value)?;
@@ -104,14 +102,21 @@ pub fn given(threads: &Threads<'_>, scope: &Scope<'_>, given: &Given, least: &mu
     }
 }
 
-/// The hole of use `number`: it waits, and no use before that one is of it.
+/// The hole of use `number`, behind a `spawn_next` that took the own continuation: it waits, and no use before that one is
+/// of it.
 #[tactic(auto, using(crate::proofs::Leasts::least_append))]
 fn used_hole(scope: &Scope<'_>, uses: &Uses<'_>, number: usize, hole: &Name, least: &mut Least)
-    ensures { least.new ≡ least_with least.old (hole_faults hole.now.offset (kind_of scope.now hole.now.text) ++ again_faults hole.now.offset (use_of (take number uses.now.all.now) hole.now.text)) }
+    ensures { least.new ≡ least_with least.old (hole_faults hole.now.offset (kind_of scope.now hole.now.text) (use_of (take number uses.now.all.now) hole.now.text)) }
 {
-    hole_name(scope, hole, least);
-    if uses.is_among(number, hole.text.as_slice()) {
-        least.note(hole.offset, KindFault::ContTwice);
+    match scope.kind(hole.text.as_slice()) {
+        None => least.note(hole.offset, KindFault::UnknownName),
+        Some(Kind::Waits) => {
+            if uses.is_among(number, hole.text.as_slice()) {
+                least.note(hole.offset, KindFault::ContTwice);
+            }
+        }
+        Some(Kind::Value) => least.note(hole.offset, KindFault::KindMismatch),
+        Some(Kind::Own) => least.note(hole.offset, KindFault::ContTwice),
     }
 }
 

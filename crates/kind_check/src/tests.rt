@@ -74,9 +74,20 @@ fn the_least_fault_is_answered(rt: HostRuntime) -> Result<(), Fail> {
 #[test]
 fn refusals_are_printed_with_their_number_and_offset(rt: HostRuntime) -> Result<(), Fail> {
     let alloc = rt.alloc();
-    let fault = format!(in alloc; "{}", KindError::Fault(KindFault::KindMismatch, 33))?;
-    assert_eq!(rt; fault.as_str(), "E15 at 33");
-    let memory = format!(in alloc; "{}", KindError::Memory)?;
-    assert_eq!(rt; memory.as_str(), "E9");
+    for (fault, want) in [
+        (KindFault::NoMain, "E10 at 33"),
+        (KindFault::NameTwice, "E11 at 33"),
+        (KindFault::UnknownThread, "E12 at 33"),
+        (KindFault::UnknownName, "E13 at 33"),
+        (KindFault::Arity, "E14 at 33"),
+        (KindFault::KindMismatch, "E15 at 33"),
+        (KindFault::ContUnused, "E16 at 33"),
+        (KindFault::ContTwice, "E17 at 33"),
+        (KindFault::Limit, "E18 at 33"),
+    ] {
+        let refusal = KindError::Fault(fault, 33);
+        assert_eq!(rt; format!(in alloc; "{refusal}")?.as_str(), want);
+    }
+    assert_eq!(rt; format!(in alloc; "{}", KindError::Memory)?.as_str(), "E9");
     Ok(())
 }

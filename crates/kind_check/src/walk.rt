@@ -9,11 +9,9 @@ use crate::names::Kind;
 use crate::scope::Scope;
 use crate::statements::{arguments, call, lets, parameters, unused, uses};
 use crate::tables::{Threads, Uses};
+use ids::limits::MOST_THREADS;
 use std::alloc::{AllocError, Global};
 use task_syntax::{Block, End, Name, Program, Thread};
-
-/// How many threads a program may have.
-const MOST_THREADS: usize = 64;
 
 /// A block; the names that it brings into scope are out of scope behind it.
 #[tactic(auto, using(crate::proofs::Leasts::least_append))]
@@ -76,7 +74,7 @@ fn thread_name(threads: &Threads<'_>, number: usize, name: &Name, least: &mut Le
     if threads.is_among(number, name.text.as_slice()) {
         least.note(name.offset, KindFault::NameTwice);
     }
-    if number >= MOST_THREADS {
+    if number >= MOST_THREADS as usize {
         least.note(name.offset, KindFault::Limit);
     }
 }

@@ -13,11 +13,11 @@ use Rattle.ids.specs.declared.outcome.Outcome.TheVariants.{Value, TooDeep}
 use Rattle.ids.specs.declared.returns.Return.{Return}
 use Rattle.ids.specs.declared.returns.Return.TheVariants.{Whole, Local}
 use Rattle.packet_fields.specs.declared.fault.Fault.TheVariants.{Field}
-use Rattle.packet_fields.specs.declared.parts.Progress.{Progress}
-use Rattle.packet_fields.specs.declared.parts.Progress.TheVariants.{Active, Finished}
-use Rattle.packet_fields.specs.declared.parts.Status.{Status}
-use Rattle.packet_fields.specs.declared.parts.Status.TheVariants.{Live, Dead, Left}
-use Rattle.packet_fields.specs.declared.parts.Task.{Task}
+use Rattle.ids.specs.declared.outcome.Progress.{Progress}
+use Rattle.ids.specs.declared.outcome.Progress.TheVariants.{Active, Finished}
+use Rattle.ids.specs.declared.member.Status.{Status}
+use Rattle.ids.specs.declared.member.Status.TheVariants.{Live, Dead, Left}
+use Rattle.ids.specs.declared.work.Task.{Task}
 use Rattle.packet_fields.specs.Format.{Format, IsBytes, ◌>>=◌, at_most, checked, followed, items, number, plain}
 use Rattle.packet_fields.specs.Fields.{actor, address, allows, below, counted, epoch, frame, frames, goes_to, grant, grant_of_record, heir_in, hop, is_above, is_active, is_behind, is_dead, is_live, is_open, is_too_deep, is_whole, is_word, local_in, member, members, name_of_member, number_of_frame, numbers, other_worker, outcome, outcome_arm, outcome_in, place, progress, progress_arm, raised, records, return_arm, signed, slot, slot_arm, slots, status, status_arm, step, steps, stolen, tag_of_outcome, tag_of_progress, tag_of_return, tag_of_slot, tag_of_status, task, thread, value_in, worker}
 use Rattle.packet_fields.proofs.FormatLaws.{Lawful, bind_ok, checked_lawful, chosen_lawful, followed_lawful, items_lawful, items_length, listed_lawful, made_lawful, never_lawful, nothing_lawful, number_again, number_lawful, ok_is, plain_lawful, plain_length, variant_lawful, wide1, wide2, wide4, wide8}

@@ -8,9 +8,9 @@ use Rattle.std.proofs.lemmas.List.Elements.{All-head, All-tail}
 use Rattle.ids.specs.Place.{IsPlace}
 use Rattle.ids.proofs.Places.{All-reverse}
 use Rattle.ids.specs.declared.outcome.Outcome.TheVariants.{Value, TooDeep}
-use Rattle.packet_fields.specs.declared.parts.Member.{Member}
-use Rattle.packet_fields.specs.declared.parts.Progress.{Progress}
-use Rattle.packet_fields.specs.declared.parts.Progress.TheVariants.{Active, Finished}
+use Rattle.ids.specs.declared.member.Member.{Member}
+use Rattle.ids.specs.declared.outcome.Progress.{Progress}
+use Rattle.ids.specs.declared.outcome.Progress.TheVariants.{Active, Finished}
 use Rattle.packet_fields.specs.Format.{Format, items, of_part, plain}
 use Rattle.packet_fields.specs.Fields.{member, members, name_of_member, numbers, outcome, outcome_in, place, progress, signed, slot, slots, step, steps}
 

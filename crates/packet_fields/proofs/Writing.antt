@@ -12,11 +12,11 @@ use Rattle.ids.specs.declared.outcome.Outcome.{Outcome}
 use Rattle.ids.specs.declared.outcome.Outcome.TheVariants.{Value, TooDeep}
 use Rattle.ids.specs.declared.returns.Return.{Return}
 use Rattle.ids.specs.declared.returns.Return.TheVariants.{Whole, Local}
-use Rattle.packet_fields.specs.declared.parts.Frame.{Frame}
-use Rattle.packet_fields.specs.declared.parts.Member.{Member}
-use Rattle.packet_fields.specs.declared.parts.Progress.{Progress}
-use Rattle.packet_fields.specs.declared.parts.Progress.TheVariants.{Finished}
-use Rattle.packet_fields.specs.declared.parts.Record.{Record}
+use Rattle.ids.specs.declared.work.Frame.{Frame}
+use Rattle.ids.specs.declared.member.Member.{Member}
+use Rattle.ids.specs.declared.outcome.Progress.{Progress}
+use Rattle.ids.specs.declared.outcome.Progress.TheVariants.{Finished}
+use Rattle.ids.specs.declared.work.Record.{Record}
 use Rattle.packet_fields.specs.Format.{Format, items, plain}
 use Rattle.packet_fields.specs.Fields.{frame, frames, goes_to, grant_of_record, member, members, name_of_member, number_of_frame, numbers, outcome, place, progress, records, signed, slot, slots, step, steps, stolen}
 

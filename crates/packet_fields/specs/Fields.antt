@@ -8,14 +8,14 @@ use Rattle.ids.specs.declared.outcome.Outcome.TheVariants.{Value, TooDeep}
 use Rattle.ids.specs.declared.returns.Return.{Return}
 use Rattle.ids.specs.declared.returns.Return.TheVariants.{Whole, Local}
 use Rattle.packet_fields.specs.declared.fault.Fault.TheVariants.{Field}
-use Rattle.packet_fields.specs.declared.parts.Frame.{Frame}
-use Rattle.packet_fields.specs.declared.parts.Member.{Member}
-use Rattle.packet_fields.specs.declared.parts.Progress.{Progress}
-use Rattle.packet_fields.specs.declared.parts.Progress.TheVariants.{Active, Finished}
-use Rattle.packet_fields.specs.declared.parts.Record.{Record}
-use Rattle.packet_fields.specs.declared.parts.Status.{Status}
-use Rattle.packet_fields.specs.declared.parts.Status.TheVariants.{Live, Dead, Left}
-use Rattle.packet_fields.specs.declared.parts.Task.{Task}
+use Rattle.ids.specs.declared.work.Frame.{Frame}
+use Rattle.ids.specs.declared.member.Member.{Member}
+use Rattle.ids.specs.declared.outcome.Progress.{Progress}
+use Rattle.ids.specs.declared.outcome.Progress.TheVariants.{Active, Finished}
+use Rattle.ids.specs.declared.work.Record.{Record}
+use Rattle.ids.specs.declared.member.Status.{Status}
+use Rattle.ids.specs.declared.member.Status.TheVariants.{Live, Dead, Left}
+use Rattle.ids.specs.declared.work.Task.{Task}
 use Rattle.packet_fields.specs.Format.{Format, ◌>>=◌, at_most, checked, chosen, followed, items, listed, made, never, nothing, number, plain, variant}
 
 -- the word of a worker's start

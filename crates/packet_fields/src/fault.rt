@@ -1,3 +1,5 @@
+ghost use Rattle.std.specs.Prelude.{◌≡◌};
+
 use std::alloc::{AllocError, AllocFailed};
 use thiserror::Error;
 
@@ -5,26 +7,45 @@ use thiserror::Error;
 #[derive(Clone, Copy, Debug, PartialEq, Eq, Error)]
 pub enum Fault {
     /// There are more than 1,048,576 bytes.
-    #[error("E30")]
+    #[error("E{number}", number = self.number())]
     TooBig,
     /// The bytes end inside a field.
-    #[error("E31")]
+    #[error("E{number}", number = self.number())]
     Short,
     /// The first two bytes aren't 43 4E.
-    #[error("E32")]
+    #[error("E{number}", number = self.number())]
     Magic,
     /// The version isn't 1.
-    #[error("E33")]
+    #[error("E{number}", number = self.number())]
     Version,
     /// There is no such kind.
-    #[error("E34")]
+    #[error("E{number}", number = self.number())]
     Kind,
     /// A field is outside its range, or out of order.
-    #[error("E35")]
+    #[error("E{number}", number = self.number())]
     Field,
     /// Bytes stand after the last field.
-    #[error("E36")]
+    #[error("E{number}", number = self.number())]
     Trailing,
+}
+
+impl Fault {
+    ghost use Rattle.packet_fields.specs.Faults.{number_of_fault};
+
+    /// The number of the fault, 30 to 36.
+    pub fn number(self) -> u8
+        ensures { result ≡ number_of_fault self }
+    {
+        match self {
+            Fault::TooBig => 30,
+            Fault::Short => 31,
+            Fault::Magic => 32,
+            Fault::Version => 33,
+            Fault::Kind => 34,
+            Fault::Field => 35,
+            Fault::Trailing => 36,
+        }
+    }
 }
 
 /// Why no value is read.
@@ -34,8 +55,22 @@ pub enum ReadError {
     #[error("{0}")]
     Fault(Fault),
     /// There is no memory.
-    #[error("E9")]
+    #[error("E{number}", number = self.number())]
     Memory,
+}
+
+impl ReadError {
+    ghost use Rattle.packet_fields.specs.Faults.{number_of_error};
+
+    /// The number of the refusal: 9, or 30 to 36.
+    pub fn number(self) -> u8
+        ensures { result ≡ number_of_error self }
+    {
+        match self {
+            ReadError::Fault(fault) => fault.number(),
+            ReadError::Memory => 9,
+        }
+    }
 }
 
 impl From<AllocError> for ReadError {

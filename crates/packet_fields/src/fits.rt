@@ -1,20 +1,21 @@
 //! Whether values can be written: for each field a test that answers what its format's `fits` says. Where any value can be
 //! written, as its type sees to it, the test looks at the value all the same: the prover then has what the type keeps.
-ghost use Rattle.std.specs.Prelude.{◌≡◌, length, None};
+ghost use Rattle.std.specs.Prelude.{◌≡◌, ◌<◌, ◌≤◌, IsTrue, length, None};
 ghost use Rattle.std.specs.List.{list_all};
 ghost use Rattle.packet_fields.specs.Format.{checked, items, number};
 ghost use Rattle.packet_fields.specs.Fields as field;
 
-use crate::limits::{MOST_MEMBERS, MOST_NUMBERS, MOST_SLOTS, MOST_STEPS, THREADS};
-use crate::parts::{Frame, Member, Progress, Record, Status, Task};
+use ids::limits::{MOST_MEMBERS, MOST_NUMBERS, MOST_SLOTS, MOST_STEPS, MOST_THREADS};
 use ids::{
-    Actor, Count, Epoch, FrameNo, GrantId, Hop, Incarnation, Listed, Outcome, Place, Return,
+    Actor, Count, Epoch, Frame, FrameNo, GrantId, Hop, Incarnation, Listed, Member, Outcome, Place,
+    Progress, Record, Return, Status, Task,
 };
 
 /// A worker's incarnation: always.
 #[tactic(auto, unfolding(crate::specs::Fields::worker))]
 pub fn worker(incarnation: &Incarnation) -> bool
-    ensures { result ≡ field.worker.fits incarnation.now }
+    ensures fits { result ≡ field.worker.fits incarnation.now }
+    ensures always { IsTrue result }
 {
     incarnation.word() > 0
 }
@@ -29,7 +30,8 @@ pub fn other_worker(own: &Incarnation, value: &Incarnation) -> bool
 /// An epoch of the clearinghouse: always.
 #[tactic(auto, unfolding(crate::specs::Fields::epoch))]
 pub fn epoch(epoch: &Epoch) -> bool
-    ensures { result ≡ field.epoch.fits epoch.now }
+    ensures fits { result ≡ field.epoch.fits epoch.now }
+    ensures always { IsTrue result }
 {
     epoch.number() > 0
 }
@@ -37,7 +39,8 @@ pub fn epoch(epoch: &Epoch) -> bool
 /// A worker, or the clearinghouse in an epoch: always.
 #[tactic(auto, unfolding(crate::specs::Fields::actor))]
 pub fn actor(actor: &Actor) -> bool
-    ensures { result ≡ field.actor.fits actor.now }
+    ensures fits { result ≡ field.actor.fits actor.now }
+    ensures always { IsTrue result }
 {
     actor.word() > 0
 }
@@ -45,7 +48,8 @@ pub fn actor(actor: &Actor) -> bool
 /// A number counted from 1: always.
 #[tactic(auto, unfolding(crate::specs::Fields::counted))]
 pub fn counted(count: &Count) -> bool
-    ensures { result ≡ field.counted.fits count.now }
+    ensures fits { result ≡ field.counted.fits count.now }
+    ensures always { IsTrue result }
 {
     count.number() > 0
 }
@@ -53,7 +57,8 @@ pub fn counted(count: &Count) -> bool
 /// How often a grant moved: always.
 #[tactic(auto, unfolding(crate::specs::Fields::hop))]
 pub fn hop(hop: &Hop) -> bool
-    ensures { result ≡ field.hop.fits hop.now }
+    ensures fits { result ≡ field.hop.fits hop.now }
+    ensures always { IsTrue result }
 {
     let _count = hop.count();
     true
@@ -85,7 +90,8 @@ pub fn below(next: &FrameNo, value: &FrameNo) -> bool
 /// The name of a grant: always.
 #[tactic(auto, unfolding(crate::specs::Fields::grant, crate::specs::Fields::counted))]
 pub fn grant(value: &GrantId) -> bool
-    ensures { result ≡ field.grant.fits value.now }
+    ensures fits { result ≡ field.grant.fits value.now }
+    ensures always { IsTrue result }
 {
     actor(&value.minter()) && value.number() > 0
 }
@@ -93,7 +99,8 @@ pub fn grant(value: &GrantId) -> bool
 /// A place: always.
 #[tactic(auto, using(crate::proofs::Fitting::place_fits))]
 pub fn place(value: &Place) -> bool
-    ensures { result ≡ field.place.fits value.now }
+    ensures fits { result ≡ field.place.fits value.now }
+    ensures always { IsTrue result }
 {
     value.len() <= MOST_STEPS
 }
@@ -101,22 +108,25 @@ pub fn place(value: &Place) -> bool
 /// The number of a thread, below 64.
 #[tactic(auto, unfolding(crate::specs::Fields::thread))]
 pub fn thread(value: &u8) -> bool
-    ensures { result ≡ field.thread.fits value.now }
+    ensures fits { result ≡ field.thread.fits value.now }
+    ensures below { value.now < 64 → IsTrue result }
 {
-    *value < THREADS
+    *value < MOST_THREADS
 }
 
 /// A signed number: always.
 #[tactic(auto, unfolding(crate::specs::Fields::signed))]
 fn signed(number: i64) -> bool
-    ensures { result ≡ field.signed.fits number }
+    ensures fits { result ≡ field.signed.fits number }
+    ensures always { IsTrue result }
 {
     true
 }
 
 /// Signed numbers: always.
 fn each_number(numbers: &[i64]) -> bool
-    ensures { result ≡ list_all field.signed.fits numbers.now }
+    ensures fits { result ≡ list_all field.signed.fits numbers.now }
+    ensures always { IsTrue result }
 {
     numbers.iter().all(|number| signed(*number))
 }
@@ -124,7 +134,8 @@ fn each_number(numbers: &[i64]) -> bool
 /// At most 8 numbers.
 #[tactic(auto, using(crate::proofs::Fitting::numbers_fits))]
 pub fn numbers(value: &Listed<i64>) -> bool
-    ensures { result ≡ field.numbers.fits value.now }
+    ensures fits { result ≡ field.numbers.fits value.now }
+    ensures short { length value.now ≤ 8 → IsTrue result }
 {
     value.len() <= MOST_NUMBERS as usize && each_number(value.as_slice())
 }
@@ -132,7 +143,8 @@ pub fn numbers(value: &Listed<i64>) -> bool
 /// A task: its thread below 64, at most 8 numbers.
 #[tactic(auto, unfolding(crate::specs::Fields::task))]
 pub fn task(value: &Task) -> bool
-    ensures { result ≡ field.task.fits value.now }
+    ensures fits { result ≡ field.task.fits value.now }
+    ensures bounded { value.now.thread < 64 → length value.now.numbers ≤ 8 → IsTrue result }
 {
     place(&value.place) && thread(&value.thread) && numbers(&value.numbers)
 }
@@ -140,7 +152,8 @@ pub fn task(value: &Task) -> bool
 /// An outcome: always.
 #[tactic(auto, unfolding(crate::specs::Fields::outcome))]
 pub fn outcome(value: &Outcome) -> bool
-    ensures { result ≡ field.outcome.fits value.now }
+    ensures fits { result ≡ field.outcome.fits value.now }
+    ensures always { IsTrue result }
 {
     match value {
         Outcome::Value(number) => signed(*number),
@@ -151,7 +164,8 @@ pub fn outcome(value: &Outcome) -> bool
 /// How far a subcomputation is: always.
 #[tactic(auto, using(crate::proofs::Fitting::progress_fits))]
 pub fn progress(value: &Progress) -> bool
-    ensures { result ≡ field.progress.fits value.now }
+    ensures fits { result ≡ field.progress.fits value.now }
+    ensures always { IsTrue result }
 {
     match value {
         Progress::Active => true,
@@ -162,7 +176,8 @@ pub fn progress(value: &Progress) -> bool
 /// A slot: always.
 #[tactic(auto, unfolding(crate::specs::Fields::slot))]
 fn slot(value: &Option<i64>) -> bool
-    ensures { result ≡ field.slot.fits value.now }
+    ensures fits { result ≡ field.slot.fits value.now }
+    ensures always { IsTrue result }
 {
     match value {
         None => true,
@@ -172,7 +187,8 @@ fn slot(value: &Option<i64>) -> bool
 
 /// Slots: always.
 fn each_slot(slots: &[Option<i64>]) -> bool
-    ensures { result ≡ list_all field.slot.fits slots.now }
+    ensures fits { result ≡ list_all field.slot.fits slots.now }
+    ensures always { IsTrue result }
 {
     slots.iter().all(slot)
 }

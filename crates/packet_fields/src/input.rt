@@ -42,6 +42,13 @@ impl<'a> Input<'a> {
         self.rest.is_empty()
     }
 
+    /// How many bytes are left.
+    pub(crate) fn len(&self) -> usize
+        ensures { result ≡ length self.now }
+    {
+        self.rest.len()
+    }
+
     /// The next byte.
     pub fn byte(&mut self) -> Result<u8, ReadError>
         ensures { Gives (λ x. (x, self.new)) result ((number 1).read self.old) }

@@ -2,7 +2,7 @@ ghost use Rattle.std.specs.Prelude.{ℕ, Bool, Option};
 ghost use Rattle.ids.specs.Names.{Grant};
 ghost use Rattle.packet_fields.specs.Format.{OneSpelling, number};
 ghost use Rattle.packet_fields.specs.Fields as field;
-ghost use Rattle.packet_fields.specs.declared.parts.Progress.{Progress};
+ghost use Rattle.ids.specs.declared.outcome.Progress.{Progress};
 
 /// Each field has one spelling: bytes spell at most one value and a value has at most one spelling; what is spelled is
 /// read and what is read is spelled; and what can be written is spelled by what is written.

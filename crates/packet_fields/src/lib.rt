@@ -5,12 +5,9 @@ mod fault;
 pub mod fits;
 mod input;
 mod laws;
-mod limits;
-mod parts;
 pub mod read;
 pub mod write;
 
 pub use fault::{Fault, ReadError};
 pub use input::Input;
 pub use laws::one_spelling;
-pub use parts::{Frame, Member, Progress, Record, Status, Task};

@@ -1,17 +1,49 @@
 //! The readers of fields. Each answers the value and leaves the bytes behind it, or answers the first fault: E31 where the
 //! bytes end inside the field, E35 where it is outside its range or out of order, E9 where there is no memory. After a
-//! refusal it is open how much was read. A reader takes memory only for what the bytes back.
-ghost use Rattle.std.specs.Prelude.{◌≡◌, ◌∷◌, nat_lt, Some, None};
+//! refusal it is open how much was read. A reader takes memory only for what the bytes back, and for a list once.
+ghost use Rattle.std.specs.Prelude.{◌≡◌, ◌<◌, [], ◌∷◌, nat_lt, IfOk, Some, None};
 ghost use Rattle.packet_fields.specs.Format.{Gives, checked, items, number, plain};
 ghost use Rattle.packet_fields.specs.Fields as field;
 
 use crate::fault::{Fault, ReadError};
 use crate::input::Input;
-use crate::limits::{LAST_STEP, MOST_MEMBERS, MOST_NUMBERS, MOST_SLOTS, MOST_STEPS, THREADS};
-use crate::parts::{Frame, Member, Progress, Record, Status, Task};
+use ids::limits::{LAST_STEP, MOST_MEMBERS, MOST_NUMBERS, MOST_SLOTS, MOST_STEPS, MOST_THREADS};
 use ids::{
-    Actor, Count, Epoch, FrameNo, GrantId, Hop, Incarnation, Listed, Outcome, Place, Return,
+    Actor, Count, Epoch, Frame, FrameNo, GrantId, Hop, Incarnation, Listed, Member, Outcome, Place,
+    Progress, Record, Return, Status, Task,
 };
+use std::alloc::AllocError;
+
+/// A step has so many bytes.
+const STEP_BYTES: usize = 1;
+
+/// A signed number has so many bytes.
+const NUMBER_BYTES: usize = 8;
+
+/// A slot has at least so many bytes.
+const LEAST_SLOT: usize = 1;
+
+/// A member has at least so many bytes: 8 of its incarnation and 1 of its status.
+const LEAST_MEMBER: usize = 9;
+
+/// A frame has at least so many bytes: 4 of its number, 2 of its place, and 1 each of its thread, its slots and its return.
+const LEAST_FRAME: usize = 9;
+
+/// A record has at least so many bytes: 28 of its grant, holder and frame, 4 of its task and 1 of its return.
+const LEAST_RECORD: usize = 33;
+
+/// No items, with room for so many of at least so many bytes each. Where the bytes that are left can't hold them all, a
+/// fault comes before the last one, so there is room for none.
+fn with_room<T>(count: usize, least: usize, input: &Input<'_>) -> Result<Listed<T>, AllocError>
+    requires { 0 < least }
+    ensures { IfOk result (λ l. l ≡ []) }
+{
+    if count <= input.len() / least {
+        Listed::with_capacity(input.alloc(), count)
+    } else {
+        Ok(Listed::new(input.alloc()))
+    }
+}
 
 /// A worker's incarnation.
 #[tactic(auto, unfolding(crate::specs::Fields::worker))]
@@ -128,7 +160,7 @@ fn step(input: &mut Input<'_>) -> Result<u8, ReadError>
 fn steps_of(count: u16, input: &mut Input<'_>) -> Result<Listed<u8>, ReadError>
     ensures { Gives (λ x. (x, input.new)) result ((plain field.step count).read input.old) }
 {
-    let mut steps = Listed::new(input.alloc());
+    let mut steps = with_room(count as usize, STEP_BYTES, input)?;
     for _ in 0..count {
         let next = step(input)?;
         steps.push(next)?;
@@ -155,7 +187,7 @@ pub fn thread(input: &mut Input<'_>) -> Result<u8, ReadError>
     ensures { Gives (λ x. (x, input.new)) result (field.thread.read input.old) }
 {
     let thread = input.byte()?;
-    if thread >= THREADS {
+    if thread >= MOST_THREADS {
         return Err(ReadError::Fault(Fault::Field));
     }
     Ok(thread)
@@ -164,7 +196,7 @@ pub fn thread(input: &mut Input<'_>) -> Result<u8, ReadError>
 fn numbers_of(count: u8, input: &mut Input<'_>) -> Result<Listed<i64>, ReadError>
     ensures { Gives (λ x. (x, input.new)) result ((plain field.signed count).read input.old) }
 {
-    let mut numbers = Listed::new(input.alloc());
+    let mut numbers = with_room(count as usize, NUMBER_BYTES, input)?;
     for _ in 0..count {
         let next = input.signed()?;
         numbers.push(next)?;
@@ -243,7 +275,7 @@ fn slot(input: &mut Input<'_>) -> Result<Option<i64>, ReadError>
 fn slots_of(count: u8, input: &mut Input<'_>) -> Result<Listed<Option<i64>>, ReadError>
     ensures { Gives (λ x. (x, input.new)) result ((plain field.slot count).read input.old) }
 {
-    let mut slots = Listed::new(input.alloc());
+    let mut slots = with_room(count as usize, LEAST_SLOT, input)?;
     for _ in 0..count {
         let next = slot(input)?;
         slots.push(next)?;
@@ -314,7 +346,7 @@ fn member(last: Option<Incarnation>, input: &mut Input<'_>) -> Result<Member, Re
 fn members_of(count: u16, input: &mut Input<'_>) -> Result<Listed<Member>, ReadError>
     ensures { Gives (λ x. (x, input.new)) result ((items field.name_of_member field.member None count).read input.old) }
 {
-    let mut members = Listed::new(input.alloc());
+    let mut members = with_room(count as usize, LEAST_MEMBER, input)?;
     let mut last = None;
     for _ in 0..count {
         let Member {
@@ -364,7 +396,7 @@ fn frame(next: &FrameNo, last: Option<FrameNo>, input: &mut Input<'_>) -> Result
 fn frames_of(next: &FrameNo, count: u32, input: &mut Input<'_>) -> Result<Listed<Frame>, ReadError>
     ensures { Gives (λ x. (x, input.new)) result ((items field.number_of_frame (field.frame next.now) None count).read input.old) }
 {
-    let mut frames = Listed::new(input.alloc());
+    let mut frames = with_room(count as usize, LEAST_FRAME, input)?;
     let mut last = None;
     for _ in 0..count {
         let item = frame(next, last, input)?;
@@ -424,7 +456,7 @@ fn records_of(
 ) -> Result<Listed<Record>, ReadError>
     ensures { Gives (λ x. (x, input.new)) result ((items field.grant_of_record (field.stolen next.now) None count).read input.old) }
 {
-    let mut records = Listed::new(input.alloc());
+    let mut records = with_room(count as usize, LEAST_RECORD, input)?;
     let mut last = None;
     for _ in 0..count {
         let item = stolen(next, last, input)?;

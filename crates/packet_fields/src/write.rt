@@ -3,14 +3,14 @@
 ghost use Rattle.std.specs.Prelude.{◌≡◌, ◌++◌, ℕ, OnOk, Option, None};
 ghost use Rattle.std.specs.List.{flat_map};
 ghost use Rattle.ids.specs.Names.{Grant};
-ghost use Rattle.packet_fields.specs.declared.parts.Progress.{Progress};
+ghost use Rattle.ids.specs.declared.outcome.Progress.{Progress};
 ghost use Rattle.packet_fields.specs.Format.{number};
 ghost use Rattle.packet_fields.specs.Fields as field;
 
-use crate::parts::{Frame, Member, Progress, Record, Status, Task};
 use byteorder::{BigEndian, ByteOrder};
 use ids::{
-    Actor, Count, Epoch, FrameNo, GrantId, Hop, Incarnation, Listed, Outcome, Place, Return,
+    Actor, Count, Epoch, Frame, FrameNo, GrantId, Hop, Incarnation, Listed, Member, Outcome, Place,
+    Progress, Record, Return, Status, Task,
 };
 use std::alloc::AllocError;
 

@@ -20,8 +20,9 @@ use Rattle.task_syntax.specs.declared.tree.End.TheVariants.{If', Send, Next}
 use Rattle.task_syntax.specs.declared.tree.Thread.{Thread}
 use Rattle.kind_check.specs.Value.{Env, value_of}
 use Rattle.kind_check.specs.Turns.{◌>>=◌, use_of, slot_for, slots_of, values_of, after_lets, bind, thread_of, end_turn, block_turn, thread_turn, turn_of}
+use Rattle.ids.specs.declared.outcome.Outcome.TheVariants.{TooDeep}
 use Rattle.serial_meaning.specs.Serial.{TaskValue, slot_value, slot_values, end_value, no_value, serial}
-use Rattle.serial_meaning.specs.Places.{Task, kid_of, after_step, room, value_within, task_at, slot_at, value_at}
+use Rattle.serial_meaning.specs.Places.{Call, kid_of, after_step, room, value_within, task_at, turn_at, slot_at, value_at, outcome_of, outcome_at, meaning}
 use Rattle.serial_meaning.specs.Agrees.{numbers_in, SlotsAgree, NextAgrees, FrameAgrees, given_of}
 
 -- what both steps gave, where both gave something
@@ -36,6 +37,10 @@ bound_at None f y e = absurd (none_some y e)
     none_some : {B : Type 0} (y : B) → None ≡ Some y → ⊥
     none_some y e = cc
 bound_at (Some x) f y e = record { first = x; is = refl; next = e }
+
+-- the task that reaches the end at a place
+pub turned : (p : Program) (input : List ℤ) (place : List ℕ) (turn : Turn) → turn_at p input place ≡ Some turn → Bound (task_at p input place) (λ (call : Call). turn_of p call.thread call.numbers) turn
+turned p input place turn e = bound_at (task_at p input place) (λ (call : Call). turn_of p call.thread call.numbers) turn e
 
 -- filled slots that agree are the values of the join's slots
 filled_values : (f : TaskValue) (joined : List Slot) (slots : List (Option ℤ)) (numbers : List ℤ) → SlotsAgree f joined slots → numbers_in slots ≡ Some numbers → slot_values f joined ≡ Some numbers
@@ -66,8 +71,8 @@ sent_value p input place t numbers v e turn = rw e (sent_within p (room place) t
 abbrev kid_at : ℕ → ℕ → List ℤ → Kid
 kid_at i t numbers = record { hole = i; thread = t; arguments = numbers }
 
-abbrev pub task_of : ℕ → List ℤ → Task
-task_of t numbers = record { thread = t; numbers = numbers }
+abbrev pub call_of : ℕ → List ℤ → Call
+call_of t numbers = record { thread = t; numbers = numbers }
 
 -- a task one place further, for a depth that isn't 0
 serial_below : (p : Program) (d d' t : ℕ) (numbers : List ℤ) → d' ≡ d + 1 → serial p d' t numbers ≡ (turn_of p t numbers >>= end_value (serial p d))
@@ -77,7 +82,7 @@ serial_below p d (suc d') t numbers e = let same : d' ≡ d = omega arith in rw 
 room_below : (q : List ℕ) → length q < 1024 → room q ≡ room (zero ∷ q) + 1
 room_below q short = omega arith
 
-joined_task : (f : TaskValue) (s : ℕ) (o : Option (List ℤ)) → (o >>= λ (vs : List ℤ). f s vs) ≡ ((o >>= λ (vs : List ℤ). Some (task_of s vs)) >>= λ (task : Task). f task.thread task.numbers)
+joined_task : (f : TaskValue) (s : ℕ) (o : Option (List ℤ)) → (o >>= λ (vs : List ℤ). f s vs) ≡ ((o >>= λ (vs : List ℤ). Some (call_of s vs)) >>= λ (call : Call). f call.thread call.numbers)
 joined_task f s None = refl
 joined_task f s (Some vs) = refl
 
@@ -198,7 +203,7 @@ kid_small p t numbers s slots j kid turn at =
     (kid_later 1 j slots kid holes at, kid_below 1 j slots kid holes at)
 
 -- the value at a kid's place is the value that its slot receives
-pub kid_value : (p : Program) (input : List ℤ) (q : List ℕ) (t : ℕ) (numbers : List ℤ) (s : ℕ) (slots : List Slot) (j : ℕ) (kid : Kid) → task_at p input q ≡ Some (task_of t numbers) → turn_of p t numbers ≡ Some (Joins s slots) → slice_get slots j ≡ Some (Awaits kid) → value_at p input (kid.hole ∷ q) ≡ slot_at p input q j
+pub kid_value : (p : Program) (input : List ℤ) (q : List ℕ) (t : ℕ) (numbers : List ℤ) (s : ℕ) (slots : List Slot) (j : ℕ) (kid : Kid) → task_at p input q ≡ Some (call_of t numbers) → turn_of p t numbers ≡ Some (Joins s slots) → slice_get slots j ≡ Some (Awaits kid) → value_at p input (kid.hole ∷ q) ≡ slot_at p input q j
 unfolding value_within
 kid_value p input q t numbers s slots j kid e turn at =
     let holes = turn_holes p t numbers s slots turn in
@@ -209,12 +214,12 @@ kid_value p input q t numbers s slots j kid e turn at =
     kid_value_at (suc i) first found = rw (e, turn, found, at) refl
 
 -- the task at a kid's place
-pub kid_task : (p : Program) (input : List ℤ) (q : List ℕ) (t : ℕ) (numbers : List ℤ) (s : ℕ) (slots : List Slot) (j : ℕ) (kid : Kid) → task_at p input q ≡ Some (task_of t numbers) → turn_of p t numbers ≡ Some (Joins s slots) → slice_get slots j ≡ Some (Awaits kid) → task_at p input (kid.hole ∷ q) ≡ Some (task_of kid.thread kid.arguments)
+pub kid_task : (p : Program) (input : List ℤ) (q : List ℕ) (t : ℕ) (numbers : List ℤ) (s : ℕ) (slots : List Slot) (j : ℕ) (kid : Kid) → task_at p input q ≡ Some (call_of t numbers) → turn_of p t numbers ≡ Some (Joins s slots) → slice_get slots j ≡ Some (Awaits kid) → task_at p input (kid.hole ∷ q) ≡ Some (call_of kid.thread kid.arguments)
 kid_task p input q t numbers s slots j kid e turn at =
     let holes = turn_holes p t numbers s slots turn in
     kid_task_at kid.hole (kid_later 1 j slots kid holes at) (kid_found 1 j slots kid holes at)
   where
-    kid_task_at : (hole : ℕ) → 1 ≤ hole → kid_of hole slots ≡ Some kid → task_at p input (hole ∷ q) ≡ Some (task_of kid.thread kid.arguments)
+    kid_task_at : (hole : ℕ) → 1 ≤ hole → kid_of hole slots ≡ Some kid → task_at p input (hole ∷ q) ≡ Some (call_of kid.thread kid.arguments)
     kid_task_at zero first found = absurd (omega arith)
     kid_task_at (suc i) first found = rw (e, turn, found) refl
 
@@ -224,8 +229,8 @@ given_agrees f (Filled v ∷ slots) = (refl, given_agrees f slots)
 given_agrees f (Awaits kid ∷ slots) = (tt, given_agrees f slots)
 
 -- a new successor agrees
-pub next_agrees : (p : Program) (input : List ℤ) (q : List ℕ) (t : ℕ) (numbers : List ℤ) (s : ℕ) (slots : List Slot) → task_at p input q ≡ Some (task_of t numbers) → turn_of p t numbers ≡ Some (Joins s slots) → NextAgrees p input q s (map given_of slots)
-next_agrees p input q t numbers s slots e turn = record { before = task_of t numbers; joined = slots; at = e; turn = turn; filled = given_agrees (serial p (room (zero ∷ q))) slots }
+pub next_agrees : (p : Program) (input : List ℤ) (q : List ℕ) (t : ℕ) (numbers : List ℤ) (s : ℕ) (slots : List Slot) → task_at p input q ≡ Some (call_of t numbers) → turn_of p t numbers ≡ Some (Joins s slots) → NextAgrees p input q s (map given_of slots)
+next_agrees p input q t numbers s slots e turn = record { before = call_of t numbers; joined = slots; at = e; turn = turn; filled = given_agrees (serial p (room (zero ∷ q))) slots }
 
 set_agrees : (f : TaskValue) (joined : List Slot) (slots : List (Option ℤ)) (j : ℕ) (slot : Slot) (v : ℤ) → SlotsAgree f joined slots → slice_get joined j ≡ Some slot → slot_value f slot ≡ Some v → SlotsAgree f joined (slice_set slots j (Some v))
 set_agrees f [] slots j slot v a at is = cc
@@ -241,8 +246,20 @@ filled_agrees p input q t slots j v a is =
     let b = bound_at (slice_get a.joined j) (λ (slot : Slot). slot_value f slot) v received in
     record { before = a.before; joined = a.joined; at = a.at; turn = a.turn; filled = set_agrees f a.joined slots j b.first v a.filled b.is b.next }
 
+slot_agreed : (f : TaskValue) (joined : List Slot) (slots : List (Option ℤ)) (j : ℕ) (v : ℤ) → SlotsAgree f joined slots → slice_get slots j ≡ Some (Some v) → (slice_get joined j >>= λ (slot : Slot). slot_value f slot) ≡ Some v
+slot_agreed f [] [] j v a at = cc
+slot_agreed f [] (y ∷ slots) j v a at = absurd a
+slot_agreed f (x ∷ joined) [] j v a at = absurd a
+slot_agreed f (x ∷ joined) (None ∷ slots) zero v a at = let other : Some None ≡ Some (Some v) = at in cc
+slot_agreed f (x ∷ joined) (Some w ∷ slots) zero v a at = let same : w ≡ v = cc in rw same at a.0
+slot_agreed f (x ∷ joined) (y ∷ slots) (suc j) v a at = slot_agreed f joined slots j v a.1 at
+
+-- a filled slot of a successor that agrees holds the value that it receives
+pub agreed_slot : (p : Program) (input : List ℤ) (q : List ℕ) (t : ℕ) (slots : List (Option ℤ)) (j : ℕ) (v : ℤ) → NextAgrees p input q t slots → slice_get slots j ≡ Some (Some v) → slot_at p input q j ≡ Some v
+agreed_slot p input q t slots j v a at = rw (a.at, a.turn) (slot_agreed (serial p (room (zero ∷ q))) a.joined slots j v a.filled at)
+
 -- a task that joins where no place is below has no value
-pub last_value : (p : Program) (input : List ℤ) (place : List ℕ) (t : ℕ) (numbers : List ℤ) (s : ℕ) (slots : List Slot) → 1024 ≤ length place → task_at p input place ≡ Some (task_of t numbers) → turn_of p t numbers ≡ Some (Joins s slots) → value_at p input place ≡ None
+pub last_value : (p : Program) (input : List ℤ) (place : List ℕ) (t : ℕ) (numbers : List ℤ) (s : ℕ) (slots : List Slot) → 1024 ≤ length place → task_at p input place ≡ Some (call_of t numbers) → turn_of p t numbers ≡ Some (Joins s slots) → value_at p input place ≡ None
 unfolding value_within
 last_value p input place t numbers s slots long e turn =
     let none : room place ≡ 0 = omega arith in
@@ -270,39 +287,39 @@ kid_none f i (Filled v ∷ slots) kid e none = rw (kid_none f i slots kid e none
 kid_none f i (Awaits k ∷ slots) kid e none = kid_none_at f i k slots kid none (λ e'. kid_none f i slots kid e' none) (nat_eq k.hole i) e
 
 -- the join before a place that isn't the root
-pub record JoinedBefore (p : Program) (input : List ℤ) (i : ℕ) (q : List ℕ) (task : Task) : Type 0 where
-  pub before : Task
+pub record JoinedBefore (p : Program) (input : List ℤ) (i : ℕ) (q : List ℕ) (task : Call) : Type 0 where
+  pub before : Call
   pub successor : ℕ
   pub slots : List Slot
   pub at : task_at p input q ≡ Some before
   pub turn : turn_of p before.thread before.numbers ≡ Some (Joins successor slots)
   pub step : after_step (serial p (room (i ∷ q))) i (Joins successor slots) ≡ Some task
 
-joined_turn : (p : Program) (input : List ℤ) (i : ℕ) (q : List ℕ) (task before : Task) (turn : Turn) → task_at p input q ≡ Some before → turn_of p before.thread before.numbers ≡ Some turn → after_step (serial p (room (i ∷ q))) i turn ≡ Some task → JoinedBefore p input i q task
+joined_turn : (p : Program) (input : List ℤ) (i : ℕ) (q : List ℕ) (task before : Call) (turn : Turn) → task_at p input q ≡ Some before → turn_of p before.thread before.numbers ≡ Some turn → after_step (serial p (room (i ∷ q))) i turn ≡ Some task → JoinedBefore p input i q task
 joined_turn p input i q task before (Sends v) at is step = cc
 joined_turn p input i q task before (Joins s slots) at is step = record { before = before; successor = s; slots = slots; at = at; turn = is; step = step }
 
-joined_before : (p : Program) (input : List ℤ) (i : ℕ) (q : List ℕ) (task : Task) → task_at p input (i ∷ q) ≡ Some task → JoinedBefore p input i q task
+joined_before : (p : Program) (input : List ℤ) (i : ℕ) (q : List ℕ) (task : Call) → task_at p input (i ∷ q) ≡ Some task → JoinedBefore p input i q task
 joined_before p input i q task e =
-    let b = bound_at (task_at p input q) (λ (before : Task). turn_of p before.thread before.numbers >>= λ (turn : Turn). after_step (serial p (room (i ∷ q))) i turn) task e in
+    let b = bound_at (task_at p input q) (λ (before : Call). turn_of p before.thread before.numbers >>= λ (turn : Turn). after_step (serial p (room (i ∷ q))) i turn) task e in
     let b2 = bound_at (turn_of p b.first.thread b.first.numbers) (λ (turn : Turn). after_step (serial p (room (i ∷ q))) i turn) task b.next in
     joined_turn p input i q task b.first b2.first b.is b2.is b2.next
 
-kid_without : (f : TaskValue) (kid : Kid) (task : Task) → task_of kid.thread kid.arguments ≡ task → f task.thread task.numbers ≡ None → f kid.thread kid.arguments ≡ None
+kid_without : (f : TaskValue) (kid : Kid) (task : Call) → call_of kid.thread kid.arguments ≡ task → f task.thread task.numbers ≡ None → f kid.thread kid.arguments ≡ None
 kid_without f kid task same none = rw (← same) at none
 
 -- a kid without value leaves the task before without one
-kid_leaves_none : (p : Program) (input : List ℤ) (i : ℕ) (q : List ℕ) (task : Task) → length q < 1024 → JoinedBefore p input (suc i) q task → task_at p input (suc i ∷ q) ≡ Some task → value_at p input (suc i ∷ q) ≡ None → value_at p input q ≡ None
+kid_leaves_none : (p : Program) (input : List ℤ) (i : ℕ) (q : List ℕ) (task : Call) → length q < 1024 → JoinedBefore p input (suc i) q task → task_at p input (suc i ∷ q) ≡ Some task → value_at p input (suc i ∷ q) ≡ None → value_at p input q ≡ None
 unfolding value_within
 kid_leaves_none p input i q task short j is none =
-    let b = bound_at (kid_of (suc i) j.slots) (λ (kid : Kid). Some (task_of kid.thread kid.arguments)) task j.step in
-    let same : task_of b.first.thread b.first.arguments ≡ task = cc in
+    let b = bound_at (kid_of (suc i) j.slots) (λ (kid : Kid). Some (call_of kid.thread kid.arguments)) task j.step in
+    let same : call_of b.first.thread b.first.arguments ≡ task = cc in
     let here : serial p (room (zero ∷ q)) task.thread task.numbers ≡ None = rw is at none in
     let all = kid_none (serial p (room (zero ∷ q))) (suc i) j.slots b.first b.is (kid_without (serial p (room (zero ∷ q))) b.first task same here) in
     rw (j.at, serial_below p (room (zero ∷ q)) (room q) j.before.thread j.before.numbers (room_below q short), j.turn, all) refl
 
 -- a task without value leaves the root without one
-pub none_at_root : (p : Program) (input : List ℤ) (place : List ℕ) (task : Task) → length place ≤ 1024 → task_at p input place ≡ Some task → value_at p input place ≡ None → value_at p input [] ≡ None
+pub none_at_root : (p : Program) (input : List ℤ) (place : List ℕ) (task : Call) → length place ≤ 1024 → task_at p input place ≡ Some task → value_at p input place ≡ None → value_at p input [] ≡ None
 none_at_root p input [] task short e none = none
 none_at_root p input (zero ∷ q) task short e none =
     let j = joined_before p input zero q task e in
@@ -310,3 +327,13 @@ none_at_root p input (zero ∷ q) task short e none =
 none_at_root p input (suc i ∷ q) task short e none =
     let j = joined_before p input (suc i) q task e in
     none_at_root p input q j.before (omega arith) j.at (kid_leaves_none p input i q task (omega arith) j e none)
+
+-- where there is no value, it is too deep
+too_deep_none : (o : Option ℤ) → outcome_of o ≡ TooDeep → o ≡ None
+too_deep_none None e = refl
+too_deep_none (Some v) e = cc
+
+pub too_deep_at_root : (p : Program) (input : List ℤ) (place : List ℕ) (call : Call) → length place ≤ 1024 → task_at p input place ≡ Some call → outcome_at p input place ≡ TooDeep → meaning p input ≡ TooDeep
+too_deep_at_root p input place call short e deep =
+    let none = too_deep_none (value_at p input place) deep in
+    rw (none_at_root p input place call short e none) refl

@@ -1,5 +1,7 @@
 pub mod FrameLaws
 pub mod JobLaws
 pub mod MeaningLaws
+mod Rows
 pub mod Runs
 pub mod Steps
+pub mod EqualMeaning

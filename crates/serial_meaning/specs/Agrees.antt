@@ -2,19 +2,12 @@
 use Rattle.std.specs.Prelude.{◌≡◌, ℕ, ℤ, zero, suc, List, [], ◌∷◌, Option, Some, None}
 use Rattle.task_syntax.specs.declared.tree.Program.{Program}
 use Rattle.kind_check.specs.declared.turn.Slot.{Slot}
-use Rattle.kind_check.specs.declared.turn.Slot.TheVariants.{Filled, Awaits}
 use Rattle.kind_check.specs.declared.turn.Turn.TheVariants.{Joins}
 use Rattle.kind_check.specs.Turns.{◌>>=◌, turn_of}
+pub use Rattle.kind_check.specs.Turns.{given_of}
 use Rattle.serial_meaning.specs.Serial.{TaskValue, slot_value, serial}
-use Rattle.serial_meaning.specs.Places.{Task, task_at, room}
-
--- the numbers in slots, if none is empty
-abbrev pub numbers_in : List (Option ℤ) → Option (List ℤ)
-numbers_in [] = Some []
-numbers_in (slot ∷ slots) = do
-  v ← slot
-  vs ← numbers_in slots
-  Some (v ∷ vs)
+use Rattle.serial_meaning.specs.Places.{Call, task_at, room}
+pub use Rattle.ids.specs.Slots.{numbers_in}
 
 -- an empty slot, or one with the value that its slot of the join receives
 abbrev pub SlotAgrees : TaskValue → Slot → Option ℤ → Type 0
@@ -36,7 +29,7 @@ pub record StartAgrees (p : Program) (input : List ℤ) (place : List ℕ) (t : 
 
 -- after a step 0, it is the successor of the join before, and each filled slot has its value
 pub record NextAgrees (p : Program) (input : List ℤ) (q : List ℕ) (t : ℕ) (slots : List (Option ℤ)) : Type 0 where
-  pub before : Task
+  pub before : Call
   pub joined : List Slot
   pub at : task_at p input q ≡ Some before
   pub turn : turn_of p before.thread before.numbers ≡ Some (Joins t joined)
@@ -47,8 +40,3 @@ abbrev pub FrameAgrees : Program → List ℤ → List ℕ → ℕ → List (Opt
 FrameAgrees p input [] t slots = StartAgrees p input [] t slots
 FrameAgrees p input (zero ∷ q) t slots = NextAgrees p input q t slots
 FrameAgrees p input (suc i ∷ q) t slots = StartAgrees p input (suc i ∷ q) t slots
-
--- a successor's slot as its join leaves it: the given number, or empty
-abbrev pub given_of : Slot → Option ℤ
-given_of (Filled v) = Some v
-given_of (Awaits kid) = None

@@ -4,3 +4,4 @@ pub mod Job
 pub mod Agrees
 pub mod Count
 pub mod Running
+pub mod Errors

@@ -1,4 +1,4 @@
-ghost use Rattle.std.specs.Prelude.{◌≡◌, ◌<◌, ◌↔◌, length, codes, IfOk, IsErr, IsSome, Some};
+ghost use Rattle.std.specs.Prelude.{◌≡◌, ◌<◌, ◌↔◌, length, codes, IfOk, IsErr, IsSome, OnOk, Some};
 ghost use Rattle.kind_check.specs.Turns.{thread_of};
 ghost use Rattle.kind_check.specs.Total.{Takes};
 ghost use Rattle.serial_meaning.specs.Job.{IsJob, TakesInput};
@@ -13,8 +13,21 @@ use thiserror::Error;
 #[derive(Clone, Copy, Debug, PartialEq, Eq, Error)]
 pub enum JobError {
     /// E21: the thread `main` takes another count of numbers than the input has.
-    #[error("E21")]
+    #[error("E{number}", number = self.number())]
     InputArity,
+}
+
+impl JobError {
+    ghost use Rattle.serial_meaning.specs.Errors.{number_of_job_error};
+
+    /// The number of the refusal, 21.
+    pub fn number(self) -> u8
+        ensures { result ≡ number_of_job_error self }
+    {
+        match self {
+            JobError::InputArity => 21,
+        }
+    }
 }
 
 /// A job: an accepted program, its input and its number.
@@ -52,6 +65,7 @@ impl Job {
     #[tactic(auto, using(crate::proofs::JobLaws::takes_input, crate::proofs::JobLaws::takes_as_many))]
     pub fn new(checked: Checked, input: Vec<i64>, number: u64) -> Result<Job, JobError>
         ensures made { IfOk result (λ j. (j.program ≡ checked) × (j.input ≡ input.items) × (j.number ≡ number)) }
+        ensures taken { OnOk result (TakesInput checked input.items) }
         ensures arity { IsErr result ↔ ¬ TakesInput checked input.items }
     {
         let program = checked.program();

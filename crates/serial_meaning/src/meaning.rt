@@ -3,29 +3,41 @@ ghost use Rattle.kind_check.specs.Total.{Takes};
 ghost use Rattle.serial_meaning.specs.declared.meaning.SerialError.TheVariants.{Memory};
 ghost use Rattle.serial_meaning.specs.Serial.{serial, serial_turns};
 ghost use Rattle.serial_meaning.specs.Running.{run_slot, run_slots, run_turns, slot_turns, SlotRuns, SlotsRun};
-ghost use Rattle.serial_meaning.specs.Places.{meaning};
+ghost use Rattle.serial_meaning.specs.Job.{meaning_of};
 ghost use Rattle.serial_meaning.specs.Count.{turns_of};
 
 use crate::job::Job;
 use crate::stack::{between, push_values};
 use body_eval::{above, leaf, value};
 use ids::Outcome;
+use ids::limits::MOST_STEPS;
 use kind_check::{Checked, Leaf, SlotCode};
 use std::alloc::{AllocError, AllocFailed, Global};
 use thiserror::Error;
-
-/// The places of a run have at most so many steps.
-const DEPTH: u16 = 1024;
 
 /// Why the meaning of a job isn't answered.
 #[derive(Clone, Copy, Debug, PartialEq, Eq, Error)]
 pub enum SerialError {
     /// E20: it takes more turns than were given.
-    #[error("E20")]
+    #[error("E{number}", number = self.number())]
     TurnsSpent,
     /// E9: there is no memory.
-    #[error("E9")]
+    #[error("E{number}", number = self.number())]
     Memory,
+}
+
+impl SerialError {
+    ghost use Rattle.serial_meaning.specs.Errors.{number_of_serial_error};
+
+    /// The number of the refusal: 9 or 20.
+    pub fn number(self) -> u8
+        ensures { result ≡ number_of_serial_error self }
+    {
+        match self {
+            SerialError::TurnsSpent => 20,
+            SerialError::Memory => 9,
+        }
+    }
 }
 
 impl From<AllocError> for SerialError {
@@ -49,13 +61,20 @@ impl<T: Drop> From<AllocFailed<T>> for SerialError {
 /// not with the turns.
 #[tactic(auto, using(crate::proofs::MeaningLaws::meaning_is, crate::proofs::MeaningLaws::turns_are))]
 pub fn serial(alloc: Global, job: &Job, max_turns: u64) -> Result<Outcome, SerialError>
-    ensures meaning { IfOk result (λ o. o ≡ meaning job.now.program job.now.input) }
+    ensures meaning { IfOk result (λ o. o ≡ meaning_of job.now) }
     ensures within { OnOk result (turns_of job.now.program job.now.input ≤ max_turns) }
     ensures spent { IsErrOf result SerialError.TurnsSpent → max_turns < turns_of job.now.program job.now.input }
 {
     let mut turns = max_turns;
     let mut stack = Vec::from_slice(alloc, job.input())?;
-    match task_value(job.checked(), DEPTH, job.main(), 0, &mut stack, &mut turns)? {
+    match task_value(
+        job.checked(),
+        MOST_STEPS,
+        job.main(),
+        0,
+        &mut stack,
+        &mut turns,
+    )? {
         Some(number) => Ok(Outcome::Value(number)),
         None => Ok(Outcome::TooDeep),
     }

@@ -13,3 +13,4 @@ pub mod PrintFine
 pub mod PrintLines
 pub mod PrintTokens
 pub mod PrintTrees
+pub mod EqualPrinted

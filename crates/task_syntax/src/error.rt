@@ -8,23 +8,23 @@ use thiserror::Error;
 #[derive(Clone, Copy, Debug, PartialEq, Eq, Error)]
 pub enum ParseError {
     /// E2: a token or byte that can't stand there; the text's length at its end.
-    #[error("E2 at {0}")]
+    #[error("E{number} at {0}", number = self.number())]
     Unexpected(u32),
     /// E3: a text of more than 65,536 bytes, at 65,536; or a name of more than 31 bytes, at its start.
-    #[error("E3 at {0}")]
+    #[error("E{number} at {0}", number = self.number())]
     TooLong(u32),
     /// E4: an open parenthesis inside 64 others of its expression; the `{` of a block 65 deep; an operator whose tree is
     /// over 64 levels, met once its right operand was read.
-    #[error("E4 at {0}")]
+    #[error("E{number} at {0}", number = self.number())]
     TooDeepNest(u32),
     /// E5: a number over 9223372036854775807.
-    #[error("E5 at {0}")]
+    #[error("E{number} at {0}", number = self.number())]
     NumberRange(u32),
     /// E6: the first byte over 7F.
-    #[error("E6 at {0}")]
+    #[error("E{number} at {0}", number = self.number())]
     NotAscii(u32),
     /// E9: there is no memory.
-    #[error("E9")]
+    #[error("E{number}", number = self.number())]
     Memory,
 }
 
@@ -45,7 +45,7 @@ impl<T: Drop> From<AllocFailed<T>> for ParseError {
 }
 
 impl ParseError {
-    ghost use Rattle.task_syntax.specs.Errors.{number_of_error, offset_of_error};
+    ghost use Rattle.task_syntax.specs.Errors.{number_of_error};
 
     /// The number of the refusal: 2 to 6, or 9.
     pub fn number(&self) -> u8
@@ -60,29 +60,29 @@ impl ParseError {
             ParseError::Memory => 9,
         }
     }
-
-    /// The byte offset in the text; none for want of memory.
-    pub fn offset(&self) -> Option<u32>
-        ensures { result ≡ offset_of_error self.now }
-    {
-        match self {
-            ParseError::Unexpected(at)
-            | ParseError::TooLong(at)
-            | ParseError::TooDeepNest(at)
-            | ParseError::NumberRange(at)
-            | ParseError::NotAscii(at) => Some(*at),
-            ParseError::Memory => None,
-        }
-    }
 }
 
 /// Why a program isn't printed.
 #[derive(Clone, Copy, Debug, PartialEq, Eq, Error)]
 pub enum PrintError {
     /// E3: the printed text would be over 65,536 bytes.
-    #[error("E3")]
+    #[error("E{number}", number = self.number())]
     TooLong,
     /// E9: there is no memory.
-    #[error("E9")]
+    #[error("E{number}", number = self.number())]
     Memory,
+}
+
+impl PrintError {
+    ghost use Rattle.task_syntax.specs.Errors.{number_of_print_error};
+
+    /// The number of the refusal: 3 or 9.
+    pub fn number(&self) -> u8
+        ensures { result ≡ number_of_print_error self.now }
+    {
+        match self {
+            PrintError::TooLong => 3,
+            PrintError::Memory => 9,
+        }
+    }
 }

@@ -11,6 +11,6 @@ mod tree;
 
 pub use error::{ParseError, PrintError};
 pub use parsing::{LONGEST_TEXT, answers_are_exact, parse};
-pub use printing::print;
+pub use printing::{equal_programs_print_alike, print};
 pub use task_tokens::Operator;
 pub use tree::{Argument, Block, End, Expr, Given, Let, Name, Program, Thread, Use};

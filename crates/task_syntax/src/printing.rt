@@ -4,6 +4,8 @@ ghost use Rattle.task_tokens.specs.declared.kinds.TokenKind.TheVariants.{Ident, 
 ghost use Rattle.task_syntax.specs.Printed.{operand_kinds, expr_kinds, let_kinds, further_kinds, argument_kinds, parameter_kinds, call_end, send_kinds, given_kinds, use_kinds, next_kinds, end_kinds, block_kinds, thread_line, printed};
 ghost use Rattle.task_syntax.specs.PrintSteps.{Adds, Prints};
 ghost use Rattle.task_syntax.specs.PrintedBack.{ReadsBack};
+ghost use Rattle.task_syntax.specs.declared.tree.Program.{Program};
+ghost use Rattle.task_syntax.specs.Equal.{EqualProgram};
 
 use crate::error::PrintError;
 use crate::parsing::LONGEST_TEXT;
@@ -27,6 +29,11 @@ pub fn print(alloc: Global, program: &Program) -> Result<Vec<u8>, PrintError>
     print_threads(&mut out, program.threads.as_slice());
     out.finish()
 }
+
+/// Programs that are the same but for where their parts lie in memory are printed alike. Does nothing.
+pub fn equal_programs_print_alike()
+    ensures { (p q : Program) → EqualProgram p q → printed p ≡ printed q }
+{}
 
 /// Printed text, of at most `LONGEST_TEXT` bytes. Once it would be longer, or there is no memory, nothing more is
 /// written. Contracts see its bytes, or why there are none.

@@ -1,4 +1,6 @@
-use crate::{Argument, Block, End, Expr, Given, Name, Program, Use, parse, print};
+use crate::{
+    Argument, Block, End, Expr, Given, Name, ParseError, PrintError, Program, Use, parse, print,
+};
 use ids::Listed;
 use std::alloc::{AllocError, Global};
 use std::fmt::{self, Display, Formatter};
@@ -348,5 +350,169 @@ fn printed_texts(rt: HostRuntime) -> Result<(), Fail> {
         let printed = print(alloc, &parse(alloc, text)?)?;
         assert_eq!(rt; printed.as_slice(), want);
     }
+    Ok(())
+}
+
+#[test]
+fn refusals_are_printed(rt: HostRuntime) -> Result<(), Fail> {
+    let alloc = rt.alloc();
+    for (refusal, want) in [
+        (ParseError::Unexpected(14), "E2 at 14"),
+        (ParseError::TooLong(65536), "E3 at 65536"),
+        (ParseError::TooDeepNest(160), "E4 at 160"),
+        (ParseError::NumberRange(31), "E5 at 31"),
+        (ParseError::NotAscii(0), "E6 at 0"),
+        (ParseError::Memory, "E9"),
+    ] {
+        assert_eq!(rt; format!(in alloc; "{refusal}")?.as_str(), want);
+    }
+    for (refusal, want) in [(PrintError::TooLong, "E3"), (PrintError::Memory, "E9")] {
+        assert_eq!(rt; format!(in alloc; "{refusal}")?.as_str(), want);
+    }
+    Ok(())
+}
+
+#[test]
+fn each_construct_is_printed(rt: HostRuntime) -> Result<(), Fail> {
+    let alloc = rt.alloc();
+    let text =
+        b"thread f(k,a,b){let x=a|b^a&b==a!=b<a<=b<<a>>b+a-b*a/b%a;let y=((a-b)-a)-(b-(a-b));\
+        if x<(y==a){send_argument(k,x%(y/2)*3);}else{if 1{spawn_next g(k,?p,x+1,?q,(y),?r);spawn f(p,x,2);\
+        send_argument(q,x<<1>>2);spawn h(r);}else{spawn_next h(k);}}} // and another\nthread h(k){send_argument(k,00);}";
+    let want =
+        b"thread f ( k , a , b ) { let x = a | ( b ^ ( a & ( ( b == a ) != ( ( b < a ) <= ( ( b << a ) >> ( ( b + a ) - \
+        ( ( ( b * a ) / b ) % a ) ) ) ) ) ) ) ; let y = ( ( a - b ) - a ) - ( b - ( a - b ) ) ; if x < ( y == a ) { \
+        send_argument ( k , ( x % ( y / 2 ) ) * 3 ) ; } else { if 1 { spawn_next g ( k , ? p , x + 1 , ? q , y , ? r ) ; \
+        spawn f ( p , x , 2 ) ; send_argument ( q , ( x << 1 ) >> 2 ) ; spawn h ( r ) ; } else { spawn_next h ( k ) ; } } }\n\
+        thread h ( k ) { send_argument ( k , 0 ) ; }\n";
+    let printed = print(alloc, &parse(alloc, text)?)?;
+    assert_eq!(rt; printed.as_slice(), want.as_slice());
+    Ok(())
+}
+
+/// Whether a text, so often each of its pieces one after the other, is printed as it is.
+fn is_printed_back(alloc: Global, pieces: &[(&[u8], usize)]) -> Result<bool, Fail> {
+    let text = repeated(alloc, pieces)?;
+    let printed = print(alloc, &parse(alloc, text.as_slice())?)?;
+    Ok(printed == text)
+}
+
+#[test]
+fn long_texts_are_printed_as_they_are(rt: HostRuntime) -> Result<(), Fail> {
+    let alloc = rt.alloc();
+    assert!(rt;
+        is_printed_back(
+            alloc,
+            &[(b"thread t ( k ) { send_argument ( k , 1 ) ; }\n", 1456)]
+        )?
+    );
+    assert!(rt;
+        is_printed_back(
+            alloc,
+            &[
+                (b"thread f ( k ) { ", 1),
+                (b"if 1 { ", 63),
+                (b"send_argument ( k , 1 ) ; }", 1),
+                (b" else { send_argument ( k , 2 ) ; } }", 63),
+                (b"\n", 1)
+            ]
+        )?
+    );
+    assert!(rt;
+        is_printed_back(
+            alloc,
+            &[
+                (b"thread f ( k ) { ", 1),
+                (b"if 1 { send_argument ( k , 2 ) ; } else { ", 63),
+                (b"send_argument ( k , 1 ) ;", 1),
+                (b" }", 63),
+                (b" }\n", 1)
+            ]
+        )?
+    );
+    assert!(rt;
+        is_printed_back(
+            alloc,
+            &[
+                (b"thread f ( k ) { send_argument ( k , ", 1),
+                (b"( ", 62),
+                (b"1 + 1", 1),
+                (b" ) - 1", 62),
+                (b" ) ; }\n", 1)
+            ]
+        )?
+    );
+    assert!(rt;
+        is_printed_back(
+            alloc,
+            &[
+                (b"thread f ( k ) { send_argument ( k , ", 1),
+                (b"1 % ( ", 62),
+                (b"a / b", 1),
+                (b" )", 62),
+                (b" ) ; }\n", 1)
+            ]
+        )?
+    );
+    Ok(())
+}
+
+#[test]
+fn many_names_are_printed_as_they_are(rt: HostRuntime) -> Result<(), Fail> {
+    let alloc = rt.alloc();
+    assert!(rt;
+        is_printed_back(
+            alloc,
+            &[
+                (b"thread f ( k ) { ", 1),
+                (b"let a = 1 ; ", 5000),
+                (b"send_argument ( k , a ) ; }\n", 1)
+            ]
+        )?
+    );
+    assert!(rt;
+        is_printed_back(
+            alloc,
+            &[
+                (b"thread f ( k", 1),
+                (b" , a", 10000),
+                (b" ) { spawn_next f ( k", 1),
+                (b" , 7", 6000),
+                (b" ) ; }\n", 1)
+            ]
+        )?
+    );
+    assert!(rt;
+        is_printed_back(
+            alloc,
+            &[
+                (b"thread f ( k ) { spawn_next f ( k", 1),
+                (b" , ? a", 5000),
+                (b" ) ;", 1),
+                (b" spawn f ( a , 1 ) ;", 1700),
+                (b" }\n", 1)
+            ]
+        )?
+    );
+    assert!(rt;
+        is_printed_back(
+            alloc,
+            &[
+                (b"thread f ( k ) { spawn_next f ( k ) ;", 1),
+                (b" send_argument ( a , 1 ) ;", 2500),
+                (b" }\n", 1)
+            ]
+        )?
+    );
+    assert!(rt;
+        is_printed_back(
+            alloc,
+            &[
+                (b"thread f ( k ) { spawn_next f ( k ) ; spawn f ( a", 1),
+                (b" , b", 16000),
+                (b" ) ; }\n", 1)
+            ]
+        )?
+    );
     Ok(())
 }

@@ -5,7 +5,7 @@ mod front;
 mod kinds;
 mod tokenizing;
 
-pub use kinds::{LONGEST_NAME, Operator, Run, Sign, Token, TokenKind, Word};
+pub use kinds::{Operator, Run, Sign, Token, TokenKind, Word};
 pub use tokenizing::tokenize;
 
 #[cfg(test)]

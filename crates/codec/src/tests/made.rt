@@ -2,14 +2,14 @@
 
 use super::{answer, example, is_kept};
 use crate::{
-    Abort, Beat, Body, EncodeError, Frame, Grant, Join, Leave, Member, Offer, OfferAck, Packet,
-    Progress, Record, Refuse, ResultAck, Roster, Status, Steal, Task, TaskResult, decode, encode,
+    Abort, Beat, Body, EncodeError, Grant, Join, Leave, Offer, OfferAck, Packet, Refuse, ResultAck,
+    Roster, Steal, TaskResult, decode, encode,
 };
 use ids::{
-    Actor, Address, Count, Epoch, FrameNo, GrantId, Hop, Incarnation, Listed, Outcome, Place,
-    Return,
+    Actor, Address, Count, Epoch, Frame, FrameNo, GrantId, Hop, Incarnation, Listed, Member,
+    Outcome, Place, Progress, Record, Return, Status, Task,
 };
-use std::alloc::Global;
+use std::alloc::{AllocError, Global};
 use std::test::Fail;
 
 pub fn worker(word: u64) -> Option<Incarnation> {
@@ -452,5 +452,96 @@ fn a_packet_has_at_most_1048576_bytes(rt: HostRuntime) -> Result<(), Fail> {
     assert_eq!(rt; longer.len(), 1_048_577);
     assert_eq!(rt; answer(alloc, longer.as_slice())?.as_str(), "E30");
     assert!(rt; is_too_big(alloc, 956)?);
+    Ok(())
+}
+
+/// Frame `number` of many: at the place of steps 3 and 0, its first slot empty, its value to a slot of frame 10,000.
+fn one_of_frames(alloc: Global, number: u32) -> Option<Frame> {
+    let returns = Return::Local(FrameNo::of(10_000), (number % 8) as u8);
+    let slots = [None, Some(i64::from(number))];
+    frame(alloc, number, &[3, 0], (number % 64) as u8, &slots, returns)
+}
+
+/// Such a frame by hand.
+fn put_frame(bytes: &mut Vec<u8>, number: u32) -> Result<(), AllocError> {
+    bytes.extend_from_slice(&number.to_be_bytes())?;
+    bytes.extend_from_slice(&[0, 2, 3, 0, (number % 64) as u8, 2, 0, 1, 0, 0, 0, 0])?;
+    bytes.extend_from_slice(&number.to_be_bytes())?;
+    bytes.extend_from_slice(&[1, 0, 0, 0x27, 0x10, (number % 8) as u8])
+}
+
+/// Record `number` of many, of worker 3's grant with the next number, held by worker 4, whose frame has that number: a
+/// task a step below the root, on its number.
+fn one_of_records(alloc: Global, number: u32) -> Option<Record> {
+    let task = task(
+        alloc,
+        &[(number % 9) as u8],
+        (number % 64) as u8,
+        &[i64::from(number)],
+    )?;
+    let name = u64::from(number).wrapping_add(1);
+    record(name, 4, number, task, Return::Whole)
+}
+
+/// Such a record by hand.
+fn put_record(bytes: &mut Vec<u8>, number: u32) -> Result<(), AllocError> {
+    bytes.extend_from_slice(&[0, 0, 0, 0, 0, 0, 0, 3, 0, 0, 0, 0])?;
+    bytes.extend_from_slice(&number.wrapping_add(1).to_be_bytes())?;
+    bytes.extend_from_slice(&[0, 0, 0, 0, 0, 0, 0, 4])?;
+    bytes.extend_from_slice(&number.to_be_bytes())?;
+    bytes.extend_from_slice(&[0, 1, (number % 9) as u8, (number % 64) as u8, 1, 0, 0, 0, 0])?;
+    bytes.extend_from_slice(&number.to_be_bytes())?;
+    bytes.push(0)?;
+    Ok(())
+}
+
+/// The offer of the example with the frames 0 to 4,999 and the records 5,000 to 9,999; its next frame is 10,001.
+fn many_parts(alloc: Global) -> Option<Body> {
+    let (mut frames, mut records) = (Listed::new(alloc), Listed::new(alloc));
+    for number in 0..5000 {
+        frames.push(one_of_frames(alloc, number)?).ok()?;
+    }
+    for number in 5000..10_000 {
+        records.push(one_of_records(alloc, number)?).ok()?;
+    }
+    Some(Body::Offer(Offer {
+        from: worker(3)?,
+        grant: root()?,
+        hop: Hop::of(1),
+        parent: house()?,
+        progress: Progress::Active,
+        task: root_task(alloc)?,
+        next: FrameNo::of(10_001),
+        frames,
+        records,
+    }))
+}
+
+/// That offer by hand.
+fn many_bytes(alloc: Global) -> Result<Vec<u8>, Fail> {
+    let mut bytes = example(alloc, "OFFER")?;
+    bytes.truncate(69);
+    bytes.extend_from_slice(&[0, 0, 0x27, 0x11, 0, 0, 0x13, 0x88])?;
+    for number in 0..5000 {
+        put_frame(&mut bytes, number)?;
+    }
+    bytes.extend_from_slice(&[0, 0, 0x13, 0x88])?;
+    for number in 5000..10_000 {
+        put_record(&mut bytes, number)?;
+    }
+    Ok(bytes)
+}
+
+#[test]
+fn an_offer_of_5000_frames_and_5000_records(rt: HostRuntime) -> Result<(), Fail> {
+    let alloc = rt.alloc();
+    let bytes = many_bytes(alloc)?;
+    assert!(rt; is_kept(alloc, bytes.as_slice())?);
+    let (to, body) = (
+        to_worker(5).ok_or("an address")?,
+        many_parts(alloc).ok_or("a body")?,
+    );
+    let packet = Packet::of(7, to, body).ok_or("a packet")?;
+    assert!(rt; encode(alloc, &packet)?.as_slice() == bytes.as_slice());
     Ok(())
 }

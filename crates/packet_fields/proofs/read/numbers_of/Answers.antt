@@ -8,7 +8,7 @@ use Rattle.packet_fields.proofs.read.numbers_of.Goals as goal
 
 pub returns-in_err-next : goal.returns-in_err-next
 returns-in_err-next c =
-    let p = err_from_is_err_and c.from_residual.result c.from_residual.ensures.1 in
+    let p = err_from_is_err_and c.from_residual-in_err-next.result c.from_residual-in_err-next.ensures.1 in
     rw (p.1, p.2) (ends_plain field.signed c.in_err-next.field-0.0 c.loop.numbers c.args.count c.loop.counter c.loop.input ((plain field.signed c.args.count).read c.args.input.now) c.loop-test.true c.in_err-next.ensures c.loop.invariant)
 
 pub loop-preserved : goal.loop-preserved

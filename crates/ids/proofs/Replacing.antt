@@ -1,0 +1,52 @@
+-- An item in the place of another is one of the list.
+use Rattle.std.proofs.Common.{◌≡◌, Option, Some, None, ap, ◌∙◌, sym, Bor, List}
+use Rattle.std.specs.Option.{IfSome, IsSome, IsSomeAnd, option_copied}
+use Rattle.std.specs.Map.{lookup, values_of, set_value}
+use Rattle.std.specs.BTreeMap.{BTreeMap, WritesThrough, is_at}
+use Rattle.ids.specs.Named.{Name, name_cmp, put_in, item_in, changed_of}
+use Rattle.ids.specs.Stored.{IsStored}
+use Rattle.ids.proofs.NameOrder.{exact_names, names_total}
+use Rattle.ids.proofs.KeyedLaws.{values_set, tied_set, found_key, found_in, put_found}
+
+pub record Replaces {X : Type 0} (name : X → Name) (m n : BTreeMap Name X) (item : X) : Type 0 where
+  pub stored : IsStored name n
+  pub list : values_of n.entries ≡ put_in name item (values_of m.entries)
+
+pub after_replace : {X : Type 0} (name : X → Name) (m n : BTreeMap Name X) (item : X) (o : Option X) → lookup (is_at (name_cmp (name item))) m.entries ≡ o → IsSome o → IsStored name m → IfSome o (λ _. WritesThrough name_cmp (name_cmp (name item)) m item n) → Replaces name m n item
+after_replace name m n item None at some stored h = cc
+after_replace name m n item (Some x) at some stored h =
+    record {
+      stored = record {
+        tied = rw h.0 (tied_set name name_cmp item m.entries exact_names stored.tied);
+        ordered = h.4;
+      };
+      list = ap values_of h.0 ∙ values_set name name_cmp names_total item x m.entries stored.ordered stored.tied at;
+    }
+
+-- an item that is found has the name
+pub name_found : {X : Type 0} (name : X → Name) (n : Name) (xs : List X) (o : Option (Bor X)) → option_copied o ≡ item_in name n xs → IfSome o (λ x. name x.now ≡ n)
+name_found name n xs None same = tt
+name_found name n xs (Some x) same = sym (exact_names n (name x.now) (found_in name name_cmp n x.now xs (sym same)))
+
+pub record Changes {X : Type 0} (name : X → Name) (change : X → X) (m n : BTreeMap Name X) (o : Option X) : Type 0 where
+  pub stored : IsStored name n
+  pub list : values_of n.entries ≡ changed_of name change (values_of m.entries) o
+
+-- an item in the place of that from which it was made, with its name, is one of the list
+pub after_change : {X : Type 0} (name : X → Name) (change : X → X) (fits : X → Type 0) (keeps : (x : X) → name (change x) ≡ name x) (k : Name) (m n : BTreeMap Name X) (o : Option X) → lookup (is_at (name_cmp k)) m.entries ≡ o → IsSomeAnd o fits → IsStored name m → IfSome o (λ x. WritesThrough name_cmp (name_cmp k) m (change x) n) → Changes name change m n o
+after_change name change fits keeps k m n None there some stored h = absurd some
+after_change name change fits keeps k m n (Some x) there some stored h =
+    let same : k ≡ name (change x) = exact_names k (name x) (found_key name name_cmp k x m.entries stored.tied there) ∙ sym (keeps x) in
+    let here : lookup (is_at (name_cmp (name (change x)))) m.entries ≡ Some x = rw same at there in
+    let set : n.entries ≡ set_value (is_at (name_cmp (name (change x)))) m.entries (change x) = rw same at h.0 in
+    record {
+      stored = record {
+        tied = rw set (tied_set name name_cmp (change x) m.entries exact_names stored.tied);
+        ordered = h.4;
+      };
+      list = ap values_of set ∙ values_set name name_cmp names_total (change x) x m.entries stored.ordered stored.tied here;
+    }
+
+-- an item that was put is found
+pub put_is_found : {X : Type 0} (name : X → Name) (x : X) (xs : List X) → item_in name (name x) (put_in name x xs) ≡ Some x
+put_is_found name x xs = put_found name name_cmp names_total x xs

@@ -1,0 +1,58 @@
+-- Ready frames by rising level, in each level the newest last, and which of them is taken.
+use Rattle.std.specs.Prelude.{ℕ, ◌&&◌, Bool, nat_lt, nat_eq, not, if◌then◌else◌, List, [], ◌∷◌, Option, None, Some, reverse}
+use Rattle.std.specs.List.{filter}
+use Rattle.ids.specs.Names.{Grant}
+use Rattle.level_deques.specs.declared.posts.Post.{Post}
+
+-- with one more post, behind those of its level
+abbrev pub posted : Post → List Post → List Post
+posted p [] = p ∷ []
+posted p (q ∷ qs) = if nat_lt p.level q.level then p ∷ q ∷ qs else q ∷ posted p qs
+
+-- from the deepest level on, and in a level the newest first
+abbrev pub by_depth : List Post → List Post
+by_depth posts = reverse posts
+
+-- whether a post is of a lesser level than another
+abbrev pub goes_above : Post → Post → Bool
+goes_above p q = nat_lt p.level q.level
+
+-- whether a post is of a greater level than another
+abbrev pub goes_below : Post → Post → Bool
+goes_below p q = nat_lt q.level p.level
+
+-- a post or what was chosen of newer ones, which has to be passed strictly
+abbrev pub choice : (Post → Post → Bool) → Post → Option Post → Option Post
+choice passes p None = Some p
+choice passes p (Some q) = if passes p q then Some p else Some q
+
+-- the newest of those that none passes
+abbrev pub chosen : (Post → Post → Bool) → List Post → Option Post
+chosen passes [] = None
+chosen passes (p ∷ ps) = choice passes p (chosen passes ps)
+
+-- the newest of the least level
+abbrev pub shallowest : List Post → Option Post
+shallowest posts = chosen goes_above posts
+
+-- the newest of the greatest level
+abbrev pub deepest : List Post → Option Post
+deepest posts = chosen goes_below posts
+
+-- the one to keep of the best so far and a newer one
+abbrev pub pick : (Post → Post → Bool) → Option Post → Post → Post
+pick passes None q = q
+pick passes (Some p) q = if passes p q then p else q
+
+-- whether a post is that of a frame
+abbrev pub is_post_of : Grant → ℕ → Post → Bool
+is_post_of g frame p = nat_eq p.grant.minter g.minter && (nat_eq p.grant.number g.number && nat_eq p.frame frame)
+
+-- without the posts of a frame
+abbrev pub withdrawn : Grant → ℕ → List Post → List Post
+withdrawn g frame posts = filter (λ p. not (is_post_of g frame p)) posts
+
+-- without the posts of the frame that a post names, if there is one
+abbrev pub taken : Option Post → List Post → List Post
+taken None posts = posts
+taken (Some p) posts = withdrawn p.grant p.frame posts

@@ -1,0 +1,165 @@
+-- Checks of the definitions, which no contract cites: the Fibonacci program, and what the definitions come to on it.
+--     thread main(k, n) {
+--         if n < 2 {
+--             send_argument(k, n);
+--         } else {
+--             spawn_next sum(k, ?x, ?y);
+--             spawn main(x, n - 1);
+--             spawn main(y, n - 2);
+--         }
+--     }
+--     thread sum(k, x, y) { send_argument(k, x + y); }
+use Rattle.std.proofs.Common.{◌≡◌, ℕ, ℤ, pos, negsuc, List, [], ◌∷◌, Option, Some, None, codes, refl}
+use Rattle.std.specs.declared.boxed.Box.{Box}
+use Rattle.std.specs.declared.alloc.Global.{Global}
+use Rattle.task_tokens.specs.declared.kinds.Operator.TheVariants.{Less, Add, Subtract, Multiply}
+use Rattle.task_syntax.specs.declared.tree.Name.{Name}
+use Rattle.task_syntax.specs.declared.tree.Expr.{Expr}
+use Rattle.task_syntax.specs.declared.tree.Expr.TheVariants.{Number, Variable, Binary'}
+use Rattle.task_syntax.specs.declared.tree.Argument.TheVariants as argument
+use Rattle.task_syntax.specs.declared.tree.Given.TheVariants.{Spawned}
+use Rattle.task_syntax.specs.declared.tree.Use.{Use}
+use Rattle.task_syntax.specs.declared.tree.End.{End}
+use Rattle.task_syntax.specs.declared.tree.End.TheVariants.{If', Send, Next}
+use Rattle.task_syntax.specs.declared.tree.Thread.{Thread}
+use Rattle.task_syntax.specs.declared.tree.Program.{Program}
+use Rattle.kind_check.specs.Value.{result_of}
+use Rattle.ids.specs.declared.outcome.Outcome.TheVariants.{Value, TooDeep}
+use Rattle.serial_meaning.specs.Places.{Call, task_at, slot_at, value_within, value_at, meaning}
+use Rattle.serial_meaning.specs.Count.{turns_within, turns_of}
+
+-- a name; where it stands changes no meaning
+abbrev name : List ℕ → Name
+name text = record { text = text; offset = 0 }
+
+abbrev variable : List ℕ → Expr
+variable text = Variable (name text)
+
+-- sums, differences and products wrap
+greatest_plus_1 : result_of Add (pos 9223372036854775807) (pos 1) ≡ negsuc 9223372036854775807
+greatest_plus_1 = refl
+
+least_minus_1 : result_of Subtract (negsuc 9223372036854775807) (pos 1) ≡ pos 9223372036854775807
+least_minus_1 = refl
+
+greatest_times_2 : result_of Multiply (pos 9223372036854775807) (pos 2) ≡ negsuc 1
+greatest_times_2 = refl
+
+-- the part of a tree that is boxed lies somewhere in memory, which changes no meaning
+module _ (place : Box (Unit {0}) Global) where
+  abbrev below_two : Expr
+  below_two = Binary' Less place (variable (codes "n")) place (Number (pos 2))
+
+  abbrev less : ℕ → Expr
+  less d = Binary' Subtract place (variable (codes "n")) place (Number (pos d))
+
+  abbrev spawned : List ℕ → Expr → Use
+  spawned hole number = record { hole = name hole; given = Spawned (name (codes "main")) (number ∷ []) }
+
+  abbrev splits : End
+  splits = Next (name (codes "sum")) (name (codes "k")) (argument.Hole (name (codes "x")) ∷ argument.Hole (name (codes "y")) ∷ []) (spawned (codes "x") (less 1) ∷ spawned (codes "y") (less 2) ∷ [])
+
+  abbrev main_thread : Thread
+  main_thread = record {
+    name = name (codes "main");
+    continuation = name (codes "k");
+    numbers = name (codes "n") ∷ [];
+    body = record { lets = []; end = If' below_two place [] (Send (name (codes "k")) (variable (codes "n"))) 0 place [] splits 0; close = 0 };
+  }
+
+  abbrev sum_thread : Thread
+  sum_thread = record {
+    name = name (codes "sum");
+    continuation = name (codes "k");
+    numbers = name (codes "x") ∷ name (codes "y") ∷ [];
+    body = record { lets = []; end = Send (name (codes "k")) (Binary' Add place (variable (codes "x")) place (variable (codes "y"))); close = 0 };
+  }
+
+  abbrev fib : Program
+  fib = record { threads = main_thread ∷ sum_thread ∷ []; length = 0 }
+
+  abbrev task : ℕ → List ℤ → Option Call
+  task t numbers = Some (record { thread = t; numbers = numbers })
+
+  -- whole runs
+  meaning_on_1 : meaning fib (pos 1 ∷ []) ≡ Value (pos 1)
+  unfolding value_within
+  meaning_on_1 = refl
+
+  meaning_on_10 : meaning fib (pos 10 ∷ []) ≡ Value (pos 55)
+  unfolding value_within
+  meaning_on_10 = refl
+
+  turns_on_1 : turns_of fib (pos 1 ∷ []) ≡ 1
+  unfolding turns_within
+  turns_on_1 = refl
+
+  turns_on_10 : turns_of fib (pos 10 ∷ []) ≡ 265
+  unfolding turns_within
+  turns_on_10 = refl
+
+  -- the root, its kids, a kid of a kid, and the successor
+  task_at_root : task_at fib (pos 10 ∷ []) [] ≡ task 0 (pos 10 ∷ [])
+  task_at_root = refl
+
+  task_at_1 : task_at fib (pos 10 ∷ []) (1 ∷ []) ≡ task 0 (pos 9 ∷ [])
+  task_at_1 = refl
+
+  task_at_2 : task_at fib (pos 10 ∷ []) (2 ∷ []) ≡ task 0 (pos 8 ∷ [])
+  task_at_2 = refl
+
+  task_at_kid_2_of_1 : task_at fib (pos 10 ∷ []) (2 ∷ 1 ∷ []) ≡ task 0 (pos 7 ∷ [])
+  task_at_kid_2_of_1 = refl
+
+  task_at_next : task_at fib (pos 10 ∷ []) (0 ∷ []) ≡ task 1 (pos 34 ∷ pos 21 ∷ [])
+  task_at_next = refl
+
+  -- there is no third kid, and a task that sends has neither kid nor successor
+  no_task_at_3 : task_at fib (pos 10 ∷ []) (3 ∷ []) ≡ None
+  no_task_at_3 = refl
+
+  no_kid_of_1 : task_at fib (pos 1 ∷ []) (1 ∷ []) ≡ None
+  no_kid_of_1 = refl
+
+  no_next_of_1 : task_at fib (pos 1 ∷ []) (0 ∷ []) ≡ None
+  no_next_of_1 = refl
+
+  -- what the slots of the successor receive
+  slot_at_0 : slot_at fib (pos 10 ∷ []) [] 0 ≡ Some (pos 34)
+  slot_at_0 = refl
+
+  slot_at_1 : slot_at fib (pos 10 ∷ []) [] 1 ≡ Some (pos 21)
+  slot_at_1 = refl
+
+  no_slot_at_2 : slot_at fib (pos 10 ∷ []) [] 2 ≡ None
+  no_slot_at_2 = refl
+
+  -- a task has the value of its successor
+  value_at_1 : value_at fib (pos 10 ∷ []) (1 ∷ []) ≡ Some (pos 34)
+  unfolding value_within
+  value_at_1 = refl
+
+  value_at_next : value_at fib (pos 10 ∷ []) (0 ∷ []) ≡ Some (pos 55)
+  unfolding value_within
+  value_at_next = refl
+
+  -- thread main(k, n) { spawn_next main(k, ?x); spawn main(x, n); }
+  abbrev endless : Program
+  endless = record {
+    threads = record {
+      name = name (codes "main");
+      continuation = name (codes "k");
+      numbers = name (codes "n") ∷ [];
+      body = record { lets = []; end = Next (name (codes "main")) (name (codes "k")) (argument.Hole (name (codes "x")) ∷ []) (spawned (codes "x") (variable (codes "n")) ∷ []); close = 0 };
+    } ∷ [];
+    length = 0;
+  }
+
+  -- a place has at most 1,024 steps, so the last turn is the 1,025th
+  endless_is_too_deep : meaning endless (pos 7 ∷ []) ≡ TooDeep
+  unfolding value_within
+  endless_is_too_deep = refl
+
+  endless_turns : turns_of endless (pos 7 ∷ []) ≡ 1025
+  unfolding turns_within
+  endless_turns = refl
