@@ -65,10 +65,6 @@ joined_turn p t numbers env l s cs slots r e f =
     let joins : Some (Joins s slots) ≡ Some r.turn = rw f at same in
     r.reached ∙ sym joins
 
--- a leaf that comes to an end isn't absent
-pub leaf_there : (p : Program) (t : ℕ) (numbers env : List ℤ) (l : Leaf) → Reached p t numbers env l → l ≡ leaf.Absent → ⊥
-leaf_there p t numbers env l r e = let same : None ≡ Some r.turn = rw e at r.same in cc
-
 -- the end that is reached names threads that are there, with as many numbers as they take
 pub turn_fits : (p : Program) (t : ℕ) (numbers env : List ℤ) (l : Leaf) (turn : Turn) → Reached p t numbers env l → turn_of p t numbers ≡ Some turn → TurnFits p turn
 turn_fits p t numbers env l turn r reached =

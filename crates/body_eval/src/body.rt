@@ -10,7 +10,7 @@ use kind_check::{Checked, Kid, Leaf, Slot, SlotCode, Turn};
 use std::alloc::{AllocError, Global};
 
 /// The end that the body of a thread reaches on these numbers; refused for want of memory alone.
-#[tactic(auto, using(crate::proofs::Turning::sent_known, crate::proofs::Turning::sent_turn, crate::proofs::Turning::joined_known, crate::proofs::Turning::joined_turn, crate::proofs::Turning::leaf_there, crate::proofs::Turning::turn_fits))]
+#[tactic(auto, using(crate::proofs::Turning::sent_known, crate::proofs::Turning::sent_turn, crate::proofs::Turning::joined_known, crate::proofs::Turning::joined_turn, crate::proofs::Turning::turn_fits))]
 pub fn turn(
     alloc: Global,
     checked: &Checked,
@@ -27,7 +27,6 @@ pub fn turn(
         Leaf::Joins(successor, slots) => {
             Ok(Turn::Joins(*successor, slot_values(alloc, &stack, slots)?))
         }
-        Leaf::Absent => unreachable!(),
     }
 }
 
@@ -62,6 +61,5 @@ fn slot(alloc: Global, numbers: &[i64], code: &SlotCode) -> Result<Slot, AllocEr
                 arguments,
             }))
         }
-        SlotCode::Absent => unreachable!(),
     }
 }

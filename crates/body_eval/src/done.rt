@@ -9,7 +9,7 @@ use std::marker::Model;
 use std::snapshot::Snapshot;
 
 /// A turn that was evaluated: the thread, its numbers and the end that it reached. It keeps what makes it a turn of its
-/// program, wherever it is passed, also to another thread. Which program that is, only contracts see.
+/// accepted program, wherever it is passed, also to another thread. Which program that is, only contracts see.
 #[derive(Drop)]
 pub struct Done {
     // It has no bytes. `of` takes it from the program itself, and nothing else makes a `Done`.
@@ -51,6 +51,7 @@ impl Done {
         ensures same { IfOk result (λ d. (d.program ≡ checked.now) × (d.thread ≡ thread) × (d.numbers ≡ numbers.items)) }
         ensures evaluated { IfOk result IsEvaluated }
     {
+        let _program = checked.program();
         let turn = body::turn(alloc, checked, thread, &numbers)?;
         Ok(Done {
             program: Snapshot::of(checked),

@@ -57,7 +57,6 @@ pub fn value(values: &[i64], code: &Code) -> i64
             let right = value(values, b);
             operate(*operator, left, right)
         }
-        Code::Absent => unreachable!(),
     }
 }
 

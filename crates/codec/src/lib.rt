@@ -8,8 +8,6 @@ mod fields;
 mod laws;
 mod packet;
 mod room;
-#[cfg(test)]
-mod tests;
 
 pub use body::{
     Abort, Beat, Body, Grant, Join, Leave, Offer, OfferAck, Refuse, ResultAck, Roster, Steal,

@@ -1,5 +1,6 @@
 ghost use Rattle.std.specs.Prelude.{◌≡◌, OnOk, OnErr, IsTrue, Some, IfSome, is_some, option_copied, length, slice_get, if◌then◌else◌, [], ◌++◌, refl};
 ghost use Rattle.ids.specs.Naming.{name_of_frame};
+ghost use Rattle.ids.specs.Ordered.{AreInOrder};
 ghost use Rattle.frames.specs.Frames.{frame_in, put_frame, without_frame, missing_of, missing_in, is_empty_of, is_vacant, fill_of, filling, if_ready, with_slot, readiness, readiness_of, AreBelow, AreNumbered};
 
 use ids::{Change, Frame, FrameNo, Store};
@@ -43,6 +44,13 @@ impl Frames {
         ensures { result ≡ length self.now }
     {
         self.frames.len()
+    }
+
+    /// The frames stand by rising number, each number once. Does nothing.
+    pub fn stand_in_order(&self)
+        ensures { AreInOrder name_of_frame self.now }
+    {
+        self.frames.stand_in_order();
     }
 
     /// The frame of a number, if there is one.

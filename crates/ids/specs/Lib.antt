@@ -4,5 +4,7 @@ pub mod Naming
 pub mod Keyed
 pub mod Named
 pub mod Stored
+pub mod Ordered
 pub mod Options
 pub mod Slots
+pub mod Members

@@ -9,8 +9,6 @@ mod outcome;
 mod place;
 mod returns;
 mod store;
-#[cfg(test)]
-mod tests;
 mod work;
 
 pub use listed::Listed;

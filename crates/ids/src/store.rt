@@ -1,6 +1,7 @@
 ghost use Rattle.std.specs.Prelude.{◌≡◌, OnOk, OnErr, IfSome, IsSome, IsSomeAnd, option_copied, length, []};
 ghost use Rattle.std.specs.BTreeMap as tree;
 ghost use Rattle.ids.specs.Named.{Name, name_cmp, item_in, put_in, without_in, changed_in};
+ghost use Rattle.ids.specs.Ordered.{AreInOrder};
 
 use std::alloc::{AllocError, Global};
 use std::collections::BTreeMap;
@@ -85,6 +86,13 @@ impl<X: Named> Store<X> {
         ensures { result ≡ length self.now }
     {
         self.items.len()
+    }
+
+    /// The items stand by rising name, each name once. Does nothing.
+    pub fn stand_in_order(&self)
+        ensures { AreInOrder X.name_of self.now }
+    {
+        let _ = &self.items;
     }
 
     /// Changes the item of a name, which is there; takes no memory.

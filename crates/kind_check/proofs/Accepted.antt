@@ -1,6 +1,7 @@
 -- An accepted program is total.
 use Rattle.std.proofs.Common.{◌≡◌, ◌≤◌, ◌<◌, ◌+◌, ◌⊎◌, inl, inr, ℕ, zero, suc, ℤ, refl, arith, length-append, Bool, true, false, List, [], ◌∷◌, ◌++◌, length, Option, Some, None, if◌then◌else◌, slice_get, nat_lt, codes}
 use Rattle.std.proofs.lemmas.Bool.Decides.{nat_tests}
+use Rattle.std.proofs.lemmas.Option.{slice_get_within}
 use Rattle.std.specs.Str.{bytes_eq}
 use Rattle.task_syntax.specs.declared.tree.Name.{Name}
 use Rattle.task_syntax.specs.declared.tree.Thread.{Thread}
@@ -11,7 +12,7 @@ use Rattle.kind_check.specs.declared.names.Kind.TheVariants.{Own, Value}
 use Rattle.kind_check.specs.Value.{Env, number_of}
 use Rattle.kind_check.specs.Turns.{◌>>=◌, bind, block_turn, thread_turn}
 use Rattle.kind_check.specs.Faults.{Scope, kind_of, with_name, new_faults, limit_faults, parameters_faults, after_parameters, own_scope, block_faults, thread_faults, again_named, thread_named, threads_faults, main_faults, faults}
-use Rattle.kind_check.specs.Total.{Takes, Reaches, IsTotal}
+use Rattle.kind_check.specs.Total.{Takes, Reaches, IsTotal, IsAccepted}
 use Rattle.kind_check.proofs.Known.{Defined, Covers, none_left, test_passed, or_else, kind_of_more}
 use Rattle.kind_check.proofs.Ends.{Few, EndKnown, block_known}
 
@@ -39,7 +40,7 @@ threads_few ts before (t ∷ rest) le h =
     omega arith
 
 -- each thread is without fault
-thread_sound : (ts before rest : List Thread) (i : ℕ) (t : Thread) → threads_faults ts before rest ≡ [] → slice_get rest i ≡ Some t → thread_faults ts t ≡ []
+pub thread_sound : (ts before rest : List Thread) (i : ℕ) (t : Thread) → threads_faults ts before rest ≡ [] → slice_get rest i ≡ Some t → thread_faults ts t ≡ []
 thread_sound ts before [] i t h e = absurd cc
 thread_sound ts before (x ∷ rest) zero t h e = let z : x ≡ t = cc in rw (← z) (threads_left ts before x rest h).1
 thread_sound ts before (x ∷ rest) (suc i) t h e = thread_sound ts (before ++ x ∷ []) rest i t (threads_left ts before x rest h).2 e
@@ -119,6 +120,18 @@ thread_at p i count k = at_thread (slice_get p.threads i) refl k.arity
     at_thread None e h = absurd cc
     at_thread (Some t) e h = record { thread = t; is = e; arity = cc }
 
+-- in a program without kind faults each thread takes at most 8 numbers
+pub accepted_few : (p : Program) → faults p ≡ [] → Few p
+accepted_few p h = record {
+  few = λ i count k.
+      let n = none_left (threads_faults p.threads [] p.threads) (main_faults p.length (thread_named p.threads (codes "main"))) h in
+      let t = thread_at p i count k in
+      let sound = thread_sound p.threads [] p.threads i t.thread n.0 t.is in
+      let parts = none_left (parameters_faults (own_scope t.thread) 0 t.thread.numbers) (block_faults p.threads (after_parameters (own_scope t.thread) t.thread.numbers) t.thread.body) sound in
+      let most = parameters_few (own_scope t.thread) 0 t.thread.numbers (omega arith) parts.0 in
+      omega (arith, t.arity);
+}
+
 -- a program without kind faults has at most 64 threads, and each reaches an end on any numbers
 pub accepted_total : (p : Program) → faults p ≡ [] → IsTotal p
 accepted_total p h =
@@ -126,18 +139,16 @@ accepted_total p h =
     let most = threads_few p.threads [] p.threads (omega arith) n.0 in
     record { few = omega arith; each = λ i numbers k. reaches n.0 i numbers k }
   where
-    all_few : threads_faults p.threads [] p.threads ≡ [] → Few p
-    all_few n = record {
-      few = λ i count k.
-          let t = thread_at p i count k in
-          let sound = thread_sound p.threads [] p.threads i t.thread n t.is in
-          let parts = none_left (parameters_faults (own_scope t.thread) 0 t.thread.numbers) (block_faults p.threads (after_parameters (own_scope t.thread) t.thread.numbers) t.thread.body) sound in
-          let most = parameters_few (own_scope t.thread) 0 t.thread.numbers (omega arith) parts.0 in
-          omega (arith, t.arity);
-    }
-
     reaches : threads_faults p.threads [] p.threads ≡ [] → (i : ℕ) (numbers : List ℤ) → Takes p i (length numbers) → Reaches p i numbers
     reaches n i numbers k =
         let t = thread_at p i (length numbers) k in
-        let r = thread_known p (all_few n) t.thread numbers (thread_sound p.threads [] p.threads i t.thread n t.is) t.arity in
+        let r = thread_known p (accepted_few p h) t.thread numbers (thread_sound p.threads [] p.threads i t.thread n t.is) t.arity in
         record { turn = r.turn; reached = rw t.is r.is; fits = r.fits }
+
+-- an accepted program has at most 64 threads, each with at most 8 numbers
+pub accepted_small : (p : Program) (t count : ℕ) → IsAccepted p → Takes p t count → (t < 64) × (count ≤ 8)
+accepted_small p t count accepted k =
+    let at = thread_at p t count k in
+    let within = slice_get_within p.threads t at.thread at.is in
+    let most = accepted.total.few in
+    (omega arith, (accepted_few p accepted.faultless).few t count k)

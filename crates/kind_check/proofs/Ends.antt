@@ -106,7 +106,7 @@ pub record SlotsKnown (p : Program) (env : Env) (uses : List Use) (i : ℕ) (arg
   pub count : length slots ≡ length args
 
 -- a hole without the fault of an unused one is used
-is_used : (close : ℕ) (o : Option Given) → used_faults close o ≡ [] → Defined o
+pub is_used : (close : ℕ) (o : Option Given) → used_faults close o ≡ [] → Defined o
 is_used close None h = absurd cc
 is_used close (Some given) h = record { value = given; is = refl }
 

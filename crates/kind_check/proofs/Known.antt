@@ -64,7 +64,7 @@ pub covers_value : (s : Scope) (env : Env) (n : List ℕ) (v : ℤ) → Covers s
 covers_value s env n v c = record { there = λ name e. rw number_of_more (value_step (kind_of s name) (number_of env name) (bytes_eq n name) v (c.there name) (rw kind_of_more at e)) }
 
 -- a hole, by what a name stands for
-hole_step : (o : Option Kind) (t : Bool) → or_else o (if t then Some Waits else None) ≡ Some Value → o ≡ Some Value
+pub hole_step : (o : Option Kind) (t : Bool) → or_else o (if t then Some Waits else None) ≡ Some Value → o ≡ Some Value
 hole_step (Some k) t e = e
 hole_step None true e = absurd cc
 hole_step None false e = absurd cc
@@ -74,7 +74,7 @@ pub covers_hole : (s : Scope) (env : Env) (n : List ℕ) → Covers s env → Co
 covers_hole s env n c = record { there = λ name e. c.there name (hole_step (kind_of s name) (bytes_eq n name) (rw kind_of_more at e)) }
 
 -- a name without fault where a number stands is one of a number
-number_there : (at : ℕ) (o : Option Kind) → number_faults at o ≡ [] → o ≡ Some Value
+pub number_there : (at : ℕ) (o : Option Kind) → number_faults at o ≡ [] → o ≡ Some Value
 number_there at None e = absurd cc
 number_there at (Some Value) e = refl
 number_there at (Some Own) e = absurd cc

@@ -2,7 +2,9 @@ pub mod Accepted
 pub mod Ends
 pub mod First
 pub mod FirstPlaces
+pub mod InScope
 pub mod Known
+pub mod Joined
 pub mod Leasts
 pub mod Lists
 pub mod Places

@@ -1,5 +1,6 @@
 -- A body by places reaches the end that the body by names reaches.
-use Rattle.std.proofs.Common.{◌≡◌, ◌∙◌, ℕ, ℤ, ◌+◌, pos, zero, suc, refl, sym, ap, Bool, true, false, nat_lt, if◌then◌else◌, List, [], ◌∷◌, ◌++◌, map, append_assoc, Option, Some, None, slice_get, get_or, length, ◌<◌}
+use Rattle.std.proofs.Common.{◌≡◌, ◌∙◌, ℕ, ℤ, ◌+◌, ◌≤◌, pos, zero, suc, refl, sym, ap, arith, Bool, true, false, nat_lt, if◌then◌else◌, List, [], ◌∷◌, ◌++◌, map, append_assoc, IsSomeAnd, Option, Some, None, slice_get, get_or, length, ◌<◌}
+use Rattle.std.proofs.lemmas.Bool.Decides.{nat_tests}
 use Rattle.std.proofs.lemmas.List.{append-nil, map-append}
 use Rattle.std.proofs.lemmas.Option.{slice_get-get_or}
 use Rattle.std.specs.Ordering.{int_eq}
@@ -22,7 +23,7 @@ use Rattle.kind_check.specs.declared.turn.Slot.{Slot}
 use Rattle.kind_check.specs.declared.turn.Slot.TheVariants.{Filled}
 use Rattle.kind_check.specs.declared.turn.Turn.{Turn}
 use Rattle.kind_check.specs.declared.code.Code.{Code}
-use Rattle.kind_check.specs.declared.code.Code.TheVariants.{Number, Local, Binary', Absent}
+use Rattle.kind_check.specs.declared.code.Code.TheVariants.{Number, Local, Binary'}
 use Rattle.kind_check.specs.declared.code.SlotCode.{SlotCode}
 use Rattle.kind_check.specs.declared.code.SlotCode.TheVariants as slot
 use Rattle.kind_check.specs.declared.code.Leaf.{Leaf}
@@ -34,7 +35,7 @@ use Rattle.kind_check.specs.Value.{Env, number_of, value_of}
 use Rattle.kind_check.specs.Turns.{◌>>=◌, values_of, after_lets, use_of, slot_for, slots_of, end_turn, block_turn, bind, thread_turn}
 use Rattle.kind_check.specs.Places.{place_of, further}
 use Rattle.kind_check.specs.Code.{code_value, code_values, code_lets, code_slot, code_slots, leaf_turn, end_code_turn, code_turn, codes_turn, Follows, IsBody}
-use Rattle.kind_check.specs.Resolves.{after, names_of, ResolvesExpr, ResolvesExprs, ResolvesLets, ResolvesGiven, ResolvesUse, ResolvesSlots, ResolvesNext, ResolvesEnd, ResolvesBlock, ResolvesThread, ResolvesThreads}
+use Rattle.kind_check.specs.Resolves.{after, names_of, ResolvesExpr, ResolvesExprs, ResolvesLets, ResolvesGiven, ResolvesSlots, ResolvesNext, ResolvesEnd, ResolvesBlock, ResolvesThread, ResolvesThreads}
 
 abbrev name_in : List ℕ × ℤ → List ℕ
 name_in b = b.0
@@ -74,15 +75,12 @@ expr_same : (env : Env) (names : List (List ℕ)) (vs : List ℤ) (e : Expr) (c 
 expr_same env names vs (expr.Number n) (Number m) f r = ap (λ (x : ℤ). Some x) (sym r)
 expr_same env names vs (expr.Number n) (Local i) f r = absurd r
 expr_same env names vs (expr.Number n) (Binary' op p a q b) f r = absurd r
-expr_same env names vs (expr.Number n) Absent f r = absurd r
 expr_same env names vs (expr.Variable x) (Number m) f r = absurd r
 expr_same env names vs (expr.Variable x) (Local i) f r = sym (placed env names vs x.text f ∙ ap (number_at vs) r)
 expr_same env names vs (expr.Variable x) (Binary' op p a q b) f r = absurd r
-expr_same env names vs (expr.Variable x) Absent f r = sym (placed env names vs x.text f ∙ ap (number_at vs) r)
 expr_same env names vs (expr.Binary' op p a q b) (Number m) f r = absurd r
 expr_same env names vs (expr.Binary' op p a q b) (Local i) f r = absurd r
 expr_same env names vs (expr.Binary' op p a q b) (Binary' op' p' x q' y) f r = rw (expr_same env names vs a x f r.1, expr_same env names vs b y f r.2, r.0) refl
-expr_same env names vs (expr.Binary' op p a q b) Absent f r = absurd r
 
 exprs_same : (env : Env) (names : List (List ℕ)) (vs : List ℤ) (es : List Expr) (cs : List Code) → Fits env names vs → ResolvesExprs names es cs → code_values vs cs ≡ values_of env es
 exprs_same env names vs [] [] f r = refl
@@ -93,14 +91,11 @@ exprs_same env names vs (e ∷ es) (c ∷ cs) f r = rw (expr_same env names vs e
 given_same : (ts : List Thread) (env : Env) (names : List (List ℕ)) (vs : List ℤ) (i : ℕ) (g : Given) (s : SlotCode) → Fits env names vs → ResolvesGiven ts names i g s → code_slot vs s ≡ slot_for ts env i g
 given_same ts env names vs i (Sent e) (slot.Given c) f r = rw (expr_same env names vs e c f r) refl
 given_same ts env names vs i (Sent e) (slot.Spawns h t cs) f r = absurd r
-given_same ts env names vs i (Sent e) slot.Absent f r = absurd r
 given_same ts env names vs i (Spawned name es) (slot.Given c) f r = absurd r
 given_same ts env names vs i (Spawned name es) (slot.Spawns h t cs) f r = rw (r.1, exprs_same env names vs es cs f r.2, r.0) refl
-given_same ts env names vs i (Spawned name es) slot.Absent f r = rw r refl
 
-use_same : (ts : List Thread) (env : Env) (names : List (List ℕ)) (vs : List ℤ) (i : ℕ) (g : Option Given) (s : SlotCode) → Fits env names vs → ResolvesUse ts names i g s → code_slot vs s ≡ (g >>= slot_for ts env i)
-use_same ts env names vs i None s f r = rw r refl
-use_same ts env names vs i (Some g) s f r = given_same ts env names vs i g s f r
+one_of_eight : (i : ℕ) → i ≤ 8 → nat_lt 8 i ≡ false
+one_of_eight i h = grind (arith, nat_tests)
 
 -- the slots behind the first one, if that is there
 abbrev slots_from : Option Slot → Option (List Slot) → Option (List Slot)
@@ -111,18 +106,18 @@ slots_same ts env names vs us i [] [] f r = refl
 slots_same ts env names vs us i [] (c ∷ cs) f r = absurd r
 slots_same ts env names vs us i (a ∷ args) [] f r = absurd r
 slots_same ts env names vs us i (Value e ∷ args) (c ∷ cs) f r =
-    rw (use_same ts env names vs i (Some (Sent e)) c f r.0, slots_same ts env names vs us i args cs f r.1) (through (value_of env e) (slots_of ts env us i args))
+    rw (given_same ts env names vs i (Sent e) c f r.0, slots_same ts env names vs us i args cs f r.1) (through (value_of env e) (slots_of ts env us i args))
   where
     through : (o : Option ℤ) (rest : Option (List Slot)) → slots_from (o >>= λ (v : ℤ). Some (Filled v)) rest ≡ (o >>= λ (v : ℤ). rest >>= λ (slots : List Slot). Some (Filled v ∷ slots))
     through None rest = refl
     through (Some v) rest = refl
 slots_same ts env names vs us i (Hole x ∷ args) (c ∷ cs) f r =
-    rw (use_same ts env names vs i (if nat_lt 8 i then None else use_of us x.text) c f r.0, slots_same ts env names vs us (i + 1) args cs f r.1) (at_test (nat_lt 8 i) (use_of us x.text) (slots_of ts env us (i + 1) args))
+    let lt : nat_lt 8 i ≡ false = one_of_eight i r.0.0 in
+    rw (lt, slots_same ts env names vs us (i + 1) args cs f r.1) (at_use (use_of us x.text) (slots_of ts env us (i + 1) args) r.0.1)
   where
-    at_test : (t : Bool) (o : Option Given) (rest : Option (List Slot)) → slots_from ((if t then None else o) >>= slot_for ts env i) rest ≡ (if t then None else (o >>= λ (g : Given). slots_from (slot_for ts env i g) rest))
-    at_test true o rest = refl
-    at_test false None rest = refl
-    at_test false (Some g) rest = refl
+    at_use : (o : Option Given) (rest : Option (List Slot)) → IsSomeAnd o (λ given. ResolvesGiven ts names i given c) → slots_from (code_slot vs c) rest ≡ (o >>= λ (g : Given). slots_from (slot_for ts env i g) rest)
+    at_use None rest h = absurd h
+    at_use (Some g) rest h = rw (given_same ts env names vs i g c f h) refl
 
 lets_then : (env : Env) (names : List (List ℕ)) (vs : List ℤ) (ls : List Let) (cs : List Code) (k : List ℤ → Option Turn) (k' : Env → Option Turn) → Fits env names vs → ResolvesLets names ls cs → ((inner : Env) (numbers : List ℤ) → Fits inner (after names ls) numbers → k numbers ≡ k' inner) → (code_lets vs cs >>= k) ≡ (after_lets env ls >>= k')
 lets_then env names vs [] [] k k' f r h = h env vs (record { names_are = f.names_are ∙ sym (append-nil names); numbers_are = f.numbers_are })
@@ -140,7 +135,6 @@ lets_then env names vs (l ∷ ls) (c ∷ cs) k k' f r h = rw (expr_same env name
 next_same : (ts : List Thread) (env : Env) (names : List (List ℕ)) (vs : List ℤ) (name k : Name) (args : List Argument) (us : List Use) (l : Leaf) → Fits env names vs → ResolvesNext ts names name.text args us l → leaf_turn vs l ≡ end_turn ts env (Next name k args us)
 next_same ts env names vs name k args us (leaf.Sends c) f r = absurd r
 next_same ts env names vs name k args us (leaf.Joins t cs) f r = rw (r.0, slots_same ts env names vs us 1 args cs f r.1) refl
-next_same ts env names vs name k args us leaf.Absent f r = rw r refl
 
 either : (t : Bool) (x y x' y' : Option Turn) → x ≡ x' → y ≡ y' → (if t then x else y) ≡ (if t then x' else y')
 either true x y x' y' e f = e
@@ -159,7 +153,6 @@ end_same ts env names vs (If' x p lets1 end1 close1 q lets2 end2 close2) (end.Le
 end_same ts env names vs (Send k e) (end.If' c p' codes1 to1 q' codes2 to2) f r = absurd r
 end_same ts env names vs (Send k e) (end.Leaf (leaf.Sends c)) f r = rw (expr_same env names vs e c f r) refl
 end_same ts env names vs (Send k e) (end.Leaf (leaf.Joins t cs)) f r = absurd r
-end_same ts env names vs (Send k e) (end.Leaf leaf.Absent) f r = absurd r
 end_same ts env names vs (Next name k args us) (end.If' c p' codes1 to1 q' codes2 to2) f r = absurd r
 end_same ts env names vs (Next name k args us) (end.Leaf l) f r = next_same ts env names vs name k args us l f r
 

@@ -9,3 +9,4 @@ pub mod FindsFirst
 pub mod Holes
 pub mod Code
 pub mod Resolves
+pub mod InScope

@@ -1,5 +1,5 @@
 -- A body by places resolves a body by names: each name is found by its first place among the names in scope.
-use Rattle.std.specs.Prelude.{◌≡◌, ℕ, ◌+◌, nat_lt, if◌then◌else◌, List, [], ◌∷◌, ◌++◌, map, Option, Some, None}
+use Rattle.std.specs.Prelude.{◌≡◌, ℕ, ◌+◌, ◌≤◌, List, [], ◌∷◌, ◌++◌, map, IsSomeAnd, Some}
 use Rattle.task_syntax.specs.declared.tree.Name.{Name}
 use Rattle.task_syntax.specs.declared.tree.Expr.{Expr}
 use Rattle.task_syntax.specs.declared.tree.Expr.TheVariants as expr
@@ -14,7 +14,7 @@ use Rattle.task_syntax.specs.declared.tree.End.{End}
 use Rattle.task_syntax.specs.declared.tree.End.TheVariants.{If', Send, Next}
 use Rattle.task_syntax.specs.declared.tree.Thread.{Thread}
 use Rattle.kind_check.specs.declared.code.Code.{Code}
-use Rattle.kind_check.specs.declared.code.Code.TheVariants.{Number, Local, Binary', Absent}
+use Rattle.kind_check.specs.declared.code.Code.TheVariants.{Number, Local, Binary'}
 use Rattle.kind_check.specs.declared.code.SlotCode.{SlotCode}
 use Rattle.kind_check.specs.declared.code.SlotCode.TheVariants as slot
 use Rattle.kind_check.specs.declared.code.Leaf.{Leaf}
@@ -37,7 +37,6 @@ after names ls = names ++ map (λ l. l.name.text) ls
 abbrev pub ResolvesExpr : List (List ℕ) → Expr → Code → Type 0
 ResolvesExpr names (expr.Number n) (Number m) = n ≡ m
 ResolvesExpr names (expr.Variable x) (Local i) = place_of names x.text ≡ Some i
-ResolvesExpr names (expr.Variable x) Absent = place_of names x.text ≡ None
 ResolvesExpr names (expr.Binary' op p a q b) (Binary' op' p' x q' y) = (op ≡ op') × ResolvesExpr names a x × ResolvesExpr names b y
 ResolvesExpr names e c = ⊥
 
@@ -57,18 +56,12 @@ ResolvesLets names ls cs = ⊥
 abbrev pub ResolvesGiven : List Thread → List (List ℕ) → ℕ → Given → SlotCode → Type 0
 ResolvesGiven ts names i (Sent e) (slot.Given c) = ResolvesExpr names e c
 ResolvesGiven ts names i (Spawned name es) (slot.Spawns h t cs) = (h ≡ i) × (thread_of ts name.text ≡ Some t) × ResolvesExprs names es cs
-ResolvesGiven ts names i (Spawned name es) slot.Absent = thread_of ts name.text ≡ None
 ResolvesGiven ts names i given s = ⊥
 
--- the use of a hole, if there is one
-abbrev pub ResolvesUse : List Thread → List (List ℕ) → ℕ → Option Given → SlotCode → Type 0
-ResolvesUse ts names i None s = s ≡ slot.Absent
-ResolvesUse ts names i (Some given) s = ResolvesGiven ts names i given s
-
--- the slot of an argument; behind 8 holes there is no further one
+-- the slot of an argument; a hole is one of 8, and used
 abbrev pub ResolvesSlot : List Thread → List (List ℕ) → List Use → ℕ → Argument → SlotCode → Type 0
-ResolvesSlot ts names uses i (Value e) s = ResolvesUse ts names i (Some (Sent e)) s
-ResolvesSlot ts names uses i (Hole x) s = ResolvesUse ts names i (if nat_lt 8 i then None else use_of uses x.text) s
+ResolvesSlot ts names uses i (Value e) s = ResolvesGiven ts names i (Sent e) s
+ResolvesSlot ts names uses i (Hole x) s = (i ≤ 8) × IsSomeAnd (use_of uses x.text) (λ given. ResolvesGiven ts names i given s)
 
 -- the number of the next hole
 abbrev pub next_hole : ℕ → Argument → ℕ
@@ -84,7 +77,6 @@ ResolvesSlots ts names uses i args cs = ⊥
 -- a successor of that name, with these arguments and uses
 abbrev pub ResolvesNext : List Thread → List (List ℕ) → List ℕ → List Argument → List Use → Leaf → Type 0
 ResolvesNext ts names name args uses (leaf.Joins t cs) = (thread_of ts name ≡ Some t) × ResolvesSlots ts names uses 1 args cs
-ResolvesNext ts names name args uses leaf.Absent = thread_of ts name ≡ None
 ResolvesNext ts names name args uses l = ⊥
 
 -- the end of a block

@@ -1,5 +1,5 @@
 -- A program whose bodies are never stuck: an accepted one.
-use Rattle.std.specs.Prelude.{◌≡◌, ℕ, ℤ, ◌<◌, List, [], ◌∷◌, length, Option, Some, slice_get}
+use Rattle.std.specs.Prelude.{◌≡◌, ℕ, ℤ, ◌<◌, ◌≤◌, List, [], ◌∷◌, length, Option, Some, slice_get}
 use Rattle.task_syntax.specs.declared.tree.Program.{Program}
 use Rattle.kind_check.specs.declared.turn.Slot.{Slot}
 use Rattle.kind_check.specs.declared.turn.Slot.TheVariants.{Filled, Awaits}
@@ -26,6 +26,11 @@ SlotFits p (Awaits kid) = Takes p kid.thread (length kid.arguments)
 abbrev pub SlotsFit : Program → List Slot → Type 0
 SlotsFit p [] = Unit {0}
 SlotsFit p (slot ∷ slots) = SlotFits p slot × SlotsFit p slots
+
+-- the hole of a kid is one of 8
+abbrev pub HoleFits : Slot → Type 0
+HoleFits (Filled v) = Unit {0}
+HoleFits (Awaits kid) = (1 ≤ kid.hole) × (kid.hole ≤ 8)
 
 -- the threads that an end names are there, and get as many numbers as they take
 abbrev pub TurnFits : Program → Turn → Type 0

@@ -7,8 +7,6 @@ pub enum Code {
     Number(i64),
     Local(usize),
     Binary(Operator, Box<Code>, Box<Code>),
-    /// A name that isn't in scope.
-    Absent,
 }
 
 /// A successor's slot: a number, or a kid (its hole, its thread and its numbers).
@@ -16,8 +14,6 @@ pub enum Code {
 pub enum SlotCode {
     Given(Code),
     Spawns(u8, u8, Listed<Code>),
-    /// A hole without use, or an unknown thread.
-    Absent,
 }
 
 /// Where a body ends: it sends a number, or spawns a successor (its thread) with these slots.
@@ -25,8 +21,6 @@ pub enum SlotCode {
 pub enum Leaf {
     Sends(Code),
     Joins(u8, Listed<SlotCode>),
-    /// An unknown thread.
-    Absent,
 }
 
 /// A block: what is let, each behind the numbers before it, and how it ends.

@@ -1,4 +1,4 @@
-ghost use Rattle.std.specs.Prelude.{◌≡◌, ◌-◌, [], ◌∷◌, ◌++◌, OnOk, OnErr, length, take};
+ghost use Rattle.std.specs.Prelude.{◌≡◌, ◌-◌, [], ◌∷◌, ◌++◌, IsSome, OnOk, OnErr, length, take};
 ghost use Rattle.kind_check.specs.Places.{place_of};
 
 use std::alloc::{AllocError, Global};
@@ -60,6 +60,14 @@ impl<'a> Index<'a> {
         ensures { result ≡ place_of self.now name.now }
     {
         self.first.get(name).copied()
+    }
+
+    /// The first place of a name that is there, from 0.
+    pub fn known_place(&self, name: &[u8]) -> usize
+        requires { IsSome (place_of self.now name.now) }
+        ensures { place_of self.now name.now ≡ Some result }
+    {
+        self.place(name).unwrap()
     }
 
     /// How many names there are.

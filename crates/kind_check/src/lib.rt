@@ -13,13 +13,11 @@ mod resolve;
 mod scope;
 mod statements;
 mod tables;
-#[cfg(test)]
-mod tests;
 mod turn;
 mod walk;
 
 pub use checked::{Checked, KindError, KindFault};
 pub use checker::check;
 pub use code::{BlockCode, Code, EndCode, Leaf, SlotCode};
-pub use laws::equal_programs_are_alike;
+pub use laws::{accepted_threads_are_few, equal_programs_are_alike, joins_have_few_holes};
 pub use turn::{Kid, Slot, Turn};

@@ -1,24 +1,22 @@
-ghost use Rattle.std.specs.Prelude.{◌≡◌, ◌<◌, OnOk, IfOk, length};
+ghost use Rattle.std.specs.Prelude.{◌≡◌, ◌<◌, ◌≤◌, All, OnOk, IfOk, length};
+ghost use Rattle.kind_check.specs.InScope.{ExprInScope, LetsInScope, GivenInScope, ArgumentInScope, NextInScope, BlockInScope, ThreadInScope};
 ghost use Rattle.kind_check.specs.Resolves.{after, ResolvesExpr, ResolvesExprs, ResolvesLets, ResolvesGiven, ResolvesSlot, ResolvesSlots, ResolvesNext, ResolvesBlock, ResolvesThread, ResolvesThreads};
 
 use crate::code::{BlockCode, Code, EndCode, Leaf, SlotCode};
 use crate::index::Index;
 use crate::tables::{Threads, Uses};
 use ids::Listed;
-use ids::limits::MOST_SLOTS;
 use std::alloc::{AllocError, Global};
 use task_syntax::{Argument, Block, End, Expr, Given, Let, Name, Program, Thread, Use};
 
 /// An expression, by the places of its names.
 fn expression(alloc: Global, names: &Index<'_>, expr: &Expr) -> Result<Code, AllocError>
+    requires { ExprInScope names.now expr.now }
     ensures { IfOk result (ResolvesExpr names.now expr.now) }
 {
     match expr {
         Expr::Number(number) => Ok(Code::Number(*number)),
-        Expr::Variable(name) => match names.place(name.text.as_slice()) {
-            Some(place) => Ok(Code::Local(place)),
-            None => Ok(Code::Absent),
-        },
+        Expr::Variable(name) => Ok(Code::Local(names.known_place(name.text.as_slice()))),
         Expr::Binary(operator, a, b) => {
             let left = expression(alloc, names, a)?;
             let right = expression(alloc, names, b)?;
@@ -35,6 +33,7 @@ fn expressions(
     names: &Index<'_>,
     exprs: &Listed<Expr>,
 ) -> Result<Listed<Code>, AllocError>
+    requires { All (ExprInScope names.now) exprs.now }
     ensures { IfOk result (ResolvesExprs names.now exprs.now) }
 {
     let mut codes = Listed::with_capacity(alloc, exprs.len())?;
@@ -51,6 +50,7 @@ fn lets<'a>(
     names: &mut Index<'a>,
     lets: &'a Listed<Let>,
 ) -> Result<Listed<Code>, AllocError>
+    requires { LetsInScope names.old lets.now }
     ensures codes { IfOk result (ResolvesLets names.old lets.now) }
     ensures names { OnOk result (names.new ≡ after names.old lets.now) }
 {
@@ -71,43 +71,39 @@ fn given(
     hole: u8,
     given: &Given,
 ) -> Result<SlotCode, AllocError>
-    requires { length threads.now.all.now < 65 }
+    requires few { length threads.now.all.now < 65 }
+    requires known { GivenInScope threads.now.all.now names.now given.now }
     ensures { IfOk result (ResolvesGiven threads.now.all.now names.now hole given.now) }
 {
     match given {
         Given::Sent(expr) => Ok(SlotCode::Given(expression(alloc, names, expr)?)),
-        Given::Spawned(name, exprs) => match threads.number(name.text.as_slice()) {
-            Some(thread) => {
-                let arguments = expressions(alloc, names, exprs)?;
-                Ok(SlotCode::Spawns(hole, thread, arguments))
-            }
-            None => Ok(SlotCode::Absent),
-        },
+        Given::Spawned(name, exprs) => {
+            let thread = threads.number(name.text.as_slice());
+            let arguments = expressions(alloc, names, exprs)?;
+            Ok(SlotCode::Spawns(hole, thread, arguments))
+        }
     }
 }
 
-/// The slot of a hole; there is none behind 8 holes.
+/// The slot of a hole, which is used.
 fn hole_slot(
     alloc: Global,
     threads: &Threads<'_>,
     names: &Index<'_>,
     uses: &Uses<'_>,
-    hole: usize,
+    hole: u8,
     name: &Name,
 ) -> Result<SlotCode, AllocError>
-    requires { length threads.now.all.now < 65 }
+    requires few { length threads.now.all.now < 65 }
+    requires within { hole ≤ 8 }
+    requires known { ArgumentInScope threads.now.all.now names.now uses.now.all.now (Argument.Hole name.now) }
     ensures { IfOk result (ResolvesSlot threads.now.all.now names.now uses.now.all.now hole (Argument.Hole name.now)) }
 {
-    if hole > MOST_SLOTS as usize {
-        return Ok(SlotCode::Absent);
-    }
-    match uses.given(name.text.as_slice()) {
-        Some(each) => given(alloc, threads, names, hole as u8, each),
-        None => Ok(SlotCode::Absent),
-    }
+    let used = uses.given(name.text.as_slice());
+    given(alloc, threads, names, hole, used)
 }
 
-/// The slots of a successor.
+/// The slots of a successor, at most 8.
 fn slots(
     alloc: Global,
     threads: &Threads<'_>,
@@ -115,11 +111,13 @@ fn slots(
     uses: &Uses<'_>,
     arguments: &Listed<Argument>,
 ) -> Result<Listed<SlotCode>, AllocError>
-    requires { length threads.now.all.now < 65 }
+    requires few { length threads.now.all.now < 65 }
+    requires within { length arguments.now ≤ 8 }
+    requires known { All (ArgumentInScope threads.now.all.now names.now uses.now.all.now) arguments.now }
     ensures { IfOk result (ResolvesSlots threads.now.all.now names.now uses.now.all.now 1 arguments.now) }
 {
     let mut slots = Listed::with_capacity(alloc, arguments.len())?;
-    let mut hole: usize = 1;
+    let mut hole: u8 = 1;
     for argument in arguments.as_slice() {
         match argument {
             Argument::Value(expr) => slots.push(SlotCode::Given(expression(alloc, names, expr)?))?,
@@ -139,7 +137,8 @@ fn block<'a>(
     names: &mut Index<'a>,
     block: &'a Block,
 ) -> Result<BlockCode, AllocError>
-    requires { length threads.now.all.now < 65 }
+    requires few { length threads.now.all.now < 65 }
+    requires known { BlockInScope threads.now.all.now names.old block.now }
     ensures block { IfOk result (ResolvesBlock threads.now.all.now names.old block.now) }
     ensures names { OnOk result (names.new ≡ names.old) }
 {
@@ -172,19 +171,19 @@ fn next(
     arguments: &Listed<Argument>,
     uses: &Listed<Use>,
 ) -> Result<Leaf, AllocError>
-    requires { length threads.now.all.now < 65 }
+    requires few { length threads.now.all.now < 65 }
+    requires known { NextInScope threads.now.all.now names.now name.now.text arguments.now uses.now }
     ensures { IfOk result (ResolvesNext threads.now.all.now names.now name.now.text arguments.now uses.now) }
 {
-    let Some(thread) = threads.number(name.text.as_slice()) else {
-        return Ok(Leaf::Absent);
-    };
+    let thread = threads.number(name.text.as_slice());
     let uses = Uses::new(alloc, uses.as_slice())?;
     Ok(Leaf::Joins(thread, slots(alloc, threads, names, &uses, arguments)?))
 }
 
 /// The body of a thread, in the scope of its parameters.
 fn thread(alloc: Global, threads: &Threads<'_>, thread: &Thread) -> Result<BlockCode, AllocError>
-    requires { length threads.now.all.now < 65 }
+    requires few { length threads.now.all.now < 65 }
+    requires known { ThreadInScope threads.now.all.now thread.now }
     ensures { IfOk result (ResolvesThread threads.now.all.now thread.now) }
 {
     let mut names = Index::new(alloc);
@@ -196,7 +195,8 @@ fn thread(alloc: Global, threads: &Threads<'_>, thread: &Thread) -> Result<Block
 
 /// The bodies of all threads, in their order.
 pub fn program(alloc: Global, program: &Program) -> Result<Listed<BlockCode>, AllocError>
-    requires { length program.now.threads < 65 }
+    requires few { length program.now.threads < 65 }
+    requires known { All (ThreadInScope program.now.threads) program.now.threads }
     ensures { IfOk result (ResolvesThreads program.now.threads program.now.threads) }
 {
     let threads = Threads::new(alloc, program.threads.as_slice())?;

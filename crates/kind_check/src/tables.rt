@@ -1,4 +1,4 @@
-ghost use Rattle.std.specs.Prelude.{◌≡◌, ◌<◌, IfOk, length, option_copied, take};
+ghost use Rattle.std.specs.Prelude.{◌≡◌, ◌<◌, IfOk, IsSome, Some, length, option_copied, take};
 ghost use Rattle.std.specs.Option.{is_some};
 ghost use Rattle.kind_check.specs.Turns.{thread_of, use_of};
 ghost use Rattle.kind_check.specs.Faults.{thread_named};
@@ -39,16 +39,14 @@ impl<'a> Threads<'a> {
         }
     }
 
-    /// The number of the first thread of a name.
-    #[tactic(auto, using(crate::proofs::Places::thread_numbered, crate::proofs::Places::place_within, crate::proofs::Places::thread_within))]
-    pub fn number(&self, name: &[u8]) -> Option<u8>
-        requires { length self.now.all.now < 65 }
-        ensures { result ≡ thread_of self.now.all.now name.now }
+    /// The number of the first thread of a name that is there.
+    #[tactic(auto, using(crate::proofs::Places::thread_numbered, crate::proofs::Places::thread_within))]
+    pub fn number(&self, name: &[u8]) -> u8
+        requires few { length self.now.all.now < 65 }
+        requires known { IsSome (thread_of self.now.all.now name.now) }
+        ensures { thread_of self.now.all.now name.now ≡ Some result }
     {
-        match self.names.place(name) {
-            Some(place) => Some(place as u8),
-            None => None,
-        }
+        self.names.known_place(name) as u8
     }
 
     /// Whether one of the first `count` threads has that name.
@@ -91,15 +89,14 @@ impl<'a> Uses<'a> {
         self.holes.place(hole).is_some()
     }
 
-    /// What is given to a hole.
-    #[tactic(auto, using(crate::proofs::Places::given_placed, crate::proofs::Places::place_within, crate::proofs::Places::use_within))]
-    pub fn given(&self, hole: &[u8]) -> Option<&'a Given>
-        ensures { option_copied result ≡ use_of self.now.all.now hole.now }
+    /// What is given to a hole that is used.
+    #[tactic(auto, using(crate::proofs::Places::use_placed, crate::proofs::Places::use_within, crate::proofs::Places::given_index))]
+    pub fn given(&self, hole: &[u8]) -> &'a Given
+        requires { IsSome (use_of self.now.all.now hole.now) }
+        ensures { use_of self.now.all.now hole.now ≡ Some result.now }
     {
-        match self.holes.place(hole) {
-            Some(place) => Some(&self.all[place].given),
-            None => None,
-        }
+        let place = self.holes.known_place(hole);
+        &self.all[place].given
     }
 
     /// Whether one of the first `count` uses is of that hole.

@@ -1,3 +1,4 @@
+pub mod Fib
 pub mod FrameLaws
 pub mod JobLaws
 pub mod MeaningLaws

@@ -1,39 +1,16 @@
--- Checks of the definitions, which no contract cites: the Fibonacci program, and what the definitions come to on it.
---     thread main(k, n) {
---         if n < 2 {
---             send_argument(k, n);
---         } else {
---             spawn_next sum(k, ?x, ?y);
---             spawn main(x, n - 1);
---             spawn main(y, n - 2);
---         }
---     }
---     thread sum(k, x, y) { send_argument(k, x + y); }
+-- Checks of the definitions, which no contract cites: what they come to on the Fibonacci program.
 use Rattle.std.proofs.Common.{◌≡◌, ℕ, ℤ, pos, negsuc, List, [], ◌∷◌, Option, Some, None, codes, refl}
-use Rattle.std.specs.declared.boxed.Box.{Box}
-use Rattle.std.specs.declared.alloc.Global.{Global}
-use Rattle.task_tokens.specs.declared.kinds.Operator.TheVariants.{Less, Add, Subtract, Multiply}
-use Rattle.task_syntax.specs.declared.tree.Name.{Name}
-use Rattle.task_syntax.specs.declared.tree.Expr.{Expr}
-use Rattle.task_syntax.specs.declared.tree.Expr.TheVariants.{Number, Variable, Binary'}
-use Rattle.task_syntax.specs.declared.tree.Argument.TheVariants as argument
-use Rattle.task_syntax.specs.declared.tree.Given.TheVariants.{Spawned}
-use Rattle.task_syntax.specs.declared.tree.Use.{Use}
-use Rattle.task_syntax.specs.declared.tree.End.{End}
-use Rattle.task_syntax.specs.declared.tree.End.TheVariants.{If', Send, Next}
-use Rattle.task_syntax.specs.declared.tree.Thread.{Thread}
-use Rattle.task_syntax.specs.declared.tree.Program.{Program}
+use Rattle.task_tokens.specs.declared.kinds.Operator.TheVariants.{Add, Subtract, Multiply}
 use Rattle.kind_check.specs.Value.{result_of}
 use Rattle.ids.specs.declared.outcome.Outcome.TheVariants.{Value, TooDeep}
 use Rattle.serial_meaning.specs.Places.{Call, task_at, slot_at, value_within, value_at, meaning}
 use Rattle.serial_meaning.specs.Count.{turns_within, turns_of}
-
--- a name; where it stands changes no meaning
-abbrev name : List ℕ → Name
-name text = record { text = text; offset = 0 }
-
-abbrev variable : List ℕ → Expr
-variable text = Variable (name text)
+use Rattle.task_syntax.specs.declared.tree.Argument.TheVariants as argument
+use Rattle.task_syntax.specs.declared.tree.End.TheVariants.{Next}
+use Rattle.task_syntax.specs.declared.tree.Given.TheVariants.{Spawned}
+use Rattle.task_syntax.specs.declared.tree.Program.{Program}
+use Rattle.serial_meaning.proofs.Fib as program
+use Rattle.serial_meaning.proofs.Fib.{name, variable}
 
 -- sums, differences and products wrap
 greatest_plus_1 : result_of Add (pos 9223372036854775807) (pos 1) ≡ negsuc 9223372036854775807
@@ -45,38 +22,9 @@ least_minus_1 = refl
 greatest_times_2 : result_of Multiply (pos 9223372036854775807) (pos 2) ≡ negsuc 1
 greatest_times_2 = refl
 
--- the part of a tree that is boxed lies somewhere in memory, which changes no meaning
-module _ (place : Box (Unit {0}) Global) where
-  abbrev below_two : Expr
-  below_two = Binary' Less place (variable (codes "n")) place (Number (pos 2))
-
-  abbrev less : ℕ → Expr
-  less d = Binary' Subtract place (variable (codes "n")) place (Number (pos d))
-
-  abbrev spawned : List ℕ → Expr → Use
-  spawned hole number = record { hole = name hole; given = Spawned (name (codes "main")) (number ∷ []) }
-
-  abbrev splits : End
-  splits = Next (name (codes "sum")) (name (codes "k")) (argument.Hole (name (codes "x")) ∷ argument.Hole (name (codes "y")) ∷ []) (spawned (codes "x") (less 1) ∷ spawned (codes "y") (less 2) ∷ [])
-
-  abbrev main_thread : Thread
-  main_thread = record {
-    name = name (codes "main");
-    continuation = name (codes "k");
-    numbers = name (codes "n") ∷ [];
-    body = record { lets = []; end = If' below_two place [] (Send (name (codes "k")) (variable (codes "n"))) 0 place [] splits 0; close = 0 };
-  }
-
-  abbrev sum_thread : Thread
-  sum_thread = record {
-    name = name (codes "sum");
-    continuation = name (codes "k");
-    numbers = name (codes "x") ∷ name (codes "y") ∷ [];
-    body = record { lets = []; end = Send (name (codes "k")) (Binary' Add place (variable (codes "x")) place (variable (codes "y"))); close = 0 };
-  }
-
+module _ (place : program.Pointer) where
   abbrev fib : Program
-  fib = record { threads = main_thread ∷ sum_thread ∷ []; length = 0 }
+  fib = program.fib place
 
   abbrev task : ℕ → List ℤ → Option Call
   task t numbers = Some (record { thread = t; numbers = numbers })
@@ -150,7 +98,7 @@ module _ (place : Box (Unit {0}) Global) where
       name = name (codes "main");
       continuation = name (codes "k");
       numbers = name (codes "n") ∷ [];
-      body = record { lets = []; end = Next (name (codes "main")) (name (codes "k")) (argument.Hole (name (codes "x")) ∷ []) (spawned (codes "x") (variable (codes "n")) ∷ []); close = 0 };
+      body = record { lets = []; end = Next (name (codes "main")) (name (codes "k")) (argument.Hole (name (codes "x")) ∷ []) (record { hole = name (codes "x"); given = Spawned (name (codes "main")) (variable (codes "n") ∷ []) } ∷ []); close = 0 };
     } ∷ [];
     length = 0;
   }

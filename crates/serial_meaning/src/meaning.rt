@@ -118,7 +118,6 @@ fn task_value(
                 Ok(None)
             }
         }
-        Leaf::Absent => unreachable!(),
     }
 }
 
@@ -180,6 +179,5 @@ fn slot_number(
             stack.truncate(start);
             Ok(number)
         }
-        SlotCode::Absent => unreachable!(),
     }
 }

@@ -5,8 +5,6 @@ mod error;
 mod parsing;
 mod printing;
 mod reader;
-#[cfg(test)]
-mod tests;
 mod tree;
 
 pub use error::{ParseError, PrintError};

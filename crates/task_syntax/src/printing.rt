@@ -381,6 +381,3 @@ fn print_threads(out: &mut Output, threads: &[Thread])
         print_thread(out, thread);
     }
 }
-
-#[cfg(test)]
-mod tests;

@@ -7,6 +7,3 @@ mod tokenizing;
 
 pub use kinds::{Operator, Run, Sign, Token, TokenKind, Word};
 pub use tokenizing::tokenize;
-
-#[cfg(test)]
-mod tests;

@@ -1,5 +1,6 @@
 ghost use Rattle.std.specs.Prelude.{◌≡◌, OnOk, OnErr, IfOk, option_copied, length, [], refl};
-ghost use Rattle.ids.specs.Naming.{name_of_grant};
+ghost use Rattle.ids.specs.Naming.{name_of_grant, name_of_record};
+ghost use Rattle.ids.specs.Ordered.{AreInOrder};
 ghost use Rattle.victim_records.specs.Records.{record_in, put_record, without_record, renamed, with_holder, grants_of};
 
 use ids::{Change, GrantId, Incarnation, Listed, Record, Store};
@@ -38,6 +39,13 @@ impl Records {
         ensures { result ≡ length self.now }
     {
         self.records.len()
+    }
+
+    /// The records stand by rising grant, each grant once. Does nothing.
+    pub fn stand_in_order(&self)
+        ensures { AreInOrder name_of_record self.now }
+    {
+        self.records.stand_in_order();
     }
 
     /// The record of a grant, if there is one.

@@ -1,0 +1,89 @@
+ghost use Rattle.std.specs.Prelude.{◌≡◌, IfErr, None, OnOk, Some};
+ghost use Rattle.serial_meaning.specs.Job.{meaning_of};
+ghost use Rattle.board.specs.Boards.{Agree, Keeps};
+
+use crate::notes::Note;
+use once_cell::race::OnceBox;
+use serial_meaning::{Job, Outcome};
+use std::alloc::Global;
+use std::marker::Model;
+use std::snapshot::Snapshot;
+
+/// Where the outcome of a job stands once it is known. Threads share it by reference. Contracts see which board it is, and the
+/// outcome that it takes, the meaning of its job.
+#[derive(Drop)]
+pub struct Board {
+    cell: OnceBox<Outcome>,
+    alloc: Global,
+    job: Snapshot<Job>,
+}
+
+impl Model for Board {
+    ghost use Rattle.once_cell.specs.Once.{cell_name};
+    ghost use Rattle.serial_meaning.specs.Job.{meaning_of};
+    ghost use Rattle.board.specs.Boards.{BoardOf};
+
+    ghost Value = { BoardOf };
+
+    ghost view = { λ b. record { board = cell_name b.cell; outcome = meaning_of b.job.value } };
+}
+
+impl Board {
+    /// An empty board for a job; takes no memory.
+    pub fn new(alloc: Global, job: &Job) -> Board
+        ensures { result.outcome ≡ meaning_of job.now }
+    {
+        Board {
+            cell: OnceBox::new(alloc),
+            alloc,
+            job: Snapshot::of(job),
+        }
+    }
+
+    /// A note that knows nothing yet; takes no memory.
+    pub fn note(&self) -> Note
+        ensures { (result.board ≡ self.now.board) × (result.known ≡ None) }
+    {
+        Note {
+            note: self.cell.note(),
+        }
+    }
+
+    /// Sets the outcome, which has to be the meaning of the board's job. Where one is set already, or without memory, it comes
+    /// back.
+    pub fn publish(&self, note: &mut Note, outcome: Outcome) -> Result<(), Outcome>
+        requires board { note.old.board ≡ self.now.board }
+        requires meaning { outcome ≡ self.now.outcome }
+        ensures board { note.new.board ≡ note.old.board }
+        ensures ok { OnOk result ((note.old.known ≡ None) × (note.new.known ≡ Some outcome)) }
+        ensures err { IfErr result (λ o. o ≡ outcome) }
+        ensures known { Keeps note.old.known note.new.known }
+    {
+        let Ok(value) = Box::new(self.alloc, outcome) else {
+            return Err(outcome);
+        };
+        match self.cell.set_as(value, &mut note.note) {
+            Ok(()) => Ok(()),
+            Err(_) => Err(outcome),
+        }
+    }
+
+    /// The outcome, if it is set: a load, without memory. A note that knows an outcome reads that one.
+    pub fn read(&self, note: &mut Note) -> Option<Outcome>
+        requires { note.old.board ≡ self.now.board }
+        ensures board { note.new.board ≡ note.old.board }
+        ensures read { note.new.known ≡ result }
+        ensures known { Keeps note.old.known result }
+    {
+        self.cell.get_as(&mut note.note).copied()
+    }
+
+    /// Two notes of one board that know an outcome know the same one.
+    pub fn compare(one: &mut Note, other: &mut Note)
+        requires { one.old.board ≡ other.old.board }
+        ensures same { (one.new ≡ one.old) × (other.new ≡ other.old) }
+        ensures agree { Agree one.old.known other.old.known }
+    {
+        one.note.compare(other.note.again());
+    }
+}

@@ -1,0 +1,4 @@
+pub mod Playing
+mod Rows
+mod Moving
+mod Recovering

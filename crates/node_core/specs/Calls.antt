@@ -1,0 +1,143 @@
+-- What a node's own calls do. Each refusal comes in the order of its tests, and changes nothing.
+use Rattle.std.specs.Prelude.{ℕ, ◌+◌, ◌^◌, ◌&&◌, ◌||◌, Bool, true, not, nat_eq, nat_lt, if◌then◌else◌, List, [], ◌∷◌, ◌++◌, length, map, Option, None, Some, is_some, Result, Ok, Err}
+use Rattle.std.specs.List.{list_any, flat_map}
+use Rattle.ids.specs.Members.{is_live}
+use Rattle.ids.specs.Names.{Grant, house_of}
+use Rattle.ids.specs.Options.{◌>>=◌}
+use Rattle.task_syntax.specs.declared.tree.Program.{Program}
+use Rattle.kind_check.specs.Turns.{turn_of}
+use Rattle.body_eval.specs.Done.{DoneOf}
+use Rattle.codec.specs.Table.{PacketOf, packet as spelling}
+use Rattle.codec.specs.declared.body.Body.TheVariants as body
+use Rattle.codec.specs.declared.body.Roster.{Roster}
+use Rattle.serial_meaning.specs.Job.{JobOf}
+use Rattle.sub_rules.specs.Carrying.{exec as carried_out}
+use Rattle.sub_rules.specs.Content.{Ready}
+use Rattle.sub_rules.specs.declared.change.Change.{Change}
+use Rattle.sub_rules.specs.declared.change.SubError.{SubError}
+use Rattle.sub_rules.specs.declared.change.SubError.TheVariants as sub
+use Rattle.steal_protocol.specs.Requests.{next_request}
+use Rattle.steal_protocol.specs.declared.asker.Request.{Request}
+use Rattle.subcomputation.specs.Subs.{SubOf, sub_in}
+use Rattle.node_state.specs.Node.{NodeOf, by_state, starting}
+use Rattle.node_state.specs.declared.parts.State.TheVariants.{Leaving}
+use Rattle.node_state.specs.Posts.{ready_at}
+use Rattle.node_core.specs.Cases.{by_option}
+use Rattle.node_core.specs.declared.error.NodeError.TheVariants as error
+use Rattle.node_core.specs.declared.parts.Victim.{Victim}
+use Rattle.node_core.specs.declared.parts.Victim.TheVariants.{Worker, House}
+use Rattle.node_core.specs.Moves
+use Rattle.node_core.specs.Steps.{StepOf, Answer, Refused, Does, sends}
+
+-- whom a request to a victim goes to
+abbrev pub address_of : Roster → Victim → ℕ
+address_of r (Worker i) = i
+address_of r House = house_of r.epoch
+
+-- a worker may be asked that is another one and is shown live, and the clearinghouse always
+abbrev pub may_ask : Roster → NodeOf → Victim → Bool
+may_ask r n (Worker i) = not (nat_eq i n.incarnation) && is_live i r.members
+may_ask r n House = true
+
+-- a node that isn't joined, or has ended, is refused
+abbrev pub if_joined : NodeOf → (Roster → Answer) → (Roster → ℕ → Answer) → Answer
+if_joined n member leaving = by_state n.state (Refused error.NotJoined) member leaving (Refused error.NotJoined)
+
+-- the turn of a ready frame
+abbrev pub own_turn : Program → Ready → Option DoneOf
+own_turn p r = do
+  turn ← turn_of p r.frame.thread r.numbers
+  Some (record { program = p; thread = r.frame.thread; numbers = r.numbers; turn = turn })
+
+module _ (job : JobOf) where
+  -- a node starts, and asks to be listed
+  abbrev pub join : ℕ → PacketOf
+  join i = Moves.packet job (2 ^ 63) (body.Join (record { from = i }))
+
+  abbrev pub start : ℕ → StepOf
+  start word = sends (join word ∷ []) (starting word)
+
+  -- it asks a victim for work
+  abbrev pub asks : ℕ → NodeOf → StepOf
+  asks victim n =
+      let q = next_request victim n.asker in
+      sends (Moves.steal job n.incarnation q ∷ []) (record n { asker = record { pending = Some q; asked = q.seq } })
+
+  abbrev pub member_ask : Victim → NodeOf → Roster → Answer
+  member_ask v n r =
+      if not (may_ask r n v) then Refused error.NotJoined
+      else if is_some n.asker.pending then Refused error.Busy
+      else if nat_lt (n.asker.asked + 1) (2 ^ 64) then Does (asks (address_of r v) n)
+      else Refused error.Spent
+
+  abbrev pub leaving_ask : Victim → NodeOf → Roster → ℕ → Answer
+  leaving_ask v n r heir = if not (may_ask r n v) then Refused error.NotJoined else Refused error.Busy
+
+  unfoldable pub ask : Victim → NodeOf → Answer
+  ask v n = if_joined n (member_ask v n) (leaving_ask v n)
+
+  -- it carries out a frame by a turn that was evaluated; nothing is ready at a leaving node
+  abbrev pub changed : SubOf → NodeOf → Result Change SubError → Answer
+  changed s n (Ok change) = Does (Moves.changes job s change n)
+  changed s n (Err sub.Stale) = Refused error.Stale
+  changed s n (Err sub.Spent) = Refused error.Spent
+  changed s n (Err sub.Memory) = Refused error.Memory
+
+  unfoldable pub exec : DoneOf → Grant → ℕ → NodeOf → Answer
+  exec d g frame n =
+      if_joined n
+      (λ r. by_option (sub_in g n.subs) (Refused error.Stale) (λ s. changed s n (carried_out d frame s.content)))
+      (λ r heir. Refused error.Stale)
+
+  -- it carries out a ready frame by that frame's own turn
+  abbrev pub exec_ready : Grant → ℕ → NodeOf → Answer
+  exec_ready g frame n =
+      if_joined n
+      (λ r. by_option (ready_at n g frame) (Refused error.Stale) (λ f.
+      by_option (own_turn job.program f.ready) (Refused error.Stale) (λ d. exec d g frame n)))
+      (λ r heir. Refused error.Stale)
+
+  -- it leaves to an heir: all that it holds is frozen, and offered by rising grant
+  abbrev pub offers : ℕ → NodeOf → List PacketOf
+  offers heir n = map (Moves.offer job n.incarnation heir) n.subs
+
+  abbrev pub departs : Roster → ℕ → NodeOf → StepOf
+  departs r heir n = let gone : NodeOf = record n { state = Leaving r heir } in sends (offers heir n ++ Moves.leaves job r heir gone) gone
+
+  -- a subcomputation that has moved as often as is counted, and an Offer of too many bytes
+  abbrev pub is_last_hop : SubOf → Bool
+  is_last_hop s = not (nat_lt (s.hop + 1) (2 ^ 32))
+
+  abbrev pub is_too_big : PacketOf → Bool
+  is_too_big p = nat_lt 1048576 (length (spelling.write p))
+
+  abbrev pub member_depart : ℕ → NodeOf → Roster → Answer
+  member_depart heir n r =
+      if is_some n.asker.pending then Refused error.Pending
+      else if nat_eq heir n.incarnation || not (is_live heir r.members) then Refused error.NoHeir
+      else if list_any is_last_hop n.subs then Refused error.HopSpent
+      else if list_any is_too_big (offers heir n) then Refused error.TooBig
+      else Does (departs r heir n)
+
+  unfoldable pub depart : ℕ → NodeOf → Answer
+  depart heir n = if_joined n (member_depart heir n) (λ r _. Refused error.Busy)
+
+  -- it sends again what isn't answered yet: a member its Beat, its request and its Results, a leaving node its Beat, its Offers
+  -- and the Grants of awaited thieves, and where there are neither, Leave
+  abbrev pub pending_steal : NodeOf → Option Request → List PacketOf
+  pending_steal n None = []
+  pending_steal n (Some q) = Moves.steal job n.incarnation q ∷ []
+
+  abbrev pub member_resend : NodeOf → Roster → List PacketOf
+  member_resend n r = Moves.beat job n.incarnation r ∷ pending_steal n n.asker.pending ++ flat_map (Moves.results job n.incarnation) n.subs
+
+  abbrev pub leaving_resend : NodeOf → Roster → ℕ → List PacketOf
+  leaving_resend n r heir = Moves.beat job n.incarnation r ∷ offers heir n ++ Moves.grants_in (Moves.awaited r n) ++ Moves.leaves job r heir n
+
+  unfoldable pub resend : NodeOf → Answer
+  resend n =
+      by_state n.state
+      (Does (sends (join n.incarnation ∷ []) n))
+      (λ r. Does (sends (member_resend n r) n))
+      (λ r heir. Does (sends (leaving_resend n r heir) n))
+      (Refused error.NotJoined)

@@ -1,0 +1,6 @@
+pub mod Errors
+pub mod Steps
+pub mod Moves
+pub mod Cases
+pub mod Calls
+pub mod Choosing

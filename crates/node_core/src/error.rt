@@ -1,0 +1,72 @@
+ghost use Rattle.std.specs.Prelude.{◌≡◌};
+
+use packet_fields::Fault;
+use std::alloc::AllocError;
+use thiserror::Error;
+
+/// Why a call of a node is refused. It changes nothing then.
+#[derive(Clone, Copy, PartialEq, Eq, Debug, Error)]
+pub enum NodeError {
+    /// E30 to E36: the bytes are no packet.
+    #[error("{0}")]
+    Bytes(Fault),
+    /// E40: the frame isn't ready here with that thread and those numbers.
+    #[error("E{number}", number = self.number())]
+    Stale,
+    /// E50: a request is pending.
+    #[error("E{number}", number = self.number())]
+    Pending,
+    /// E51: an Offer would have more than 1,048,576 bytes.
+    #[error("E{number}", number = self.number())]
+    TooBig,
+    /// E52: a subcomputation has moved as often as is counted.
+    #[error("E{number}", number = self.number())]
+    HopSpent,
+    /// E53: the heir isn't another live member.
+    #[error("E{number}", number = self.number())]
+    NoHeir,
+    /// E60: the node isn't joined or has ended, or the victim isn't shown live or is the node itself.
+    #[error("E{number}", number = self.number())]
+    NotJoined,
+    /// E61: a request is pending, or the node leaves.
+    #[error("E{number}", number = self.number())]
+    Busy,
+    /// E62: a count is spent.
+    #[error("E{number}", number = self.number())]
+    Spent,
+    /// E63: there is no memory.
+    #[error("E{number}", number = self.number())]
+    Memory,
+}
+
+impl NodeError {
+    ghost use Rattle.node_core.specs.Errors.{number_of_error};
+
+    /// The number of the error.
+    pub fn number(self) -> u8
+        ensures { result ≡ number_of_error self }
+    {
+        match self {
+            NodeError::Bytes(fault) => fault.number(),
+            NodeError::Stale => 40,
+            NodeError::Pending => 50,
+            NodeError::TooBig => 51,
+            NodeError::HopSpent => 52,
+            NodeError::NoHeir => 53,
+            NodeError::NotJoined => 60,
+            NodeError::Busy => 61,
+            NodeError::Spent => 62,
+            NodeError::Memory => 63,
+        }
+    }
+}
+
+impl From<AllocError> for NodeError {
+    ghost use Rattle.node_core.specs.declared.error.NodeError.TheVariants.{Memory};
+
+    ghost from_gives = { λ _ e. e ≡ Memory };
+
+    fn from(_refused: AllocError) -> NodeError {
+        NodeError::Memory
+    }
+}

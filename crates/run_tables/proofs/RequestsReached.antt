@@ -1,0 +1,83 @@
+-- Each move keeps Steals and replies in order; so they are in each view that moves lead to.
+use Rattle.std.proofs.Common.{◌≡◌, ℕ, List, [], ◌∷◌, None, inl, inr, arith}
+use Rattle.run_tables.specs.Tables.{◌∈◌, put}
+use Rattle.run_tables.specs.View.{Steal, Roster, Joining, House, View, first}
+use Rattle.run_tables.specs.Facts.{stolen_by, ack_of}
+use Rattle.run_tables.specs.Moves.{start, open_house}
+use Rattle.run_tables.specs.Guards.{MayOpen}
+use Rattle.run_tables.specs.Acts.{Act, starts, admits, adopts, fails, goes, mourns, opens, grants_root, closes_root, publishes, closes, asks, refuses, grants, takes_grant, hears_refuse, gives_up, freezes, takes_offer, acknowledges, releases, leaves, alters, drops, renames, settles, settles_at_house, Reached, at_first, by_act}
+use Rattle.run_tables.specs.Names.{Names}
+use Rattle.run_tables.specs.Leavers.{Leavers}
+use Rattle.run_tables.specs.Requests.{Awaits, Requests}
+use Rattle.run_tables.proofs.NamesReached.{names_reached}
+use Rattle.run_tables.proofs.LeaversKept.{leavers_reached}
+use Rattle.run_tables.proofs.RequestsKept.{requests_admit, requests_fail, requests_go, requests_close, requests_mourn, requests_freeze, requests_new, requests_refused, requests_give_up, requests_take_grant, requests_take_offer}
+use Rattle.run_tables.proofs.RequestsAnswered.{requests_ask, requests_mint, requests_refuse, requests_leave}
+
+requests_start : (v : View) (i : ℕ) → (i ∈ v.used → ⊥) → Names v → Requests v → Requests (start v i)
+requests_start v i new n q = let started = requests_new v i Joining v.lost new waits (λ t m e l. l) n q in assumption started
+  where
+    waits : (x : Steal) → x ∈ v.steals → Awaits v.mode v.pending v.lost x → (x.thief ≡ i → ⊥) → Awaits (put v.mode i Joining) (put v.pending i None) v.lost x
+    waits x m (inl p) other = let w = p.0 in let e = p.1 in inl (grind (arith, w, other), grind (arith, e, other))
+    waits x m (inr l) other = inr l
+
+-- to a new house all who asked are lost
+requests_open : (v : View) (i : ℕ) (lost : List ℕ) (roster : Roster) → MayOpen v i lost roster → Names v → Requests v → Requests (open_house v i lost roster)
+requests_open v i lost roster may n q =
+    let opened = requests_new v i House lost may.new (λ x m a other. inr (inl (may.lost_all x.thief (n.thief_used x m) (q.joins_unasked x m))))
+    (λ t m e l. inl (may.lost_all t.to (n.to_used t m) (q.joins_unasked (stolen_by t) (q.grant_asked t m e)))) n q in
+    assumption opened
+
+pub requests_kept : {v w : View} → Act v w → Names v → Leavers v → Requests v → Requests w
+requests_kept {v} (starts i new worker) n l q = requests_start v i new n q
+requests_kept {v} (admits i roster joins listed) n l q = let admitted = requests_admit v i joins q in assumption admitted
+requests_kept (adopts i old roster may) n l q = assumption q
+requests_kept {v} (fails i may) n l q = requests_fail v i q
+requests_kept {v} (goes i said) n l q = requests_go v i said l q
+requests_kept {v} (mourns i used worker lost) n l q = requests_mourn v i q
+requests_kept {v} (opens i lost roster may) n l q = requests_open v i lost roster may n q
+requests_kept {v} (grants_root i thief seq c house none may begins) n l q = let minted = requests_mint v i thief seq c (inr house) (rw house tt) may n l q in assumption minted
+requests_kept (closes_root k is) n l q = assumption q
+requests_kept (publishes house roster may) n l q = assumption q
+requests_kept {v} (closes i house) n l q = let stopped = requests_close v i house q in assumption stopped
+requests_kept {v} (asks i victim may) n l q = requests_ask v i victim may q
+requests_kept {v} (refuses i thief seq works may) n l q = requests_refuse v i thief seq works may q
+requests_kept {v} (grants i g s m thief seq c here may begins) n l q = let minted = requests_mint v i thief seq c (inl (rw here.member tt)) (rw here.member tt) may n l q in assumption minted
+requests_kept {v} (takes_grant i t may hop asked) n l q = requests_take_grant v i t may hop asked q
+requests_kept {v} (hears_refuse i x refused thief asked) n l q = requests_refused v i x refused thief asked q
+requests_kept {v} (gives_up i why) n l q = requests_give_up v i why l q
+requests_kept {v} (freezes i heir offers may) n l q = requests_freeze v i heir offers may q
+requests_kept {v} (takes_offer i t h may hop) n l q = requests_take_offer v i t h (ack_of t ∷ []) may hop n q
+requests_kept (acknowledges t there seen works) n l q = assumption q
+requests_kept (releases i heir g s may) n l q = assumption q
+requests_kept {v} (leaves i heir roster keeps may) n l q = requests_leave v i heir roster.epoch may n l q
+requests_kept (alters i g s c fill results gone here change is) n l q = assumption q
+requests_kept (drops i g s gone here had why) n l q = assumption q
+requests_kept (renames i g s roster host here listed way) n l q = assumption q
+requests_kept (settles i g may) n l q = assumption q
+requests_kept (settles_at_house i g may) n l q = assumption q
+
+requests_first : Requests first
+requests_first = record {
+  joins_unasked = λ x m. absurd m;
+  kept_grant = λ i j r t w. absurd w;
+  kept_refuse = λ i j r w. absurd w;
+  member_waits = λ i q w. absurd w;
+  one_victim = λ x y m. absurd m;
+  asked_most = λ x m. absurd m;
+  asked_last = λ i q w. absurd w;
+  asked_sent = λ i q w. absurd w;
+  grant_asked = λ t m. absurd m;
+  refuse_asked = λ x m. absurd m;
+  one_grant = λ t u m. absurd m;
+  one_reply = λ t x m. absurd m;
+  grant_kept = λ t m. absurd m;
+  refuse_kept = λ x m. absurd m;
+  unseen = λ t m. absurd m;
+  unanswered = λ x m. absurd m;
+  awaited = λ l t m. absurd m;
+}
+
+pub requests_reached : {v : View} → Reached v → Requests v
+requests_reached at_first = requests_first
+requests_reached (by_act r act) = requests_kept act (names_reached r) (leavers_reached r) (requests_reached r)

@@ -1,0 +1,4 @@
+pub mod Numbers
+pub mod Hands
+pub mod Words
+pub mod Pens

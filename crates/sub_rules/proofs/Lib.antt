@@ -1,0 +1,9 @@
+pub mod Sums
+pub mod Slots
+pub mod Numbers
+pub mod Departures
+pub mod Arrivals
+pub mod Joins
+pub mod Grants
+pub mod Contents
+pub mod Turns

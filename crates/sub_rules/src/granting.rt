@@ -1,0 +1,129 @@
+ghost use Rattle.std.specs.Prelude.{◌≡◌, IfOk, IfSome, None, Some, map};
+ghost use Rattle.ids.specs.Slots.{numbers_in};
+ghost use Rattle.victim_records.specs.Records.{record_in};
+ghost use Rattle.sub_rules.specs.Content.{ready_in};
+ghost use Rattle.sub_rules.specs.Changes.{closed_in, given_away, done_again, frame_of};
+ghost use Rattle.sub_rules.specs.Debts.{IsSound};
+
+use crate::arriving::{arrive, end};
+use crate::change::{Change, DoneAgain, GivenAway, Readied};
+use crate::content::Content;
+use crate::joining::all_given;
+use crate::leaving::{LeftFrame, LeftRecord, take_ready, take_record};
+use ids::{Frame, FrameNo, GrantId, Incarnation, Listed, Outcome, Record, Task};
+use std::alloc::{AllocError, Global};
+
+/// Gives a ready frame away: a record of the grant, which the thief holds, stands in the frame's place. None where no frame
+/// is ready under that number; refused for want of memory alone.
+pub fn grant_out(
+    alloc: Global,
+    content: Content,
+    number: FrameNo,
+    grant: GrantId,
+    thief: Incarnation,
+) -> Result<Option<GivenAway>, AllocError>
+    requires sound { IsSound content }
+    ensures given { IfOk result (λ o. o ≡ given_away grant thief content (ready_in number content)) }
+    ensures sound { record_in grant content.records ≡ None → IfOk result (λ o. IfSome o (λ g. IsSound g.after)) }
+{
+    let Some(LeftFrame { frame, content }) = take_ready(content, number) else {
+        return Ok(None);
+    };
+    let Some(numbers) = numbers(alloc, frame.slots.as_slice())? else {
+        return Ok(None);
+    };
+    let task = Task {
+        place: frame.place,
+        thread: frame.thread,
+        numbers,
+    };
+    let opened = Record {
+        grant,
+        holder: thief,
+        frame: frame.number,
+        task: task.clone()?,
+        returns: frame.returns,
+    };
+    let mut after = content;
+    after.records.open(opened)?;
+    Ok(Some(GivenAway { after, task }))
+}
+
+/// Takes the outcome of a grant: its record is closed, a value goes where it is awaited, and too deep is the outcome of the
+/// whole. None where there is no record of the grant; refused for want of memory alone.
+pub fn close(
+    alloc: Global,
+    content: Content,
+    grant: GrantId,
+    outcome: Outcome,
+) -> Result<Option<Change>, AllocError>
+    requires sound { IsSound content }
+    ensures change { IfOk result (λ o. o ≡ closed_in outcome content (record_in grant content.records)) }
+    ensures sound { IfOk result (λ o. IfSome o (λ change. IsSound change.after)) }
+{
+    let Some(LeftRecord { taken, content }) = take_record(content, grant) else {
+        return Ok(None);
+    };
+    match outcome {
+        Outcome::Value(value) => Ok(Some(arrive(alloc, content, taken.returns, value)?)),
+        Outcome::TooDeep => Ok(Some(end(alloc, content, Outcome::TooDeep))),
+    }
+}
+
+/// Closes a record without an outcome, so that its frame is done again: the frame is there under its old number, and ready.
+/// None where there is no record of the grant; refused for want of memory alone.
+pub fn redo(
+    alloc: Global,
+    content: Content,
+    grant: GrantId,
+) -> Result<Option<DoneAgain>, AllocError>
+    requires sound { IsSound content }
+    ensures again { IfOk result (λ o. o ≡ done_again content (record_in grant content.records)) }
+    ensures sound { IfOk result (λ o. IfSome o (λ a. IsSound a.after)) }
+{
+    let Some(LeftRecord { taken, content }) = take_record(content, grant) else {
+        return Ok(None);
+    };
+    let frame = stolen_frame(alloc, taken)?;
+    let ready = Readied {
+        frame: frame.number,
+        level: frame.place.level(),
+    };
+    let mut after = content;
+    after.frames.insert(frame)?;
+    Ok(Some(DoneAgain { after, ready }))
+}
+
+/// The frame that a record stands for.
+fn stolen_frame(alloc: Global, taken: Record) -> Result<Frame, AllocError>
+    ensures { IfOk result (λ f. f ≡ frame_of taken) }
+{
+    let Record {
+        frame: number,
+        task,
+        returns,
+        ..
+    } = taken;
+    let slots = all_given(alloc, task.numbers.as_slice())?;
+    Ok(Frame {
+        number,
+        place: task.place,
+        thread: task.thread,
+        slots,
+        returns,
+    })
+}
+
+/// The numbers in slots, if none is empty.
+fn numbers(alloc: Global, slots: &[Option<i64>]) -> Result<Option<Listed<i64>>, AllocError>
+    ensures { IfOk result (λ numbers. numbers ≡ numbers_in slots.now) }
+{
+    let mut all = Listed::with_capacity(alloc, slots.len())?;
+    for slot in slots {
+        match slot {
+            Some(number) => all.push(*number)?,
+            None => return Ok(None),
+        }
+    }
+    Ok(Some(all))
+}

@@ -1,0 +1,22 @@
+//! How the frames and records of a subcomputation change.
+#![tactic(auto)]
+
+mod arriving;
+mod change;
+mod content;
+mod executing;
+mod granting;
+mod joining;
+mod laws;
+mod leaving;
+#[cfg(test)]
+mod tests;
+
+pub use change::{Change, DoneAgain, Filling, GivenAway, Readied, SubError};
+pub use content::Content;
+pub use executing::{exec, is_stale};
+pub use granting::{close, grant_out, redo};
+pub use laws::{
+    contents_without_records_have_a_ready_frame, granted_contents_are_sound,
+    ready_frames_await_nothing, renaming_keeps_sound,
+};

@@ -1,0 +1,4 @@
+pub mod Subs
+pub mod Told
+pub mod Fitting
+pub mod Recovering

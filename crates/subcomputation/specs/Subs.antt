@@ -1,0 +1,63 @@
+-- The subcomputations that a node holds, by rising grant.
+use Rattle.std.specs.Prelude.{ℕ, Bool, List, Option, is_some, map}
+use Rattle.std.specs.List.{find}
+use Rattle.ids.specs.Names.{Grant}
+use Rattle.ids.specs.Named.{Name, item_in, put_in, without_in}
+use Rattle.ids.specs.Naming.{name_of_grant}
+use Rattle.ids.specs.declared.work.Task.{Task}
+use Rattle.victim_records.specs.Records.{record_in}
+use Rattle.sub_rules.specs.declared.change.Readied.{Readied}
+use Rattle.sub_rules.specs.declared.content.Content.{Content}
+use Rattle.sub_rules.specs.Content.{granted_content}
+use Rattle.sub_rules.specs.Changes.{readied_in}
+
+-- a subcomputation: the grant under which its task came, how often it had moved when it came here, and its content
+pub record SubOf : Type 0 where
+  pub grant : Grant
+  pub hop : ℕ
+  pub content : Content
+
+-- its name is its grant's
+abbrev pub name_of_sub : SubOf → Name
+name_of_sub s = name_of_grant s.grant
+
+-- the subcomputation of a grant
+abbrev pub sub_in : Grant → List SubOf → Option SubOf
+sub_in g subs = item_in name_of_sub (name_of_grant g) subs
+
+-- with a subcomputation in its place
+abbrev pub put_sub : SubOf → List SubOf → List SubOf
+put_sub s subs = put_in name_of_sub s subs
+
+-- without the subcomputation of a grant
+abbrev pub without_sub : Grant → List SubOf → List SubOf
+without_sub g subs = without_in name_of_sub (name_of_grant g) subs
+
+-- the same with another content
+abbrev pub with_content : SubOf → Content → SubOf
+with_content s c = record s { content = c }
+
+-- whether a subcomputation has an open record of a grant
+abbrev pub has_record : Grant → SubOf → Bool
+has_record g s = is_some (record_in g s.content.records)
+
+-- the subcomputation that has the open record of a grant
+abbrev pub host_in : Grant → List SubOf → Option SubOf
+host_in g subs = find (has_record g) subs
+
+-- the grants of subcomputations
+abbrev pub grants_of : List SubOf → List Grant
+grants_of subs = map (λ s. s.grant) subs
+
+-- the subcomputation that a granted task begins, for the host that granted it
+abbrev pub granted_sub : Grant → Task → SubOf
+granted_sub g task = record { grant = g; hop = 0; content = granted_content g.minter task }
+
+-- a ready frame, and the grant of its subcomputation
+pub record ReadyIn : Type 0 where
+  pub grant : Grant
+  pub frame : Readied
+
+-- the ready frames of a subcomputation, by rising number
+abbrev pub ready_frames : SubOf → List ReadyIn
+ready_frames s = map (λ r. record { grant = s.grant; frame = r }) (readied_in s.content.frames)

@@ -1,0 +1,254 @@
+ghost use Rattle.std.specs.Prelude.{◌≡◌, IfOk, Some, None, map};
+ghost use Rattle.victim_records.specs.Records.{record_in};
+ghost use Rattle.sub_rules.specs.Carrying.{exec};
+ghost use Rattle.sub_rules.specs.Changes.{closed_in, given_away, done_again, with_parent, with_thief};
+ghost use Rattle.sub_rules.specs.Content.{first_frame, ready_in};
+ghost use Rattle.sub_rules.specs.Debts.{IsSound};
+ghost use Rattle.subcomputation.specs.Subs.{granted_sub, name_of_sub, with_content};
+ghost use Rattle.subcomputation.specs.Told.{IsCarriedOut, changed, changed_by, given_by, again_by};
+
+use body_eval::Done;
+use frames::Frames;
+use ids::{
+    Actor, Frame, FrameNo, GrantId, Hop, Incarnation, Listed, Named, Outcome, Progress, Return,
+    Task,
+};
+use std::alloc::{AllocError, Global};
+use std::marker::Model;
+use sub_rules::{Change, Content, Filling, Readied, SubError};
+use victim_records::Records;
+
+/// A subcomputation: the grant under which its task came, how often it had moved when it came here, and its content, in
+/// which each number is used once and each value that is awaited has one debtor. Contracts see these three.
+#[derive(Drop)]
+pub struct Sub {
+    grant: GrantId,
+    hop: Hop,
+    content: Content,
+}
+
+impl Model for Sub {
+    ghost use Rattle.subcomputation.specs.Subs.{SubOf};
+    ghost use Rattle.sub_rules.specs.Debts.{IsSound};
+
+    ghost Value = { SubOf };
+
+    ghost view = { λ s. record { grant = s.grant; hop = s.hop; content = s.content } };
+
+    ghost invariant = { λ s. IsSound s.content };
+}
+
+/// A subcomputation's name is its grant's.
+impl Named for Sub {
+    ghost name_of = { name_of_sub };
+
+    fn name(&self) -> (u64, u64) {
+        (self.grant.minter().word(), self.grant.number())
+    }
+}
+
+/// What a change leads to: the subcomputation after it, the value that it put into a slot, the frames that became ready, in
+/// the order in which they are posted, and the records that were dropped, whose holders are told so.
+#[derive(Drop)]
+pub struct Changed {
+    pub after: Sub,
+    pub fill: Option<Filling>,
+    pub ready: Listed<Readied>,
+    pub dropped: Records,
+}
+
+/// A frame that was given away: the subcomputation after it, and the task that the thief gets.
+#[derive(Drop)]
+pub struct Given {
+    pub after: Sub,
+    pub task: Task,
+}
+
+/// A frame that is to be done again: the subcomputation after it, and the frame, which is ready.
+#[derive(Drop)]
+pub struct Again {
+    pub after: Sub,
+    pub ready: Readied,
+}
+
+impl Sub {
+    /// The subcomputation that a granted task begins: one frame, number 0, for the host that granted it; refused for want of
+    /// memory alone.
+    pub fn granted(alloc: Global, grant: GrantId, task: Task) -> Result<Sub, AllocError>
+        ensures { IfOk result (λ s. s ≡ granted_sub grant task) }
+    {
+        sub_rules::granted_contents_are_sound();
+        let mut frames = Frames::new(alloc);
+        frames.insert(first_frame(alloc, &task)?)?;
+        Ok(Sub {
+            grant,
+            hop: Hop::of(0),
+            content: Content {
+                parent: grant.minter(),
+                progress: Progress::Active,
+                task,
+                next: FrameNo::of(1),
+                frames,
+                records: Records::new(alloc),
+            },
+        })
+    }
+
+    /// The grant under which its task came.
+    pub fn grant(&self) -> GrantId
+        ensures { result ≡ self.now.grant }
+    {
+        self.grant
+    }
+
+    /// How often it had moved when it came here: 0 where it came by a Grant.
+    pub fn hop(&self) -> Hop
+        ensures { result ≡ self.now.hop }
+    {
+        self.hop
+    }
+
+    /// Its content.
+    pub fn content(&self) -> &Content
+        ensures same { result.now ≡ self.now.content }
+        ensures sound { IsSound self.now.content }
+    {
+        &self.content
+    }
+
+    /// Carries out the frame `number` by a turn that was evaluated, beside this subcomputation: it stays as it is, and the
+    /// one after the turn is answered. E40 exactly where the frame isn't ready with that thread and those numbers, E62
+    /// where the numbers of a join pass 2^32 - 1, E9 where there is no memory.
+    pub fn exec(&self, alloc: Global, number: FrameNo, done: &Done) -> Result<Changed, SubError>
+        ensures { IsCarriedOut self.now (exec done.now number self.now.content) result }
+    {
+        if sub_rules::is_stale(&self.content, number, done) {
+            return Err(SubError::Stale);
+        }
+        let change = sub_rules::exec(alloc, self.content.clone()?, number, done)?;
+        Ok(self.changed(change))
+    }
+
+    /// Takes the outcome of a grant, beside this subcomputation: its record is closed, a value goes where it is awaited, and
+    /// too deep is the outcome of the whole. None where there is no record of the grant; refused for want of memory alone.
+    pub fn take_result(
+        &self,
+        alloc: Global,
+        grant: GrantId,
+        outcome: Outcome,
+    ) -> Result<Option<Changed>, AllocError>
+        ensures { IfOk result (λ o. o ≡ changed_by self.now (closed_in outcome self.now.content (record_in grant self.now.content.records))) }
+    {
+        if self.content.records.get(grant).is_none() {
+            return Ok(None);
+        }
+        match sub_rules::close(alloc, self.content.clone()?, grant, outcome)? {
+            Some(change) => Ok(Some(self.changed(change))),
+            None => Ok(None),
+        }
+    }
+
+    /// Gives a ready frame away under a grant that no record has, beside this subcomputation: a record that the thief holds
+    /// stands in the frame's place. None where no frame is ready under that number; refused for want of memory alone.
+    pub fn grant_out(
+        &self,
+        alloc: Global,
+        number: FrameNo,
+        grant: GrantId,
+        thief: Incarnation,
+    ) -> Result<Option<Given>, AllocError>
+        requires { record_in grant self.now.content.records ≡ None }
+        ensures { IfOk result (λ o. o ≡ given_by self.now (given_away grant thief self.now.content (ready_in number self.now.content))) }
+    {
+        match sub_rules::grant_out(alloc, self.content.clone()?, number, grant, thief)? {
+            Some(given) => Ok(Some(Given {
+                after: self.with_content(given.after),
+                task: given.task,
+            })),
+            None => Ok(None),
+        }
+    }
+
+    /// Closes a record without an outcome, beside this subcomputation: its frame is ready again, under its old number. None
+    /// where there is no record of the grant; refused for want of memory alone.
+    pub fn redo(&self, alloc: Global, grant: GrantId) -> Result<Option<Again>, AllocError>
+        ensures { IfOk result (λ o. o ≡ again_by self.now (done_again self.now.content (record_in grant self.now.content.records))) }
+    {
+        if self.content.records.get(grant).is_none() {
+            return Ok(None);
+        }
+        match sub_rules::redo(alloc, self.content.clone()?, grant)? {
+            Some(again) => Ok(Some(Again {
+                after: self.with_content(again.after),
+                ready: again.ready,
+            })),
+            None => Ok(None),
+        }
+    }
+
+    /// Another host waits for the outcome. Takes no memory.
+    pub fn set_parent(&mut self, host: Actor)
+        ensures { self.new ≡ with_content self.old (with_parent host self.old.content) }
+    {
+        sub_rules::renaming_keeps_sound();
+        self.content.parent = host;
+    }
+
+    /// Another worker holds the frame that a grant gave away. Takes no memory.
+    pub fn rename_holder(&mut self, grant: GrantId, holder: Incarnation)
+        ensures { self.new ≡ with_content self.old (with_thief grant holder self.old.content) }
+    {
+        sub_rules::renaming_keeps_sound();
+        self.content.records.stand_in_order();
+        self.content.records.rename_holder(grant, holder);
+    }
+
+    /// This subcomputation with another content.
+    fn with_content(&self, content: Content) -> Sub
+        requires { IsSound content }
+        ensures { result ≡ with_content self.now content }
+    {
+        Sub {
+            grant: self.grant,
+            hop: self.hop,
+            content,
+        }
+    }
+
+    /// A change of the content, as one of this subcomputation.
+    fn changed(&self, change: Change) -> Changed
+        requires { IsSound change.after }
+        ensures { result ≡ changed self.now change }
+    {
+        Changed {
+            after: self.with_content(change.after),
+            fill: change.fill,
+            ready: change.ready,
+            dropped: change.dropped,
+        }
+    }
+}
+
+/// The frame in which a task begins.
+fn first_frame(alloc: Global, task: &Task) -> Result<Frame, AllocError>
+    ensures { IfOk result (λ f. f ≡ first_frame task.now) }
+{
+    Ok(Frame {
+        number: FrameNo::of(0),
+        place: task.place.clone()?,
+        thread: task.thread,
+        slots: all_given(alloc, task.numbers.as_slice())?,
+        returns: Return::Whole,
+    })
+}
+
+/// Slots that all hold a number.
+fn all_given(alloc: Global, numbers: &[i64]) -> Result<Listed<Option<i64>>, AllocError>
+    ensures { IfOk result (λ slots. slots ≡ map Some numbers.now) }
+{
+    let mut slots = Listed::with_capacity(alloc, numbers.len())?;
+    for number in numbers {
+        slots.push(Some(*number))?;
+    }
+    Ok(slots)
+}
