@@ -7,8 +7,8 @@ use Rattle.kind_check.specs.declared.checked.KindError.{KindError}
 use Rattle.kind_check.specs.declared.checked.KindError.TheVariants as check
 use Rattle.kind_check.specs.Refused as kinds
 use Rattle.serial_meaning.specs.Errors.{number_of_job_error}
-use Rattle.cilknow.specs.declared.fault.RunFault.{RunFault}
-use Rattle.cilknow.specs.declared.fault.RunFault.TheVariants as run
+use Rattle.one_node.specs.declared.fault.RunFault.{RunFault}
+use Rattle.one_node.specs.declared.fault.RunFault.TheVariants as run
 use Rattle.cilknow.specs.declared.fault.SoloFault.{SoloFault}
 use Rattle.cilknow.specs.declared.fault.SoloFault.TheVariants as solo
 
@@ -29,6 +29,7 @@ of_kinds check.Memory = solo.Memory
 -- a run without outcome
 abbrev pub of_run : RunFault → SoloFault
 of_run run.TurnsSpent = solo.TurnsSpent
+of_run run.NumbersSpent = solo.NumbersSpent
 of_run run.Memory = solo.Memory
 
 -- the number of a fault
@@ -37,4 +38,5 @@ number_of_fault (solo.Parse e) = texts.number_of_error e
 number_of_fault (solo.Kind e) = kinds.number_of_error e
 number_of_fault (solo.Input e) = number_of_job_error e
 number_of_fault solo.TurnsSpent = 95
+number_of_fault solo.NumbersSpent = 62
 number_of_fault solo.Memory = 9

@@ -11,6 +11,7 @@ status_of_run (solo.Parse e) = 1
 status_of_run (solo.Kind e) = 1
 status_of_run (solo.Input e) = 1
 status_of_run solo.TurnsSpent = 3
+status_of_run solo.NumbersSpent = 3
 status_of_run solo.Memory = 3
 
 -- words that ask for nothing that is there are 2, and a file that can't be read or written is 4

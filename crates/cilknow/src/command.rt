@@ -42,7 +42,7 @@ impl CommandFault {
         ensures { result ≡ status_of self }
     {
         match self {
-            CommandFault::Run(SoloFault::Memory | SoloFault::TurnsSpent)
+            CommandFault::Run(SoloFault::Memory | SoloFault::TurnsSpent | SoloFault::NumbersSpent)
             | CommandFault::TurnsSpent => 3,
             CommandFault::Run(SoloFault::Parse(_) | SoloFault::Kind(_) | SoloFault::Input(_)) => 1,
             CommandFault::Usage => 2,

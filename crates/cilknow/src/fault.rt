@@ -2,10 +2,9 @@ ghost use Rattle.std.specs.Prelude.{◌≡◌};
 ghost use Rattle.cilknow.specs.Faults.{number_of_fault, of_kinds, of_run, of_text};
 ghost use Rattle.cilknow.specs.declared.fault.SoloFault.TheVariants as solo;
 
-use ids::PlaceError;
 use kind_check::KindError;
+use one_node::RunFault;
 use serial_meaning::JobError;
-use std::alloc::{AllocError, AllocFailed};
 use task_syntax::ParseError;
 use thiserror::Error;
 
@@ -24,6 +23,9 @@ pub enum SoloFault {
     /// E95: more turns would be needed.
     #[error("E{number}", number = self.number())]
     TurnsSpent,
+    /// E62: no frame numbers are left.
+    #[error("E{number}", number = self.number())]
+    NumbersSpent,
     /// E9: there is no memory.
     #[error("E{number}", number = self.number())]
     Memory,
@@ -39,18 +41,10 @@ impl SoloFault {
             SoloFault::Kind(e) => e.number(),
             SoloFault::Input(e) => e.number(),
             SoloFault::TurnsSpent => 95,
+            SoloFault::NumbersSpent => 62,
             SoloFault::Memory => 9,
         }
     }
-}
-
-/// Why a run ends without its outcome.
-#[derive(Clone, Copy, Debug, PartialEq, Eq)]
-pub enum RunFault {
-    /// E95: more turns would be needed.
-    TurnsSpent,
-    /// E9: there is no memory.
-    Memory,
 }
 
 impl From<ParseError> for SoloFault {
@@ -89,26 +83,8 @@ impl From<RunFault> for SoloFault {
     fn from(e: RunFault) -> SoloFault {
         match e {
             RunFault::TurnsSpent => SoloFault::TurnsSpent,
+            RunFault::NumbersSpent => SoloFault::NumbersSpent,
             RunFault::Memory => SoloFault::Memory,
         }
-    }
-}
-
-impl From<AllocError> for RunFault {
-    fn from(_e: AllocError) -> RunFault {
-        RunFault::Memory
-    }
-}
-
-impl<T: Drop> From<AllocFailed<T>> for RunFault {
-    fn from(_e: AllocFailed<T>) -> RunFault {
-        RunFault::Memory
-    }
-}
-
-/// Only for want of memory: the kids of a task whose successor has a place have places too.
-impl From<PlaceError> for RunFault {
-    fn from(_e: PlaceError) -> RunFault {
-        RunFault::Memory
     }
 }

@@ -2,10 +2,7 @@
 #![tactic(auto)]
 
 mod command;
-mod evaluate;
 mod fault;
-mod frames;
-mod ready;
 mod solo;
 #[cfg(test)]
 mod tests;

@@ -1,17 +1,17 @@
 ghost use Rattle.std.specs.Prelude.{IfErr, IfOk};
 ghost use Rattle.cilknow.specs.Outcome.{IsOutcomeOf, IsRefusalOf};
 
-use crate::evaluate::evaluate;
 use crate::fault::SoloFault;
 use kind_check::check;
+use one_node::evaluate;
 use serial_meaning::{Job, Outcome};
 use std::alloc::Global;
 use task_syntax::parse;
 
 /// The outcome of a program's text on an input, run on one node and one thread: of the ready frames the newest of the
 /// greatest level runs, and each body is one turn. The refusals come in this order: the text (E2 to E6), its kinds (E10 to
-/// E18), the count of inputs (E21), and then E95 where the run would take more than `turns` turns. E9 comes for want of
-/// memory.
+/// E18), the count of inputs (E21), and then E95 where the run takes more than `turns` turns, and E62 where one of these needs
+/// a frame number above 2^32 - 1. E9 comes for want of memory.
 pub fn solo(
     alloc: Global,
     text: &[u8],
@@ -20,7 +20,7 @@ pub fn solo(
     turns: u64,
 ) -> Result<Outcome, SoloFault>
     ensures outcome { IfOk result (IsOutcomeOf text.now input.items) }
-    ensures refused { IfErr result (IsRefusalOf text.now input.items) }
+    ensures refused { IfErr result (IsRefusalOf text.now input.items turns) }
 {
     let program = parse(alloc, text)?;
     let checked = check(alloc, program)?;

@@ -1,5 +1,5 @@
 -- The table of packets: the fields of each kind, and the packet.
-use Rattle.std.specs.Prelude.{◌≡◌, ◌^◌, ◌≤◌, ◌<◌, ◌&&◌, ◌||◌, ℕ, zero, suc, Bool, nat_eq, nat_lt, if◌then◌else◌, List, [], length, Result, Ok, Err}
+use Rattle.std.specs.Prelude.{◌≡◌, ◌^◌, ◌≤◌, ◌<◌, ◌&&◌, ◌||◌, ℕ, zero, suc, Bool, true, false, nat_eq, nat_lt, if◌then◌else◌, List, [], length, Result, Ok, Err}
 use Rattle.ids.specs.Names.{is_actor, is_worker}
 use Rattle.packet_fields.specs.declared.fault.Fault.{Fault}
 use Rattle.packet_fields.specs.declared.fault.Fault.TheVariants as fault
@@ -162,6 +162,12 @@ fits_body (body.OfferAck b) = offer_ack.fits b
 fits_body (body.Leave b) = leave.fits b
 fits_body (body.Abort b) = abort.fits b
 fits_body (body.Beat b) = beat.fits b
+
+-- whether the body is neither a roster nor an offer: no packet that says it is too big
+abbrev pub is_short : Body → Bool
+is_short (body.Roster b) = false
+is_short (body.Offer b) = false
+is_short other = true
 
 -- reading the fields of one kind
 abbrev pub reads : {X : Type 0} → Format X → (X → Body) → List ℕ → Result (Body × List ℕ) Fault

@@ -76,3 +76,16 @@ pub fn encode(alloc: Global, packet: &Packet) -> Result<Vec<u8>, EncodeError>
     }
     Ok(out)
 }
+
+/// The one spelling of a packet that is neither a roster nor an offer: it has at most 1,136 bytes, so it is never too big.
+/// Refused for want of memory alone.
+pub fn encode_short(alloc: Global, packet: &Packet) -> Result<Vec<u8>, AllocError>
+    requires { IsTrue (table.is_short packet.now.body) }
+    ensures written { IfOk result (λ v. v.items ≡ table.packet.write packet.now) }
+    // What is written is the packet's spelling.
+    ensures spelled { IfOk result (λ v. Spells v.items packet.now) }
+{
+    let mut bytes = Vec::with_capacity(alloc, room_for(packet.body()))?;
+    put(packet, &mut bytes)?;
+    Ok(bytes)
+}

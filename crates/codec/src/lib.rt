@@ -14,7 +14,7 @@ pub use body::{
     TaskResult,
 };
 pub use decoding::decode;
-pub use encoding::{EncodeError, encode};
+pub use encoding::{EncodeError, encode, encode_short};
 pub use laws::one_to_one;
 pub use packet::Packet;
 pub use packet_fields::{Fault, ReadError};

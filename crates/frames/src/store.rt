@@ -5,6 +5,7 @@ ghost use Rattle.frames.specs.Frames.{frame_in, put_frame, without_frame, missin
 
 use ids::{Change, Frame, FrameNo, Store};
 use std::alloc::{AllocError, Global};
+use std::collections::btree_map::Values;
 use std::marker::Model;
 
 /// Whether a frame still waits after a fill, or is ready, at the level of its place.
@@ -44,6 +45,13 @@ impl Frames {
         ensures { result ≡ length self.now }
     {
         self.frames.len()
+    }
+
+    /// The frames, by rising number.
+    pub fn values(&self) -> Values<'_, (u64, u64), Frame>
+        ensures { result ≡ self.now }
+    {
+        self.frames.values()
     }
 
     /// The frames stand by rising number, each number once. Does nothing.

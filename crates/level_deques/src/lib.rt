@@ -5,4 +5,4 @@ mod posts;
 #[cfg(test)]
 mod tests;
 
-pub use posts::{Post, Posts};
+pub use posts::{Post, PostTest, Posts};

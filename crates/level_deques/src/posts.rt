@@ -1,6 +1,7 @@
 ghost use Rattle.std.specs.Prelude.{◌≡◌, OnOk, OnErr, length, slice_get, []};
 ghost use Rattle.level_deques.specs.Posts.{shallowest, deepest, is_post_of, withdrawn, taken, pick, goes_above, goes_below, posted, by_depth};
 ghost use Rattle.level_deques.specs.Levels.{IsByLevel};
+ghost use Rattle.std.specs.List.{filter};
 
 use ids::{FrameNo, GrantId};
 use std::alloc::{AllocError, Global};
@@ -12,6 +13,18 @@ pub struct Post {
     pub level: u16,
     pub grant: GrantId,
     pub frame: FrameNo,
+}
+
+/// A test of posts.
+pub trait PostTest {
+    ghost use Rattle.std.specs.Prelude.{Bool};
+    ghost use Rattle.level_deques.specs.declared.posts.Post.{Post};
+
+    ghost stays: { Self → Post → Bool };
+
+    /// Whether a post stays; takes no memory.
+    fn stays(&self, post: &Post) -> bool
+        ensures { result ≡ stays self.now post.now };
 }
 
 /// The ready frames of a node. Contracts see for each level, from the least on, its posts, the newest last: one list of
@@ -108,11 +121,28 @@ impl Posts {
         Some(post)
     }
 
+    /// Takes the posts away that don't stay by a test. Takes no memory.
+    pub fn retain<S: PostTest>(&mut self, test: &S)
+        ensures { self.new ≡ filter (S.stays test.now) self.old }
+    {
+        retain(&mut self.posts, test);
+    }
+
     /// Takes the posts of a frame away. Takes no memory.
     pub fn withdraw(&mut self, grant: GrantId, frame: FrameNo)
         ensures { self.new ≡ withdrawn grant frame self.old }
     {
         withdraw(&mut self.posts, grant, frame);
+    }
+}
+
+impl Clone for Posts {
+    ghost is_clone = { λ source copy. copy ≡ source };
+
+    fn clone(&self) -> Result<Posts, AllocError> {
+        Ok(Posts {
+            posts: self.posts.clone()?,
+        })
     }
 }
 
@@ -171,6 +201,13 @@ fn shallower(best: Option<Post>, newer: Post) -> Post
         Some(post) if post.level < newer.level => post,
         _ => newer,
     }
+}
+
+/// Takes the posts away that don't stay by a test.
+fn retain<S: PostTest>(posts: &mut Vec<Post>, test: &S)
+    ensures { posts.new.items ≡ filter (S.stays test.now) posts.old.items }
+{
+    posts.retain(|post| test.stays(post));
 }
 
 /// Takes the posts of a frame away.

@@ -1,4 +1,4 @@
-use crate::{Post, Posts};
+use crate::{Post, PostTest, Posts};
 use ids::{Actor, FrameNo, GrantId};
 use std::test::Fail;
 
@@ -64,5 +64,35 @@ fn thousands_of_posts_are_taken(rt: HostRuntime) -> Result<(), Fail> {
         assert!(rt; posts.take_shallowest().is_some() && posts.take_deepest().is_some());
     }
     assert_eq!(rt; posts.len(), 0);
+    Ok(())
+}
+
+/// Keeps the posts from a level on.
+#[derive(Drop)]
+struct FromLevel(u16);
+
+impl PostTest for FromLevel {
+    ghost use Rattle.std.specs.Prelude.{nat_lt, not};
+
+    ghost stays = { λ test post. not (nat_lt post.level test.field-0) };
+
+    fn stays(&self, post: &Post) -> bool {
+        post.level >= self.0
+    }
+}
+
+#[test]
+fn a_test_keeps_posts(rt: HostRuntime) -> Result<(), Fail> {
+    let mut posts = Posts::new(rt.alloc());
+    for level in 0..4u16 {
+        posts.post(post(level, 1, 7)?)?;
+    }
+    let copy = posts.clone()?;
+    posts.retain(&FromLevel(2));
+    assert_eq!(rt; (copy.len(), posts.len()), (4, 2));
+    assert_eq!(rt;
+        (posts.shallowest(), copy.shallowest()),
+        (Some(post(2, 1, 7)?), Some(post(0, 1, 7)?))
+    );
     Ok(())
 }

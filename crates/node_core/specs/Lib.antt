@@ -4,3 +4,6 @@ pub mod Moves
 pub mod Cases
 pub mod Calls
 pub mod Choosing
+pub mod Meeting
+pub mod Staying
+pub mod Views

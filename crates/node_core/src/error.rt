@@ -2,6 +2,8 @@ ghost use Rattle.std.specs.Prelude.{◌≡◌};
 
 use packet_fields::Fault;
 use std::alloc::AllocError;
+use steal_protocol::AskError;
+use sub_rules::SubError;
 use thiserror::Error;
 
 /// Why a call of a node is refused. It changes nothing then.
@@ -68,5 +70,32 @@ impl From<AllocError> for NodeError {
 
     fn from(_refused: AllocError) -> NodeError {
         NodeError::Memory
+    }
+}
+
+impl From<SubError> for NodeError {
+    ghost use Rattle.node_core.specs.Errors.{of_change};
+
+    ghost from_gives = { λ s e. e ≡ of_change s };
+
+    fn from(refused: SubError) -> NodeError {
+        match refused {
+            SubError::Stale => NodeError::Stale,
+            SubError::Spent => NodeError::Spent,
+            SubError::Memory => NodeError::Memory,
+        }
+    }
+}
+
+impl From<AskError> for NodeError {
+    ghost use Rattle.node_core.specs.Errors.{of_request};
+
+    ghost from_gives = { λ a e. e ≡ of_request a };
+
+    fn from(refused: AskError) -> NodeError {
+        match refused {
+            AskError::Busy => NodeError::Busy,
+            AskError::Spent => NodeError::Spent,
+        }
     }
 }

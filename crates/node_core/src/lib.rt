@@ -1,8 +1,18 @@
 //! A node: what each packet and each call does at it.
 #![tactic(auto)]
 
+mod calls;
+mod changes;
 mod error;
+mod grants;
+mod node;
 mod parts;
+mod requests;
+mod rosters;
+mod sending;
+mod views;
 
 pub use error::NodeError;
-pub use parts::{Fill, Victim};
+pub use node::Node;
+pub use parts::{Fill, Step, Victim};
+pub use views::{SubView, Work};

@@ -1,4 +1,4 @@
-use ids::{FrameNo, GrantId, Incarnation, Place};
+use ids::{FrameNo, GrantId, Incarnation, Listed, Place};
 
 /// Whom a node asks for work: a worker, or the clearinghouse of its epoch.
 #[derive(Clone, Copy, PartialEq, Eq, Debug)]
@@ -16,4 +16,13 @@ pub struct Fill {
     pub slot: u8,
     pub place: Place,
     pub value: i64,
+}
+
+/// What a call did: the packets that it sends, as bytes, and the values that it put into slots, in their order, and whether
+/// it ignored a packet, which changes nothing.
+#[derive(Drop)]
+pub struct Step {
+    pub sent: Listed<Listed<u8>>,
+    pub fills: Listed<Fill>,
+    pub ignored: bool,
 }

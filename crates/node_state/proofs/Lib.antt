@@ -1,0 +1,3 @@
+pub mod Posting
+pub mod Kept
+pub mod Keeping

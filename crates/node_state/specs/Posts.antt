@@ -18,12 +18,16 @@ pub record ReadyFrame : Type 0 where
   pub sub : SubOf
   pub ready : Ready
 
--- the ready frame of a grant's subcomputation, where that isn't frozen
-abbrev pub ready_at : NodeOf → Grant → ℕ → Option ReadyFrame
-ready_at n g f = do
-  s ← sub_in g (live_subs n)
+-- the ready frame of a subcomputation that may be there
+abbrev pub ready_of_sub : ℕ → Option SubOf → Option ReadyFrame
+ready_of_sub f sub = do
+  s ← sub
   r ← ready_in f s.content
   Some (record { sub = s; ready = r })
+
+-- the ready frame of a grant's subcomputation, where that isn't frozen
+abbrev pub ready_at : NodeOf → Grant → ℕ → Option ReadyFrame
+ready_at n g f = ready_of_sub f (sub_in g (live_subs n))
 
 -- the post of a ready frame
 abbrev pub post_of : ReadyIn → Post

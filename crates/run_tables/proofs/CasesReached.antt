@@ -6,7 +6,7 @@ use Rattle.run_tables.specs.View.{View, first}
 use Rattle.run_tables.specs.Facts.{Cont, held, sent, ack_of}
 use Rattle.run_tables.specs.Moves.{ask, close_root}
 use Rattle.run_tables.specs.Guards.{MayAsk}
-use Rattle.run_tables.specs.Acts.{Act, starts, admits, adopts, fails, goes, mourns, opens, grants_root, closes_root, publishes, closes, asks, refuses, grants, takes_grant, hears_refuse, gives_up, freezes, takes_offer, acknowledges, releases, leaves, alters, drops, renames, settles, settles_at_house, Reached, at_first, by_act}
+use Rattle.run_tables.specs.Acts.{Act, starts, admits, adopts, fails, goes, mourns, opens, grants_root, closes_root, commits, publishes, closes, asks, refuses, grants, takes_grant, hears_refuse, gives_up, freezes, takes_offer, acknowledges, releases, leaves, alters, drops, renames, settles, settles_at_house, Reached, at_first, by_act}
 use Rattle.run_tables.specs.Names.{Names}
 use Rattle.run_tables.specs.Homes.{Homes}
 use Rattle.run_tables.specs.Leavers.{Leavers}
@@ -55,13 +55,14 @@ cases_kept {v} (fails i may) b c = cases_fail v i b.names c
 cases_kept {v} (goes i said) b c = cases_go v i said b.leavers b.requests c
 cases_kept {v} (mourns i used worker lost) b c = cases_mourn v i c
 cases_kept {v} (opens i lost roster may) b c = cases_open v i lost roster may b.names b.requests c
-cases_kept {v} (grants_root i thief seq d house none may begins) b c = cases_root v i thief seq d house may (b.rooted.house_up i house) begins b.names b.requests c
+cases_kept {v} (grants_root i thief seq d house new may begins) b c = cases_root v i thief seq d house may (b.rooted.house_up i house) begins b.names b.requests c
 cases_kept {v} (closes_root k is) b c = cases_close_root v k c
+cases_kept {v} (commits i k o may) b c = let closed = cases_close_root v k c in assumption closed
 cases_kept (publishes house roster may) b c = assumption c
 cases_kept {v} (closes i house) b c = let closed = cases_close v i house b.requests c in assumption closed
 cases_kept {v} (asks i victim may) b c = cases_ask v i victim may c
 cases_kept (refuses i thief seq works may) b c = assumption c
-cases_kept {v} (grants i g s m thief seq d here may begins) b c = cases_grant v i g s m thief seq d here may begins b.names b.requests c
+cases_kept {v} (grants i g s m thief seq d here may begins frame) b c = cases_grant v i g s m thief seq d here may begins b.names b.requests c
 cases_kept {v} (takes_grant i t may hop asked) b c =
     cases_take v i t None [] may (record { grant = λ e. asked; offer = λ h e. absurd (omega (arith, hop, e)) }) (λ h e. absurd (omega (arith, hop, e))) b.names b.requests c
 cases_kept {v} (hears_refuse i x refused thief asked) b c = cases_refused v i x refused thief asked b.requests c

@@ -1,5 +1,5 @@
 -- The run goes on: the first worker departs, the second takes over what it held, and the house shows the first as left.
-use Rattle.std.proofs.Common.{◌≡◌, ℕ, true, nat_eq, if◌then◌else◌, [], ◌∷◌, Some, None, refl, inl, inr, ⊎_elim, arith, ap, ◌∙◌}
+use Rattle.std.proofs.Common.{◌⊎◌, ◌<◌, ◌≡◌, ℕ, true, nat_eq, if◌then◌else◌, [], ◌∷◌, Some, None, refl, inl, inr, ⊎_elim, arith, ap, ◌∙◌}
 use Rattle.ids.specs.Names.{Grant}
 use Rattle.run_tables.specs.Tables.{◌∈◌}
 use Rattle.run_tables.specs.View.{Transfer, Unlisted, Live as Listed, Left, Roster, Sub, Reply, View}
@@ -8,7 +8,8 @@ use Rattle.run_tables.specs.Moves.{freeze, take, remove, leave, stop, publish}
 use Rattle.run_tables.specs.Guards.{IsOffer, MayFreeze, Free, taken, ShowsLeft, now}
 use Rattle.run_tables.specs.Acts.{Reached, by_act, freezes, takes_offer, releases, leaves, goes, publishes}
 use Rattle.run_tables.proofs.Lists.{same_or, grant_or, some_same}
-use Rattle.run_tables.proofs.Sample.{both_members, both, second_name, root, returned, kids_grant, filled_view, filled_reached}
+use Rattle.run_tables.proofs.Sample.{both_members, both, second_name, root, kids_grant}
+use Rattle.run_tables.proofs.SampleEnd.{returned, filled_view, filled_reached}
 
 abbrev held : Sub
 held = record { hop = 0; content = returned }
@@ -68,7 +69,7 @@ gone_reached = by_act (by_act released_reached
 
 -- the house's next roster
 abbrev pub shown : Roster
-shown = record { epoch = 1; version = 2; status = λ i. if nat_eq i 1 then Left 2 else (if nat_eq i 2 then Listed else Unlisted) }
+shown = record { epoch = 1; version = 2; left = 1; status = λ i. if nat_eq i 1 then Left 2 else (if nat_eq i 2 then Listed else Unlisted) }
 
 shown_members : (i : ℕ) → (shown.status i ≡ Unlisted → ⊥) → (i ∈ gone.used) × (of_worker i ≡ true)
 shown_members i e = both_members i (λ f. e (grind (arith, f)))
@@ -82,12 +83,18 @@ why_left i h e = ⊎_elim
     (λ other. absurd (grind (arith, e, other)))
     (same_or i 1)
 
+heir_lives : (i h : ℕ) → shown.status i ≡ Left h → (both.status i ≡ Left h) ⊎ ((shown.status h ≡ Listed) × (0 < 1))
+heir_lives i h e = ⊎_elim
+    (λ (is : i ≡ 1). let at : Left 2 ≡ Left h = rw is at e in let heir : 2 ≡ h = cc in inr (rw (← heir) refl, omega arith))
+    (λ other. absurd (grind (arith, e, other)))
+    (same_or i 1)
+
 abbrev pub left_view : View
 left_view = publish gone shown
 
 pub left_reached : Reached left_view
 left_reached = by_act gone_reached
-    (publishes both shown (record { open_house = refl; epoch = refl; newer = omega arith; grows = record { listed = λ i e. grind (arith, e); dead = λ i e. grind (arith, e); left = λ i h e. grind (arith, e) }; members = shown_members; left = why_left }))
+    (publishes both shown (record { open_house = refl; epoch = refl; newer = omega arith; grows = record { listed = λ i e. grind (arith, e); dead = λ i e. grind (arith, e); left = λ i h e. grind (arith, e) }; members = shown_members; left = why_left; heir_lives = heir_lives; left_most = omega arith }))
 
 -- the heir holds the sub, which came by its Offer
 abbrev pub heirs_sub : Sub

@@ -7,7 +7,7 @@ use Rattle.run_tables.specs.View.{Transfer, Ack, Result, Sub, Request, Mode, Joi
 use Rattle.run_tables.specs.Facts.{Live, Head, live_at, ack_of, grant_of}
 use Rattle.run_tables.specs.Moves.{start, admit, stop, mint, take, freeze, remove, alter, grant_frame}
 use Rattle.run_tables.specs.Guards.{MayAnswer, Begins, MayTake, MayFreeze}
-use Rattle.run_tables.specs.Acts.{Act, starts, admits, adopts, fails, goes, mourns, opens, grants_root, closes_root, publishes, closes, asks, refuses, grants, takes_grant, hears_refuse, gives_up, freezes, takes_offer, acknowledges, releases, leaves, alters, drops, renames, settles, settles_at_house, Reached, at_first, by_act}
+use Rattle.run_tables.specs.Acts.{Act, starts, admits, adopts, fails, goes, mourns, opens, grants_root, closes_root, commits, publishes, closes, asks, refuses, grants, takes_grant, hears_refuse, gives_up, freezes, takes_offer, acknowledges, releases, leaves, alters, drops, renames, settles, settles_at_house, Reached, at_first, by_act}
 use Rattle.run_tables.specs.Names.{Names}
 use Rattle.run_tables.specs.Fills.{SameSlot, Once, Fills}
 use Rattle.run_tables.proofs.Lists.{Within, same, later, either, spot_or}
@@ -64,7 +64,7 @@ fills_mint v i thief seq c works begins n f = record {
   once = f.once;
 }
 
-filled_or : (new : Option Fill) (old : List Fill) (x : Fill) → x ∈ filled new old → (new ≡ Some x) ⊎ (x ∈ old)
+pub filled_or : (new : Option Fill) (old : List Fill) (x : Fill) → x ∈ filled new old → (new ≡ Some x) ⊎ (x ∈ old)
 filled_or None old x m = inr m
 filled_or (Some y) old x (inl e) = inl (rw e refl)
 filled_or (Some y) old x (inr m) = inr m
@@ -129,13 +129,14 @@ fills_act {v} (fails i may) n after f = let stopped = fills_stop v i f in assump
 fills_act {v} (goes i said) n after f = fills_stop v i f
 fills_act (mourns i used worker lost) n after f = assumption f
 fills_act {v} (opens i lost roster may) n after f = let opened = fills_new v i House may.new n f in assumption opened
-fills_act {v} (grants_root i thief seq c house none may begins) n after f = let minted = fills_mint v i thief seq c (rw house tt) begins n f in assumption minted
+fills_act {v} (grants_root i thief seq c house new may begins) n after f = let minted = fills_mint v i thief seq c (rw house tt) begins n f in assumption minted
 fills_act (closes_root k is) n after f = assumption f
+fills_act (commits i k o may) n after f = assumption f
 fills_act (publishes house roster may) n after f = assumption f
 fills_act {v} (closes i house) n after f = let stopped = fills_stop v i f in assumption stopped
 fills_act (asks i victim may) n after f = assumption f
 fills_act (refuses i thief seq works may) n after f = assumption f
-fills_act {v} (grants i g s m thief seq c here may begins) n after f = fills_grant v i g s m thief seq c here may begins n after f
+fills_act {v} (grants i g s m thief seq c here may begins frame) n after f = fills_grant v i g s m thief seq c here may begins n after f
 fills_act {v} (takes_grant i t may hop asked) n after f = fills_take v i t None [] may f
 fills_act (hears_refuse i x refused thief asked) n after f = assumption f
 fills_act (gives_up i why) n after f = assumption f

@@ -7,7 +7,7 @@ use Rattle.run_tables.specs.View.{Transfer, Result, Leave, Left, Roster, Sub, Mo
 use Rattle.run_tables.specs.Facts.{of_worker, Live, Cont, held, sent, Host, by_content, by_result, Resolves, stays, follows, ack_of, grant_of}
 use Rattle.run_tables.specs.Moves.{start, mint, take, freeze, remove, alter, leave, publish, grant_frame}
 use Rattle.run_tables.specs.Guards.{Begins, MayFreeze, MayLeave, MayPublish, ShowsLeft, before, now}
-use Rattle.run_tables.specs.Acts.{Act, starts, admits, adopts, fails, goes, mourns, opens, grants_root, closes_root, publishes, closes, asks, refuses, grants, takes_grant, hears_refuse, gives_up, freezes, takes_offer, acknowledges, releases, leaves, alters, drops, renames, settles, settles_at_house, Reached, at_first, by_act}
+use Rattle.run_tables.specs.Acts.{Act, starts, admits, adopts, fails, goes, mourns, opens, grants_root, closes_root, commits, publishes, closes, asks, refuses, grants, takes_grant, hears_refuse, gives_up, freezes, takes_offer, acknowledges, releases, leaves, alters, drops, renames, settles, settles_at_house, Reached, at_first, by_act}
 use Rattle.run_tables.specs.Homes.{Homes}
 use Rattle.run_tables.proofs.Lists.{Within, same, either, same_or}
 use Rattle.run_tables.proofs.NamesReached.{regranted}
@@ -168,13 +168,14 @@ homes_kept {v} (fails i may) h = let stopped = homes_stop v i h in assumption st
 homes_kept {v} (goes i said) h = homes_stop v i h
 homes_kept (mourns i used worker lost) h = assumption h
 homes_kept {v} (opens i lost roster may) h = let opened = homes_new v i House (λ e. may.house) (λ e. absurd (e refl)) (λ heir e. cc) h in assumption opened
-homes_kept {v} (grants_root i thief seq c house none may begins) h = let minted = homes_mint v i thief seq c begins h in assumption minted
+homes_kept {v} (grants_root i thief seq c house new may begins) h = let minted = homes_mint v i thief seq c begins h in assumption minted
 homes_kept (closes_root k is) h = assumption h
+homes_kept (commits i k o may) h = assumption h
 homes_kept {v} (publishes house roster may) h = homes_publish v house roster may h
 homes_kept {v} (closes i house) h = let stopped = homes_stop v i h in assumption stopped
 homes_kept (asks i victim may) h = assumption h
 homes_kept (refuses i thief seq works may) h = assumption h
-homes_kept {v} (grants i g s m thief seq c here may begins) h = homes_grant v i g s m thief seq c here begins h
+homes_kept {v} (grants i g s m thief seq c here may begins frame) h = homes_grant v i g s m thief seq c here begins h
 homes_kept {v} (takes_grant i t may hop asked) h = homes_by v (take v i t None []) (conts_take v i t None [] may) (same v.results) refl refl h.house_name h.worker_name h.heir_name h
 homes_kept (hears_refuse i x refused thief asked) h = assumption h
 homes_kept (gives_up i why) h = assumption h

@@ -6,7 +6,7 @@ use Rattle.run_tables.specs.Content.{Content}
 use Rattle.run_tables.specs.View.{Joining, House, View, first}
 use Rattle.run_tables.specs.Facts.{Head, Cont, held, sent, ack_of}
 use Rattle.run_tables.specs.Moves.{close_root}
-use Rattle.run_tables.specs.Acts.{Act, starts, admits, adopts, fails, goes, mourns, opens, grants_root, closes_root, publishes, closes, asks, refuses, grants, takes_grant, hears_refuse, gives_up, freezes, takes_offer, acknowledges, releases, leaves, alters, drops, renames, settles, settles_at_house, Reached, at_first, by_act}
+use Rattle.run_tables.specs.Acts.{Act, starts, admits, adopts, fails, goes, mourns, opens, grants_root, closes_root, commits, publishes, closes, asks, refuses, grants, takes_grant, hears_refuse, gives_up, freezes, takes_offer, acknowledges, releases, leaves, alters, drops, renames, settles, settles_at_house, Reached, at_first, by_act}
 use Rattle.run_tables.specs.Names.{Names}
 use Rattle.run_tables.specs.Homes.{Homes}
 use Rattle.run_tables.specs.Leavers.{Leavers}
@@ -37,13 +37,14 @@ kin_kept {v} (fails i may) n after h l r k = let stopped = kin_stop v i l k in a
 kin_kept {v} (goes i said) n after h l r k = kin_stop v i l k
 kin_kept (mourns i used worker lost) n after h l r k = assumption k
 kin_kept {v} (opens i lost roster may) n after h l r k = let opened = kin_new v i House may.new n l k in assumption opened
-kin_kept {v} (grants_root i thief seq c house none may begins) n after h l r k = let minted = kin_mint v i thief seq c (rw house tt) may begins n l k in assumption minted
+kin_kept {v} (grants_root i thief seq c house new may begins) n after h l r k = let minted = kin_mint v i thief seq c (rw house tt) may begins n l k in assumption minted
 kin_kept {v} (closes_root root is) n after h l r k = kin_close_root v root is h r k
+kin_kept {v} (commits i root o may) n after h l r k = let closed = kin_close_root v root may.recorded h r k in assumption closed
 kin_kept {v} (publishes house roster may) n after h l r k = kin_publish v house roster may n l k
 kin_kept {v} (closes i house) n after h l r k = let stopped = kin_stop v i l k in assumption stopped
 kin_kept (asks i victim may) n after h l r k = assumption k
 kin_kept (refuses i thief seq works may) n after h l r k = assumption k
-kin_kept {v} (grants i g s m thief seq c here may begins) n after h l r k = kin_grant v i g s m thief seq c here may begins n l k
+kin_kept {v} (grants i g s m thief seq c here may begins frame) n after h l r k = kin_grant v i g s m thief seq c here may begins n l k
 kin_kept {v} (takes_grant i t may hop asked) n after h l r k = kin_take v i t None [] may l k
 kin_kept (hears_refuse i x refused thief asked) n after h l r k = assumption k
 kin_kept (gives_up i why) n after h l r k = assumption k

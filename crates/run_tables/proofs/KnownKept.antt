@@ -5,7 +5,7 @@ use Rattle.run_tables.specs.View.{Status, Unlisted, Live, Dead, Left, Roster, Re
 use Rattle.run_tables.specs.Facts.{Said, Lost, grant_of}
 use Rattle.run_tables.specs.Moves.{start, admit, adopt, stop}
 use Rattle.run_tables.specs.Guards.{MayAnswer, MayAdopt}
-use Rattle.run_tables.specs.Acts.{Act, starts, admits, adopts, fails, goes, mourns, opens, grants_root, closes_root, publishes, closes, asks, refuses, grants, takes_grant, hears_refuse, gives_up, freezes, takes_offer, acknowledges, releases, leaves, alters, drops, renames, settles, settles_at_house, Reached, at_first, by_act}
+use Rattle.run_tables.specs.Acts.{Act, starts, admits, adopts, fails, goes, mourns, opens, grants_root, closes_root, commits, publishes, closes, asks, refuses, grants, takes_grant, hears_refuse, gives_up, freezes, takes_offer, acknowledges, releases, leaves, alters, drops, renames, settles, settles_at_house, Reached, at_first, by_act}
 use Rattle.run_tables.specs.Rosters.{Rosters}
 use Rattle.run_tables.specs.Known.{Known}
 use Rattle.run_tables.proofs.Lists.{same_or, some_same}
@@ -85,13 +85,14 @@ known_kept {v} (fails i may) k h = let stopped = known_stop v i h in assumption 
 known_kept {v} (goes i said) k h = known_stop v i h
 known_kept (mourns i used worker lost) k h = assumption h
 known_kept {v} (opens i lost roster may) k h = let opened = known_new v i House h in assumption opened
-known_kept {v} (grants_root i thief seq c house none may begins) k h = let answered = known_answer v i thief seq (record { seq = seq; given = Some (grant_of v i thief seq c) }) may k h in assumption answered
+known_kept {v} (grants_root i thief seq c house new may begins) k h = let answered = known_answer v i thief seq (record { seq = seq; given = Some (grant_of v i thief seq c) }) may k h in assumption answered
 known_kept (closes_root root is) k h = assumption h
+known_kept (commits i root o may) k h = assumption h
 known_kept (publishes house roster may) k h = assumption h
 known_kept {v} (closes i house) k h = let stopped = known_stop v i h in assumption stopped
 known_kept (asks i victim may) k h = assumption h
 known_kept {v} (refuses i thief seq works may) k h = let answered = known_answer v i thief seq (record { seq = seq; given = None }) may k h in assumption answered
-known_kept {v} (grants i g s m thief seq c here may begins) k h = let answered = known_answer v i thief seq (record { seq = seq; given = Some (grant_of v i thief seq c) }) may k h in assumption answered
+known_kept {v} (grants i g s m thief seq c here may begins frame) k h = let answered = known_answer v i thief seq (record { seq = seq; given = Some (grant_of v i thief seq c) }) may k h in assumption answered
 known_kept (takes_grant i t may hop asked) k h = assumption h
 known_kept (hears_refuse i x refused thief asked) k h = assumption h
 known_kept (gives_up i why) k h = assumption h

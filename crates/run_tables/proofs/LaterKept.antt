@@ -7,7 +7,7 @@ use Rattle.run_tables.specs.View.{Transfer, Result, Sub, Gone, Joining, Member, 
 use Rattle.run_tables.specs.Facts.{Granted, Live, Cont, held, sent, ack_of, grant_of}
 use Rattle.run_tables.specs.Moves.{start, stop, admit, mint, take, freeze, remove, alter, grant_frame}
 use Rattle.run_tables.specs.Guards.{MayAnswer, Begins, MayFreeze}
-use Rattle.run_tables.specs.Acts.{Act, starts, admits, adopts, fails, goes, mourns, opens, grants_root, closes_root, publishes, closes, asks, refuses, grants, takes_grant, hears_refuse, gives_up, freezes, takes_offer, acknowledges, releases, leaves, alters, drops, renames, settles, settles_at_house, Reached, at_first, by_act}
+use Rattle.run_tables.specs.Acts.{Act, starts, admits, adopts, fails, goes, mourns, opens, grants_root, closes_root, commits, publishes, closes, asks, refuses, grants, takes_grant, hears_refuse, gives_up, freezes, takes_offer, acknowledges, releases, leaves, alters, drops, renames, settles, settles_at_house, Reached, at_first, by_act}
 use Rattle.run_tables.specs.Names.{Names}
 use Rattle.run_tables.specs.Later.{born, Later}
 use Rattle.run_tables.proofs.Sent.{unminted}
@@ -99,13 +99,14 @@ later_kept {v} (fails i may) n l = let stopped = later_by v (stop v i) (conts_mo
 later_kept {v} (goes i said) n l = later_by v (stop v i) (conts_mode v i Gone (λ w. absurd w)) refl l
 later_kept (mourns i used worker lost) n l = assumption l
 later_kept {v} (opens i lost roster may) n l = let opened = later_by v (record (start v i) { mode = put v.mode i House }) (conts_new v i House) refl l in assumption opened
-later_kept {v} (grants_root i thief seq c house none may begins) n l = let minted = later_mint v i thief seq c (rw house tt) may begins n l in assumption minted
+later_kept {v} (grants_root i thief seq c house new may begins) n l = let minted = later_mint v i thief seq c (rw house tt) may begins n l in assumption minted
 later_kept (closes_root k is) n l = assumption l
+later_kept (commits i k o may) n l = assumption l
 later_kept (publishes house roster may) n l = assumption l
 later_kept {v} (closes i house) n l = let stopped = later_by v (stop v i) (conts_mode v i Gone (λ w. absurd w)) refl l in assumption stopped
 later_kept (asks i victim may) n l = assumption l
 later_kept (refuses i thief seq works may) n l = assumption l
-later_kept {v} (grants i g s m thief seq c here may begins) n l = later_grant v i g s m thief seq c here may begins n l
+later_kept {v} (grants i g s m thief seq c here may begins frame) n l = later_grant v i g s m thief seq c here may begins n l
 later_kept {v} (takes_grant i t may hop asked) n l = later_by v (take v i t None []) (conts_take v i t None [] may) refl l
 later_kept (hears_refuse i x refused thief asked) n l = assumption l
 later_kept (gives_up i why) n l = assumption l

@@ -7,7 +7,7 @@ use Rattle.run_tables.specs.View.{Transfer, Ack, Result, Leave, Left, Roster, Su
 use Rattle.run_tables.specs.Facts.{Said, Above, Live, ack_of, offer_of, grant_of}
 use Rattle.run_tables.specs.Moves.{start, admit, stop, mint, take, acknowledge, freeze, remove, alter, leave, publish}
 use Rattle.run_tables.specs.Guards.{MayTake, MayFreeze, MayRelease, MayLeave, MayPublish, ShowsLeft, before, now}
-use Rattle.run_tables.specs.Acts.{Act, starts, admits, adopts, fails, goes, mourns, opens, grants_root, closes_root, publishes, closes, asks, refuses, grants, takes_grant, hears_refuse, gives_up, freezes, takes_offer, acknowledges, releases, leaves, alters, drops, renames, settles, settles_at_house, Reached, at_first, by_act}
+use Rattle.run_tables.specs.Acts.{Act, starts, admits, adopts, fails, goes, mourns, opens, grants_root, closes_root, commits, publishes, closes, asks, refuses, grants, takes_grant, hears_refuse, gives_up, freezes, takes_offer, acknowledges, releases, leaves, alters, drops, renames, settles, settles_at_house, Reached, at_first, by_act}
 use Rattle.run_tables.specs.Names.{Names}
 use Rattle.run_tables.specs.Leavers.{Leavers}
 use Rattle.run_tables.proofs.Lists.{later, either, spot_or, above, some_same}
@@ -222,13 +222,14 @@ leavers_kept {v} (fails i may) n k = let stopped = leavers_stop v i k in assumpt
 leavers_kept {v} (goes i said) n k = leavers_stop v i k
 leavers_kept (mourns i used worker lost) n k = assumption k
 leavers_kept {v} (opens i lost roster may) n k = let opened = leavers_new v i House (λ heir e. cc) may.new n k in assumption opened
-leavers_kept {v} (grants_root i thief seq c house none may begins) n k = let minted = leavers_mint v i thief seq c k in assumption minted
+leavers_kept {v} (grants_root i thief seq c house new may begins) n k = let minted = leavers_mint v i thief seq c k in assumption minted
 leavers_kept (closes_root root is) n k = assumption k
+leavers_kept (commits i root o may) n k = assumption k
 leavers_kept {v} (publishes house roster may) n k = leavers_publish v house roster may k
 leavers_kept {v} (closes i house) n k = let stopped = leavers_stop v i k in assumption stopped
 leavers_kept (asks i victim may) n k = assumption k
 leavers_kept (refuses i thief seq works may) n k = assumption k
-leavers_kept {v} (grants i g s m thief seq c here may begins) n k =
+leavers_kept {v} (grants i g s m thief seq c here may begins frame) n k =
     leavers_alter (mint v i thief seq c) i g s (regrant s.content m (Some (grant_of v i thief seq c).grant)) None [] [] (record { member = here.member; holds = here.holds }) (leavers_mint v i thief seq c k)
 leavers_kept {v} (takes_grant i t may hop asked) n k = leavers_take v i t None [] may k
 leavers_kept (hears_refuse i x refused thief asked) n k = assumption k

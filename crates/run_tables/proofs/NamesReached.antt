@@ -7,7 +7,7 @@ use Rattle.run_tables.specs.View.{Result, Roster, Sub, Joining, House, View, fir
 use Rattle.run_tables.specs.Facts.{Granted, Live, RecordOf, ack_of, grant_of}
 use Rattle.run_tables.specs.Moves.{open_house, close_house, mint, close_root, grant_frame, grant_root, alter}
 use Rattle.run_tables.specs.Guards.{MayAnswer, Begins, Alters}
-use Rattle.run_tables.specs.Acts.{Act, starts, admits, adopts, fails, goes, mourns, opens, grants_root, closes_root, publishes, closes, asks, refuses, grants, takes_grant, hears_refuse, gives_up, freezes, takes_offer, acknowledges, releases, leaves, alters, drops, renames, settles, settles_at_house, Reached, at_first, by_act}
+use Rattle.run_tables.specs.Acts.{Act, starts, admits, adopts, fails, goes, mourns, opens, grants_root, closes_root, commits, publishes, closes, asks, refuses, grants, takes_grant, hears_refuse, gives_up, freezes, takes_offer, acknowledges, releases, leaves, alters, drops, renames, settles, settles_at_house, Reached, at_first, by_act}
 use Rattle.run_tables.specs.Names.{Names}
 use Rattle.run_tables.proofs.Lists.{same_or, some_same}
 use Rattle.run_tables.proofs.NamesKept.{names_new, names_admit, names_stop, names_ask, names_refuse, names_mint, names_take, names_acknowledge, names_remove, names_alter, names_settle, names_leave}
@@ -79,13 +79,14 @@ names_kept {v} (fails i may) n = let stopped = names_stop v i n in assumption st
 names_kept {v} (goes i said) n = names_stop v i n
 names_kept (mourns i used worker lost) n = assumption n
 names_kept {v} (opens i lost roster may) n = names_open v i lost roster may.new n
-names_kept {v} (grants_root i thief seq c house none may begins) n = names_root v i thief seq c house may begins n
+names_kept {v} (grants_root i thief seq c house new may begins) n = names_root v i thief seq c house may begins n
 names_kept {v} (closes_root k is) n = names_close_root v k is n
+names_kept {v} (commits i k o may) n = let closed = names_close_root v k may.recorded n in assumption closed
 names_kept (publishes house roster may) n = assumption n
 names_kept {v} (closes i house) n = names_close v i n
 names_kept {v} (asks i victim may) n = names_ask v i victim may n
 names_kept {v} (refuses i thief seq works may) n = let kept = names_refuse v i thief seq n in assumption kept
-names_kept {v} (grants i g s m thief seq c here may begins) n = names_grant v i g s m thief seq c here may begins n
+names_kept {v} (grants i g s m thief seq c here may begins frame) n = names_grant v i g s m thief seq c here may begins n
 names_kept {v} (takes_grant i t may hop asked) n = names_take v i t None [] may n
 names_kept (hears_refuse i x refused thief asked) n = assumption n
 names_kept (gives_up i why) n = assumption n
@@ -98,8 +99,8 @@ names_kept {v} (alters i g s c fill results gone here change is) n = names_alter
 names_kept {v} (drops i g s gone here had why) n = names_remove v i g gone (λ k m. records_granted v i g s here n k (had k m)) n
 names_kept {v} (renames i g s roster host here listed way) n =
     names_alter v i g s (rehost s.content host) None [] [] here (λ k m. absurd m) (λ x m. absurd m) (λ o k e. n.sub_granted i g k s o (rw here.member tt) here.holds e) n
-names_kept {v} (settles i g may) n = names_settle v g (n.result_granted (record { grant = g; host = i }) may.result) n
-names_kept {v} (settles_at_house i g may) n = names_settle v g (n.result_granted (record { grant = g; host = i }) may.result) n
+names_kept {v} (settles i g may) n = names_settle v g (n.result_granted (record { grant = g; host = i; outcome = may.outcome }) may.result) n
+names_kept {v} (settles_at_house i g may) n = names_settle v g (n.result_granted (record { grant = g; host = i; outcome = may.outcome }) may.result) n
 
 names_first : Names first
 names_first = record {

@@ -1,16 +1,19 @@
 -- Another end of the run: the kid's thief fails before it has finished, and the first worker redoes the kid.
 use Rattle.std.proofs.Common.{[], ◌∷◌, Some, None, refl, inl, inr}
-use Rattle.run_tables.specs.Content.{Local, Changes, regrant}
+use Rattle.run_tables.specs.Content.{Local, regrant}
 use Rattle.run_tables.specs.View.{Sub, View}
 use Rattle.run_tables.specs.Facts.{Live, Said}
 use Rattle.run_tables.specs.Moves.{fail, alter}
 use Rattle.run_tables.specs.Acts.{Reached, by_act, fails, alters}
+use Rattle.run_tables.specs.Causes.{Cause, redoes}
 use Rattle.run_tables.specs.Work.{Ready}
-use Rattle.run_tables.proofs.Sample.{root, kid, turned, turned_sound, heard, heard_reached}
+use Rattle.run_tables.proofs.SampleJob.{sample_job}
+use Rattle.run_tables.proofs.SounderJoins.{cause_changes}
+use Rattle.run_tables.proofs.Sample.{root, kid, turned, heard, heard_reached}
 
 -- the record is a frame again
-redone : Changes root (regrant turned 2 (Some kid)) turned None
-redone = record { sound = λ s. turned_sound; closed = λ s f j a. record { old = a.old; full = a.full }; own = λ x e. cc; closes = λ s x e. cc; fresh = λ s x e. cc }
+redone : (v : View) → Cause sample_job v 1 root (regrant turned 2 (Some kid)) turned None
+redone v = redoes (record { fewer = λ n k e. cc; returns = λ n. refl; work = λ n. record { place = refl; thread = refl; slots = λ j. refl }; next = refl; outcome = refl }) refl
 
 unsaid : Said heard.leaves 2 → ⊥
 unsaid said = said.sent
@@ -23,8 +26,8 @@ redone_view = alter failed 1 root (record { hop = 0; content = regrant turned 2 
 
 pub redone_reached : Reached redone_view
 redone_reached = by_act (by_act heard_reached (fails 2 (record { works = tt; worker = λ e. cc; unsaid = unsaid })))
-    (alters 1 root (record { hop = 0; content = regrant turned 2 (Some kid) }) turned None [] (kid ∷ []) (record { member = refl; holds = refl }) redone
-    (record { host = refl; fewer = λ n k e. cc; result_own = λ x m. absurd m; result_host = λ x m. absurd m; had = λ k. elim [ inl e ↦ rw e (record { number = 2; is = refl }) | inr m ↦ absurd m ]; lost = λ k m r. let is = r.is in cc }))
+    (alters 1 root (record { hop = 0; content = regrant turned 2 (Some kid) }) turned None [] (kid ∷ []) (record { member = refl; holds = refl }) (cause_changes sample_job failed 1 root (regrant turned 2 (Some kid)) turned None (redone failed))
+    (record { host = refl; task = refl; fewer = λ n k e. cc; keeps = λ n k e. cc; result_own = λ x m. absurd m; result_host = λ x m. absurd m; result_outcome = λ x m. absurd m; had = λ k. elim [ inl e ↦ rw e (record { number = 2; is = refl }) | inr m ↦ absurd m ]; lost = λ k m r. let is = r.is in cc }))
 
 abbrev pub redone_sub : Sub
 redone_sub = record { hop = 0; content = turned }

@@ -5,7 +5,7 @@ use Rattle.run_tables.specs.View.{Steal, Roster, Joining, House, View, first}
 use Rattle.run_tables.specs.Facts.{stolen_by, ack_of}
 use Rattle.run_tables.specs.Moves.{start, open_house}
 use Rattle.run_tables.specs.Guards.{MayOpen}
-use Rattle.run_tables.specs.Acts.{Act, starts, admits, adopts, fails, goes, mourns, opens, grants_root, closes_root, publishes, closes, asks, refuses, grants, takes_grant, hears_refuse, gives_up, freezes, takes_offer, acknowledges, releases, leaves, alters, drops, renames, settles, settles_at_house, Reached, at_first, by_act}
+use Rattle.run_tables.specs.Acts.{Act, starts, admits, adopts, fails, goes, mourns, opens, grants_root, closes_root, commits, publishes, closes, asks, refuses, grants, takes_grant, hears_refuse, gives_up, freezes, takes_offer, acknowledges, releases, leaves, alters, drops, renames, settles, settles_at_house, Reached, at_first, by_act}
 use Rattle.run_tables.specs.Names.{Names}
 use Rattle.run_tables.specs.Leavers.{Leavers}
 use Rattle.run_tables.specs.Requests.{Awaits, Requests}
@@ -36,13 +36,14 @@ requests_kept {v} (fails i may) n l q = requests_fail v i q
 requests_kept {v} (goes i said) n l q = requests_go v i said l q
 requests_kept {v} (mourns i used worker lost) n l q = requests_mourn v i q
 requests_kept {v} (opens i lost roster may) n l q = requests_open v i lost roster may n q
-requests_kept {v} (grants_root i thief seq c house none may begins) n l q = let minted = requests_mint v i thief seq c (inr house) (rw house tt) may n l q in assumption minted
+requests_kept {v} (grants_root i thief seq c house new may begins) n l q = let minted = requests_mint v i thief seq c (inr house) (rw house tt) may n l q in assumption minted
 requests_kept (closes_root k is) n l q = assumption q
+requests_kept (commits i k o may) n l q = assumption q
 requests_kept (publishes house roster may) n l q = assumption q
 requests_kept {v} (closes i house) n l q = let stopped = requests_close v i house q in assumption stopped
 requests_kept {v} (asks i victim may) n l q = requests_ask v i victim may q
 requests_kept {v} (refuses i thief seq works may) n l q = requests_refuse v i thief seq works may q
-requests_kept {v} (grants i g s m thief seq c here may begins) n l q = let minted = requests_mint v i thief seq c (inl (rw here.member tt)) (rw here.member tt) may n l q in assumption minted
+requests_kept {v} (grants i g s m thief seq c here may begins frame) n l q = let minted = requests_mint v i thief seq c (inl (rw here.member tt)) (rw here.member tt) may n l q in assumption minted
 requests_kept {v} (takes_grant i t may hop asked) n l q = requests_take_grant v i t may hop asked q
 requests_kept {v} (hears_refuse i x refused thief asked) n l q = requests_refused v i x refused thief asked q
 requests_kept {v} (gives_up i why) n l q = requests_give_up v i why l q

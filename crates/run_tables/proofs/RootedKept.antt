@@ -7,7 +7,7 @@ use Rattle.run_tables.specs.View.{Roster, Sub, Mode, Gone, Joining, Member, Hous
 use Rattle.run_tables.specs.Facts.{of_worker, Said, Live, Cont, Host, by_result, RecordOf, grant_of}
 use Rattle.run_tables.specs.Moves.{start, open_house, close_house, stop, fail, mourn, remove, alter, grant_root, settle, close_root}
 use Rattle.run_tables.specs.Guards.{MayOpen, MayFail, MaySettle}
-use Rattle.run_tables.specs.Acts.{Act, starts, admits, adopts, fails, goes, mourns, opens, grants_root, closes_root, publishes, closes, asks, refuses, grants, takes_grant, hears_refuse, gives_up, freezes, takes_offer, acknowledges, releases, leaves, alters, drops, renames, settles, settles_at_house, Reached, at_first, by_act}
+use Rattle.run_tables.specs.Acts.{Act, starts, admits, adopts, fails, goes, mourns, opens, grants_root, closes_root, commits, publishes, closes, asks, refuses, grants, takes_grant, hears_refuse, gives_up, freezes, takes_offer, acknowledges, releases, leaves, alters, drops, renames, settles, settles_at_house, Reached, at_first, by_act}
 use Rattle.run_tables.specs.Names.{Names}
 use Rattle.run_tables.specs.Homes.{Homes}
 use Rattle.run_tables.specs.Leavers.{Leavers}
@@ -87,7 +87,7 @@ rooted_root v i thief seq c house n r = record {
 rooted_settle : (v : View) (i : ℕ) (g : Grant) → MaySettle v i g → Homes v → Rooted v → Rooted (settle v g)
 rooted_settle v i g may h r = rooted_settled v (settle v g) refl (λ j. refl) refl
     (λ k e. elim [
-      | inl e2 ↦ (let is : k ≡ g = e2 in let at : i ≡ k.minter = root_host v h r k i e (by_result (record { grant = g; host = i }) may.result (sym is) refl) in
+      | inl e2 ↦ (let is : k ≡ g = e2 in let at : i ≡ k.minter = root_host v h r k i e (by_result (record { grant = g; host = i; outcome = may.outcome }) may.result (sym is) refl) in
           let house : v.mode k.minter ≡ House = r.root_house k e in let member : v.mode i ≡ Member = may.member in let also : v.mode i ≡ House = rw at house in grind (arith, also, member))
       | inr m ↦ m
     ]) r
@@ -106,13 +106,14 @@ rooted_kept {v} (fails i may) n h l r = rooted_fail v i may r
 rooted_kept {v} (goes i said) n h l r = rooted_go v i said l r
 rooted_kept {v} (mourns i used worker lost) n h l r = rooted_mourn v i worker r
 rooted_kept {v} (opens i lost roster may) n h l r = rooted_open v i lost roster may
-rooted_kept {v} (grants_root i thief seq c house none may begins) n h l r = rooted_root v i thief seq c house n r
+rooted_kept {v} (grants_root i thief seq c house new may begins) n h l r = rooted_root v i thief seq c house n r
 rooted_kept {v} (closes_root k is) n h l r = rooted_none (close_root v k) refl r.house_up
+rooted_kept {v} (commits i k o may) n h l r = let closed = rooted_none (close_root v k) refl r.house_up in assumption closed
 rooted_kept (publishes house roster may) n h l r = assumption r
 rooted_kept {v} (closes i house) n h l r = rooted_none (close_house v i) refl (λ j e m. r.house_up j (grind (arith, e)) m)
 rooted_kept (asks i victim may) n h l r = assumption r
 rooted_kept (refuses i thief seq works may) n h l r = assumption r
-rooted_kept (grants i g s m thief seq c here may begins) n h l r = assumption r
+rooted_kept (grants i g s m thief seq c here may begins frame) n h l r = assumption r
 rooted_kept (takes_grant i t may hop asked) n h l r = assumption r
 rooted_kept (hears_refuse i x refused thief asked) n h l r = assumption r
 rooted_kept (gives_up i why) n h l r = assumption r

@@ -1,7 +1,7 @@
 -- Each move keeps the rosters in order; so they are in each view that moves lead to.
 use Rattle.std.proofs.Common.{refl}
 use Rattle.run_tables.specs.View.{View, first}
-use Rattle.run_tables.specs.Acts.{Act, starts, admits, adopts, fails, goes, mourns, opens, grants_root, closes_root, publishes, closes, asks, refuses, grants, takes_grant, hears_refuse, gives_up, freezes, takes_offer, acknowledges, releases, leaves, alters, drops, renames, settles, settles_at_house, Reached, at_first, by_act}
+use Rattle.run_tables.specs.Acts.{Act, starts, admits, adopts, fails, goes, mourns, opens, grants_root, closes_root, commits, publishes, closes, asks, refuses, grants, takes_grant, hears_refuse, gives_up, freezes, takes_offer, acknowledges, releases, leaves, alters, drops, renames, settles, settles_at_house, Reached, at_first, by_act}
 use Rattle.run_tables.specs.Names.{Names}
 use Rattle.run_tables.specs.Leavers.{Leavers}
 use Rattle.run_tables.specs.Rosters.{Rosters}
@@ -17,13 +17,14 @@ rosters_kept {v} (fails i may) n l k = rosters_fail v i may n k
 rosters_kept {v} (goes i said) n l k = rosters_stop v i k
 rosters_kept {v} (mourns i used worker lost) n l k = rosters_mourn v i used lost k
 rosters_kept {v} (opens i lost roster may) n l k = rosters_open v i lost roster may n k
-rosters_kept (grants_root i thief seq c house none may begins) n l k = assumption k
+rosters_kept (grants_root i thief seq c house new may begins) n l k = assumption k
 rosters_kept (closes_root root is) n l k = assumption k
+rosters_kept (commits i root o may) n l k = assumption k
 rosters_kept {v} (publishes house roster may) n l k = rosters_publish v house roster may k
 rosters_kept {v} (closes i house) n l k = rosters_close v i k
 rosters_kept (asks i victim may) n l k = assumption k
 rosters_kept (refuses i thief seq works may) n l k = assumption k
-rosters_kept (grants i g s m thief seq c here may begins) n l k = assumption k
+rosters_kept (grants i g s m thief seq c here may begins frame) n l k = assumption k
 rosters_kept (takes_grant i t may hop asked) n l k = assumption k
 rosters_kept (hears_refuse i x refused thief asked) n l k = assumption k
 rosters_kept (gives_up i why) n l k = assumption k

@@ -1,12 +1,12 @@
 -- The moves, each with its guard, and the views that lists of moves lead to.
-use Rattle.std.specs.Prelude.{◌≡◌, ℕ, suc, true, List, [], ◌∷◌, Option, Some, None}
+use Rattle.std.specs.Prelude.{◌≡◌, ℕ, ℤ, suc, true, List, [], ◌∷◌, Option, Some, None}
 use Rattle.ids.specs.Names.{Grant}
 use Rattle.run_tables.specs.Tables.{◌∈◌}
 use Rattle.run_tables.specs.Content.{Content, Fill, Changes, rehost}
 use Rattle.run_tables.specs.View.{Transfer, Result, Steal, Roster, Sub, Joining, House, Works, View, first}
 use Rattle.run_tables.specs.Facts.{of_worker, Said, Lost, Above, ack_of, request_of, Live, Resolves, RecordOf}
-use Rattle.run_tables.specs.Moves.{start, open_house, close_house, admit, adopt, stop, fail, mourn, ask, refuse, unpend, take, acknowledge, freeze, remove, alter, grant_frame, grant_root, settle, close_root, leave, publish}
-use Rattle.run_tables.specs.Guards.{MayOpen, MayFail, MayAsk, MayAnswer, Begins, MayTake, GivesUp, MayFreeze, MayRelease, Drops, Alters, MaySettle, MaySettleAtHouse, MayLeave, MayPublish, MayAdopt}
+use Rattle.run_tables.specs.Moves.{start, open_house, close_house, admit, adopt, stop, fail, mourn, ask, refuse, unpend, take, acknowledge, freeze, remove, alter, grant_frame, grant_root, settle, close_root, commit, leave, publish}
+use Rattle.run_tables.specs.Guards.{MayOpen, MayFail, MayAsk, MayAnswer, Begins, MaySteal, MayBegin, MayCommit, MayTake, GivesUp, MayFreeze, MayRelease, Drops, Alters, MaySettle, MaySettleAtHouse, MayLeave, MayPublish, MayAdopt}
 
 -- the view after a move, which may happen at v
 pub data Act (v : View) : View → Type 0 where
@@ -18,16 +18,18 @@ pub data Act (v : View) : View → Type 0 where
   fails : (i : ℕ) → MayFail v i → Act v (fail v i)
   goes : (i : ℕ) → Said v.leaves i → Act v (stop v i)
   mourns : (i : ℕ) → i ∈ v.used → (v.mode i ≡ House → ⊥) → ((house : Roster) → v.house ≡ Some house → Lost v house i) → Act v (mourn v i)
-  -- the clearinghouse opens, grants the root, stores an outcome or redoes the root, tells a roster, is down
+  -- the clearinghouse opens, grants the root, drops its record since the holder is dead, or records its outcome, tells a roster,
+  -- is down
   opens : (i : ℕ) (lost : List ℕ) (roster : Roster) → MayOpen v i lost roster → Act v (open_house v i lost roster)
-  grants_root : (i thief seq : ℕ) (c : Content) → v.mode i ≡ House → v.root ≡ None → MayAnswer v i thief seq → Begins c i → Act v (grant_root v i thief seq c)
+  grants_root : (i thief seq : ℕ) (c : Content) → v.mode i ≡ House → MayBegin v c → MayAnswer v i thief seq → Begins c i → Act v (grant_root v i thief seq c)
   closes_root : (k : Grant) → v.root ≡ Some k → Act v (close_root v k)
+  commits : (i : ℕ) (k : Grant) (o : Option ℤ) → MayCommit v i k o → Act v (commit v k o)
   publishes : (house roster : Roster) → MayPublish v house roster → Act v (publish v roster)
   closes : (i : ℕ) → v.mode i ≡ House → Act v (close_house v i)
   -- a thief asks; its victim refuses, or grants a frame; the thief takes it, hears of the refusal, or gives up
   asks : (i victim : ℕ) → MayAsk v i victim → Act v (ask v i victim)
   refuses : (i thief seq : ℕ) → Works (v.mode i) → MayAnswer v i thief seq → Act v (refuse v i thief seq)
-  grants : (i : ℕ) (g : Grant) (s : Sub) (n thief seq : ℕ) (c : Content) → Live v i g s → MayAnswer v i thief seq → Begins c i → Act v (grant_frame v i g s n thief seq c)
+  grants : (i : ℕ) (g : Grant) (s : Sub) (n thief seq : ℕ) (c : Content) → Live v i g s → MayAnswer v i thief seq → Begins c i → MaySteal s.content n c.task → Act v (grant_frame v i g s n thief seq c)
   takes_grant : (i : ℕ) (t : Transfer) → MayTake v i t [] → t.hop ≡ 0 → v.pending i ≡ Some (request_of t) → Act v (take v i t None [])
   hears_refuse : (i : ℕ) (x : Steal) → x ∈ v.refusals → x.thief ≡ i → v.pending i ≡ Some (record { victim = x.victim; seq = x.seq }) → Act v (unpend v i)
   gives_up : (i : ℕ) → GivesUp v i → Act v (unpend v i)

@@ -1,5 +1,5 @@
 -- What may happen to a view, as updates of its tables. When each may happen is said in Acts.
-use Rattle.std.specs.Prelude.{ℕ, ◌+◌, List, [], ◌∷◌, ◌++◌, Option, Some, None}
+use Rattle.std.specs.Prelude.{ℕ, ℤ, ◌+◌, List, [], ◌∷◌, ◌++◌, Option, Some, None}
 use Rattle.ids.specs.Names.{Grant}
 use Rattle.run_tables.specs.Tables.{put, put_at, put_grant, clear}
 use Rattle.run_tables.specs.Content.{Content, Fill, filled, regrant}
@@ -12,7 +12,7 @@ start v i = record v { used = i ∷ v.used; mode = put v.mode i Joining; minted 
 
 -- the clearinghouse opens, in a new epoch and so under a new name; who is lost to it is told anew
 abbrev pub open_house : View → ℕ → List ℕ → Roster → View
-open_house v i lost roster = record (start v i) { mode = put v.mode i House; lost = lost; root = None; house = Some roster }
+open_house v i lost roster = record (start v i) { mode = put v.mode i House; lost = lost; root = None; house = Some roster; epoch = roster.epoch }
 
 -- the clearinghouse is down, or stops
 abbrev pub close_house : View → ℕ → View
@@ -101,9 +101,13 @@ grant_root v i thief seq c = record (mint v i thief seq c) { root = Some (grant_
 abbrev pub settle : View → Grant → View
 settle v g = record v { settled = g ∷ v.settled }
 
--- the root record goes: the outcome is stored, or its holder is dead
+-- the root record goes
 abbrev pub close_root : View → Grant → View
 close_root v k = record (settle v k) { root = None }
+
+-- and its outcome is recorded
+abbrev pub commit : View → Grant → Option ℤ → View
+commit v k o = record (close_root v k) { stored = Some o }
 
 -- a Leave
 abbrev pub leave : View → ℕ → ℕ → ℕ → View

@@ -1,6 +1,6 @@
 -- The world as its proofs see it: a table for each kind of fact, where the world has nodes, packets and a clearinghouse.
 -- A name is a number: an incarnation of a worker, or a house, which is the clearinghouse of one epoch.
-use Rattle.std.specs.Prelude.{ℕ, List, [], Option, None}
+use Rattle.std.specs.Prelude.{ℕ, ℤ, List, [], Option, None}
 use Rattle.ids.specs.Names.{Grant}
 use Rattle.run_tables.specs.Content.{Content, Fill}
 
@@ -21,10 +21,11 @@ pub record Ack : Type 0 where
   pub from : ℕ
   pub to : ℕ
 
--- a Result: the outcome of a grant, for its parent host
+-- a Result: the outcome of a grant, for its parent host; it is none for one that was too deep
 pub record Result : Type 0 where
   pub grant : Grant
   pub host : ℕ
+  pub outcome : Option ℤ
 
 -- a Steal; also the Refuse that answers it
 pub record Steal : Type 0 where
@@ -43,10 +44,11 @@ pub data Status : Type 0 where
   Unlisted Live Dead : Status
   Left : ℕ → Status
 
--- a roster of the house of an epoch, the latest having the greatest version
+-- a roster of the house of an epoch, the latest having the greatest version; left counts the members that it shows left
 pub record Roster : Type 0 where
   pub epoch : ℕ
   pub version : ℕ
+  pub left : ℕ
   pub status : ℕ → Status
 
 -- a subcomputation that a node holds, with the hop by which it came
@@ -121,7 +123,11 @@ pub record View : Type 0 where
   pub lost : List ℕ
   -- the grant of the open house's root record
   pub root : Option Grant
+  -- the outcome of the job that a house has recorded, if one has; it outlives the house
+  pub stored : Option (Option ℤ)
+  -- the last epoch that a house has opened, which is recorded as well
+  pub epoch : ℕ
 
 -- nothing was sent, nobody is up
 abbrev pub first : View
-first = record { used = []; mode = λ i. Gone; minted = λ i. 0; asked = λ i. 0; seen = λ i g. None; subs = λ i g. None; pending = λ i. None; kept = λ i j. None; transfers = []; acks = []; results = []; settled = []; steals = []; refusals = []; leaves = []; rosters = []; roster = λ i. None; house = None; fills = []; lost = []; root = None }
+first = record { used = []; mode = λ i. Gone; minted = λ i. 0; asked = λ i. 0; seen = λ i g. None; subs = λ i g. None; pending = λ i. None; kept = λ i j. None; transfers = []; acks = []; results = []; settled = []; steals = []; refusals = []; leaves = []; rosters = []; roster = λ i. None; house = None; fills = []; lost = []; root = None; stored = None; epoch = 0 }

@@ -7,3 +7,5 @@ pub mod Joins
 pub mod Grants
 pub mod Contents
 pub mod Turns
+pub mod Listings
+pub mod Tellings

@@ -6,3 +6,4 @@ pub mod Debts
 pub mod Leaving
 pub mod Turning
 pub mod Filling
+pub mod Readiness

@@ -1,7 +1,7 @@
 ghost use Rattle.std.specs.Prelude.{◌≡◌, IfOk, IfSome, None, Some, map};
 ghost use Rattle.ids.specs.Slots.{numbers_in};
 ghost use Rattle.victim_records.specs.Records.{record_in};
-ghost use Rattle.sub_rules.specs.Content.{ready_in};
+ghost use Rattle.sub_rules.specs.Content.{first_frame, granted_content, ready_in};
 ghost use Rattle.sub_rules.specs.Changes.{closed_in, given_away, done_again, frame_of};
 ghost use Rattle.sub_rules.specs.Debts.{IsSound};
 
@@ -10,8 +10,42 @@ use crate::change::{Change, DoneAgain, GivenAway, Readied};
 use crate::content::Content;
 use crate::joining::all_given;
 use crate::leaving::{LeftFrame, LeftRecord, take_ready, take_record};
-use ids::{Frame, FrameNo, GrantId, Incarnation, Listed, Outcome, Record, Task};
+use frames::Frames;
+use ids::{
+    Actor, Frame, FrameNo, GrantId, Incarnation, Listed, Outcome, Progress, Record, Return, Task,
+};
 use std::alloc::{AllocError, Global};
+use victim_records::Records;
+
+/// The content with which a granted task begins, for the host that granted it: one frame, number 0; refused for want of memory
+/// alone.
+pub fn granted(alloc: Global, host: Actor, task: Task) -> Result<Content, AllocError>
+    ensures { IfOk result (λ content. content ≡ granted_content host task) }
+{
+    let mut frames = Frames::new(alloc);
+    frames.insert(first_frame(alloc, &task)?)?;
+    Ok(Content {
+        parent: host,
+        progress: Progress::Active,
+        task,
+        next: FrameNo::of(1),
+        frames,
+        records: Records::new(alloc),
+    })
+}
+
+/// The frame in which a task begins.
+fn first_frame(alloc: Global, task: &Task) -> Result<Frame, AllocError>
+    ensures { IfOk result (λ f. f ≡ first_frame task.now) }
+{
+    Ok(Frame {
+        number: FrameNo::of(0),
+        place: task.place.clone()?,
+        thread: task.thread,
+        slots: all_given(alloc, task.numbers.as_slice())?,
+        returns: Return::Whole,
+    })
+}
 
 /// Gives a ready frame away: a record of the grant, which the thief holds, stands in the frame's place. None where no frame
 /// is ready under that number; refused for want of memory alone.
@@ -29,7 +63,7 @@ pub fn grant_out(
     let Some(LeftFrame { frame, content }) = take_ready(content, number) else {
         return Ok(None);
     };
-    let Some(numbers) = numbers(alloc, frame.slots.as_slice())? else {
+    let Some(numbers) = numbers_in(alloc, frame.slots.as_slice())? else {
         return Ok(None);
     };
     let task = Task {
@@ -114,8 +148,8 @@ fn stolen_frame(alloc: Global, taken: Record) -> Result<Frame, AllocError>
     })
 }
 
-/// The numbers in slots, if none is empty.
-fn numbers(alloc: Global, slots: &[Option<i64>]) -> Result<Option<Listed<i64>>, AllocError>
+/// The numbers in slots, if none is empty; refused for want of memory alone.
+pub fn numbers_in(alloc: Global, slots: &[Option<i64>]) -> Result<Option<Listed<i64>>, AllocError>
     ensures { IfOk result (λ numbers. numbers ≡ numbers_in slots.now) }
 {
     let mut all = Listed::with_capacity(alloc, slots.len())?;

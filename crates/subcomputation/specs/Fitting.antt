@@ -1,6 +1,6 @@
 -- Whether a task, or a content that is offered, fits the program and the node that it comes to.
-use Rattle.std.specs.Prelude.{ℕ, ℤ, ◌&&◌, ◌+◌, not, Bool, true, false, nat_eq, List, [], ◌∷◌, ◌++◌, length, Option, None, Some, is_some, map}
-use Rattle.std.specs.List.{list_all, filter, flat_map}
+use Rattle.std.specs.Prelude.{ℕ, ℤ, ◌&&◌, ◌+◌, not, Bool, true, false, IsTrue, nat_eq, List, [], ◌∷◌, ◌++◌, length, Option, None, Some, is_some, map}
+use Rattle.std.specs.List.{AllByRecursion, list_all, filter, flat_map}
 use Rattle.ids.specs.declared.outcome.Progress.{Progress}
 use Rattle.ids.specs.declared.outcome.Progress.TheVariants.{Active, Finished}
 use Rattle.ids.specs.declared.returns.Return.{Return}
@@ -28,6 +28,12 @@ frame_fits p f = is_arity (arity_of p f.thread) (length f.slots)
 
 abbrev pub record_fits : Program → Record → Bool
 record_fits p r = task_fits p r.task
+
+-- what a content holds fits a program: each frame has a thread that is there, and as many slots as it takes, and so has each
+-- record's task
+pub record Fits (p : Program) (c : Content) : Type 0 where
+  pub frames : AllByRecursion (λ f. IsTrue (frame_fits p f)) c.frames
+  pub records : AllByRecursion (λ r. IsTrue (record_fits p r)) c.records
 
 -- the empty slots of frame n, from slot j on
 abbrev pub empty_from : ℕ → ℕ → List (Option ℤ) → List Return

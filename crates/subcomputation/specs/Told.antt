@@ -1,5 +1,8 @@
 -- What a call of a subcomputation tells: the change of its content, as one of it.
-use Rattle.std.specs.Prelude.{◌≡◌, Option, None, Some, Result, Ok, Err}
+use Rattle.std.specs.Prelude.{◌≡◌, List, Option, None, Some, Result, Ok, Err}
+use Rattle.ids.specs.Names.{Grant}
+use Rattle.ids.specs.declared.work.Record.{Record}
+use Rattle.victim_records.specs.Records.{record_in}
 use Rattle.sub_rules.specs.declared.change.Change.{Change}
 use Rattle.sub_rules.specs.declared.change.DoneAgain.{DoneAgain}
 use Rattle.sub_rules.specs.declared.change.GivenAway.{GivenAway}
@@ -35,3 +38,11 @@ IsCarriedOut s expected (Ok c) = carried_out s expected ≡ Ok c
 IsCarriedOut s expected (Err Stale) = expected ≡ Err Stale
 IsCarriedOut s expected (Err Spent) = expected ≡ Err Spent
 IsCarriedOut s expected (Err Memory) = Unit {0}
+
+-- records of no grant but those of which there were some
+abbrev pub HasNoOthers : List Record → List Record → Type 0
+HasNoOthers before after = (g : Grant) → record_in g before ≡ None → record_in g after ≡ None
+
+-- and of one more
+abbrev pub HasNoOthersBut : Grant → List Record → List Record → Type 0
+HasNoOthersBut granted before after = (g : Grant) → (g ≡ granted → ⊥) → record_in g before ≡ None → record_in g after ≡ None

@@ -1,8 +1,10 @@
 //! Subcomputations: what a grant's task became at the node that holds it.
 #![tactic(auto)]
 
+mod laws;
 mod sub;
 #[cfg(test)]
 mod tests;
 
+pub use laws::{fitting_tasks_are_few, renaming_keeps_fitting};
 pub use sub::{Again, Changed, Given, Sub};

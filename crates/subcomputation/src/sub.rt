@@ -1,11 +1,18 @@
-ghost use Rattle.std.specs.Prelude.{◌≡◌, IfOk, Some, None, map};
+ghost use Rattle.std.specs.Prelude.{◌≡◌, false, IsErrOf, IfOk, IfSome, IsTrue, Some, None, is_some, map, [], ◌∷◌};
+ghost use Rattle.ids.specs.Slots.{numbers_in};
+ghost use Rattle.task_syntax.specs.declared.tree.Program.{Program};
+ghost use Rattle.kind_check.specs.Total.{TurnFits};
 ghost use Rattle.victim_records.specs.Records.{record_in};
-ghost use Rattle.sub_rules.specs.Carrying.{exec};
+ghost use Rattle.frames.specs.Frames.{frame_in};
+ghost use Rattle.sub_rules.specs.Carrying.{exec, is_stale_of};
+ghost use Rattle.sub_rules.specs.declared.change.SubError.TheVariants.{Memory};
 ghost use Rattle.sub_rules.specs.Changes.{closed_in, given_away, done_again, with_parent, with_thief};
 ghost use Rattle.sub_rules.specs.Content.{first_frame, ready_in};
 ghost use Rattle.sub_rules.specs.Debts.{IsSound};
 ghost use Rattle.subcomputation.specs.Subs.{granted_sub, name_of_sub, with_content};
-ghost use Rattle.subcomputation.specs.Told.{IsCarriedOut, changed, changed_by, given_by, again_by};
+ghost use Rattle.subcomputation.specs.Fitting.{Fits, task_fits};
+ghost use Rattle.sub_rules.specs.Readiness.{TellsReady};
+ghost use Rattle.subcomputation.specs.Told.{HasNoOthers, HasNoOthersBut, IsCarriedOut, changed, changed_by, given_by, again_by};
 
 use body_eval::Done;
 use frames::Frames;
@@ -75,22 +82,14 @@ impl Sub {
     /// The subcomputation that a granted task begins: one frame, number 0, for the host that granted it; refused for want of
     /// memory alone.
     pub fn granted(alloc: Global, grant: GrantId, task: Task) -> Result<Sub, AllocError>
-        ensures { IfOk result (λ s. s ≡ granted_sub grant task) }
+        ensures granted { IfOk result (λ s. s ≡ granted_sub grant task) }
+        ensures fits { (p : Program) → IsTrue (task_fits p task) → IfOk result (λ s. Fits p s.content) }
     {
         sub_rules::granted_contents_are_sound();
-        let mut frames = Frames::new(alloc);
-        frames.insert(first_frame(alloc, &task)?)?;
         Ok(Sub {
             grant,
             hop: Hop::of(0),
-            content: Content {
-                parent: grant.minter(),
-                progress: Progress::Active,
-                task,
-                next: FrameNo::of(1),
-                frames,
-                records: Records::new(alloc),
-            },
+            content: sub_rules::granted(alloc, grant.minter(), task)?,
         })
     }
 
@@ -116,15 +115,31 @@ impl Sub {
         &self.content
     }
 
+    /// Whether the frame of a number is there, and ready. Takes no memory.
+    pub fn is_ready(&self, number: FrameNo) -> bool
+        ensures { result ≡ is_some (ready_in number self.now.content) }
+    {
+        match self.content.frames.get(number) {
+            Some(frame) => all_filled(frame.slots.as_slice()),
+            None => false,
+        }
+    }
+
     /// Carries out the frame `number` by a turn that was evaluated, beside this subcomputation: it stays as it is, and the
     /// one after the turn is answered. E40 exactly where the frame isn't ready with that thread and those numbers, E62
     /// where the numbers of a join pass 2^32 - 1, E9 where there is no memory.
     pub fn exec(&self, alloc: Global, number: FrameNo, done: &Done) -> Result<Changed, SubError>
-        ensures { IsCarriedOut self.now (exec done.now number self.now.content) result }
+        ensures answer { IsCarriedOut self.now (exec done.now number self.now.content) result }
+        ensures starved { IsErrOf result Memory → is_stale_of done.now (frame_in number self.now.content.frames) ≡ false }
+        ensures ready { IfOk result (λ c. TellsReady self.now.content c.after.content c.ready) }
+        ensures records { IfOk result (λ c. HasNoOthers self.now.content.records c.after.content.records) }
+        ensures fits { (p : Program) → Fits p self.now.content → TurnFits p done.now.turn → IfOk result (λ c. Fits p c.after.content) }
     {
         if sub_rules::is_stale(&self.content, number, done) {
             return Err(SubError::Stale);
         }
+        sub_rules::turns_tell_what_is_ready();
+        self.content.frames.stand_in_order();
         let change = sub_rules::exec(alloc, self.content.clone()?, number, done)?;
         Ok(self.changed(change))
     }
@@ -137,11 +152,17 @@ impl Sub {
         grant: GrantId,
         outcome: Outcome,
     ) -> Result<Option<Changed>, AllocError>
-        ensures { IfOk result (λ o. o ≡ changed_by self.now (closed_in outcome self.now.content (record_in grant self.now.content.records))) }
+        ensures change { IfOk result (λ o. o ≡ changed_by self.now (closed_in outcome self.now.content (record_in grant self.now.content.records))) }
+        ensures ready { IfOk result (λ o. IfSome o (λ c. TellsReady self.now.content c.after.content c.ready)) }
+        ensures records { IfOk result (λ o. IfSome o (λ c. HasNoOthers self.now.content.records c.after.content.records)) }
+        ensures fits { (p : Program) → Fits p self.now.content → IfOk result (λ o. IfSome o (λ c. Fits p c.after.content)) }
     {
         if self.content.records.get(grant).is_none() {
             return Ok(None);
         }
+        sub_rules::results_tell_what_is_ready();
+        self.content.frames.stand_in_order();
+        self.content.records.stand_in_order();
         match sub_rules::close(alloc, self.content.clone()?, grant, outcome)? {
             Some(change) => Ok(Some(self.changed(change))),
             None => Ok(None),
@@ -158,8 +179,14 @@ impl Sub {
         thief: Incarnation,
     ) -> Result<Option<Given>, AllocError>
         requires { record_in grant self.now.content.records ≡ None }
-        ensures { IfOk result (λ o. o ≡ given_by self.now (given_away grant thief self.now.content (ready_in number self.now.content))) }
+        ensures given { IfOk result (λ o. o ≡ given_by self.now (given_away grant thief self.now.content (ready_in number self.now.content))) }
+        ensures ready { IfOk result (λ o. IfSome o (λ g. TellsReady self.now.content g.after.content [])) }
+        ensures records { IfOk result (λ o. IfSome o (λ g. HasNoOthersBut grant self.now.content.records g.after.content.records)) }
+        ensures fits { (p : Program) → Fits p self.now.content → IfOk result (λ o. IfSome o (λ g. Fits p g.after.content)) }
+        ensures task { (p : Program) → Fits p self.now.content → IfOk result (λ o. IfSome o (λ g. IsTrue (task_fits p g.task))) }
     {
+        sub_rules::grants_tell_what_is_ready();
+        self.content.frames.stand_in_order();
         match sub_rules::grant_out(alloc, self.content.clone()?, number, grant, thief)? {
             Some(given) => Ok(Some(Given {
                 after: self.with_content(given.after),
@@ -172,11 +199,17 @@ impl Sub {
     /// Closes a record without an outcome, beside this subcomputation: its frame is ready again, under its old number. None
     /// where there is no record of the grant; refused for want of memory alone.
     pub fn redo(&self, alloc: Global, grant: GrantId) -> Result<Option<Again>, AllocError>
-        ensures { IfOk result (λ o. o ≡ again_by self.now (done_again self.now.content (record_in grant self.now.content.records))) }
+        ensures again { IfOk result (λ o. o ≡ again_by self.now (done_again self.now.content (record_in grant self.now.content.records))) }
+        ensures ready { IfOk result (λ o. IfSome o (λ a. TellsReady self.now.content a.after.content (a.ready ∷ []))) }
+        ensures records { IfOk result (λ o. IfSome o (λ a. HasNoOthers self.now.content.records a.after.content.records)) }
+        ensures fits { (p : Program) → Fits p self.now.content → IfOk result (λ o. IfSome o (λ a. Fits p a.after.content)) }
     {
         if self.content.records.get(grant).is_none() {
             return Ok(None);
         }
+        sub_rules::frames_done_again_are_told();
+        self.content.frames.stand_in_order();
+        self.content.records.stand_in_order();
         match sub_rules::redo(alloc, self.content.clone()?, grant)? {
             Some(again) => Ok(Some(Again {
                 after: self.with_content(again.after),
@@ -229,26 +262,13 @@ impl Sub {
     }
 }
 
-/// The frame in which a task begins.
-fn first_frame(alloc: Global, task: &Task) -> Result<Frame, AllocError>
-    ensures { IfOk result (λ f. f ≡ first_frame task.now) }
+/// Whether a number is in each slot.
+fn all_filled(slots: &[Option<i64>]) -> bool
+    ensures { result ≡ is_some (numbers_in slots.now) }
 {
-    Ok(Frame {
-        number: FrameNo::of(0),
-        place: task.place.clone()?,
-        thread: task.thread,
-        slots: all_given(alloc, task.numbers.as_slice())?,
-        returns: Return::Whole,
-    })
-}
-
-/// Slots that all hold a number.
-fn all_given(alloc: Global, numbers: &[i64]) -> Result<Listed<Option<i64>>, AllocError>
-    ensures { IfOk result (λ slots. slots ≡ map Some numbers.now) }
-{
-    let mut slots = Listed::with_capacity(alloc, numbers.len())?;
-    for number in numbers {
-        slots.push(Some(*number))?;
+    match slots {
+        [] => true,
+        [Some(_), rest @ ..] => all_filled(rest),
+        _ => false,
     }
-    Ok(slots)
 }

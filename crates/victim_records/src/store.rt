@@ -5,6 +5,7 @@ ghost use Rattle.victim_records.specs.Records.{record_in, put_record, without_re
 
 use ids::{Change, GrantId, Incarnation, Listed, Record, Store};
 use std::alloc::{AllocError, Global};
+use std::collections::btree_map::Values;
 use std::marker::Model;
 
 /// The open records of one subcomputation, each grant once. Contracts see the list of them, by rising grant.
@@ -39,6 +40,13 @@ impl Records {
         ensures { result ≡ length self.now }
     {
         self.records.len()
+    }
+
+    /// The records, by rising grant.
+    pub fn values(&self) -> Values<'_, (u64, u64), Record>
+        ensures { result ≡ self.now }
+    {
+        self.records.values()
     }
 
     /// The records stand by rising grant, each grant once. Does nothing.

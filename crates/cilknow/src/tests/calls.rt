@@ -1,8 +1,8 @@
 use crate::{CommandFault, SoloFault};
-use body_eval::{Done, Slot, Turn, turn};
+use body_eval::{Slot, Turn, turn};
 use kind_check::{Checked, KindError, KindFault, check};
 use serial_meaning::{Job, JobError, Outcome, SerialError, serial};
-use std::alloc::{AllocError, Global};
+use std::alloc::Global;
 use std::test::Fail;
 use task_syntax::{ParseError, parse, print};
 
@@ -45,27 +45,6 @@ fn a_turn_joins(rt: HostRuntime) -> Result<(), Fail> {
     let job = fib_job(rt.alloc(), &[5])?;
     let turn = turn(rt.alloc(), job.checked(), job.main(), job.input())?;
     assert!(rt; joins_kids(&turn));
-    Ok(())
-}
-
-fn done_of(alloc: Global, job: &Job) -> Result<Done, AllocError> {
-    let numbers = Vec::from_slice(alloc, job.input())?;
-    Done::of(alloc, job.checked(), job.main(), numbers)
-}
-
-/// Whether a turn that is done sends 1, on 1.
-fn sends_one(done: Done) -> bool {
-    done.thread() == 0
-        && done.numbers() == [1].as_slice()
-        && matches!(done.turn(), Turn::Sends(1))
-        && matches!(done.into_turn(), Turn::Sends(1))
-}
-
-#[test]
-fn a_done_keeps_its_turn(rt: HostRuntime) -> Result<(), Fail> {
-    let job = fib_job(rt.alloc(), &[1])?;
-    let done = done_of(rt.alloc(), &job)?;
-    assert!(rt; sends_one(done));
     Ok(())
 }
 
@@ -118,6 +97,7 @@ fn refusals_are_printed(rt: HostRuntime) -> Result<(), Fail> {
         ),
         (SoloFault::Input(JobError::InputArity), "E21"),
         (SoloFault::TurnsSpent, "E95"),
+        (SoloFault::NumbersSpent, "E62"),
         (SoloFault::Memory, "E9"),
     ] {
         assert_eq!(rt; format!(in alloc; "{fault}")?.as_str(), want);
@@ -143,61 +123,5 @@ fn refusals_are_printed(rt: HostRuntime) -> Result<(), Fail> {
         format!(in alloc; "{}", JobError::InputArity)?.as_str(),
         "E21"
     );
-    Ok(())
-}
-
-/// A thread of eight numbers with eight kids on eight numbers each, the numbers turned by one more from kid to kid.
-const WIDE: &[u8] = b"thread main(k,a,b,c,d,e,f,g,h){spawn_next sum(k,?p,?q,?r,?s,?t,?u,?v,?w);\
-    spawn sum(p,a,b,c,d,e,f,g,h);spawn sum(q,b,c,d,e,f,g,h,a);spawn sum(r,c,d,e,f,g,h,a,b);spawn sum(s,d,e,f,g,h,a,b,c);\
-    spawn sum(t,e,f,g,h,a,b,c,d);spawn sum(u,f,g,h,a,b,c,d,e);spawn sum(v,g,h,a,b,c,d,e,f);spawn sum(w,h,a,b,c,d,e,f,g);}\
-    thread sum(k,a,b,c,d,e,f,g,h){send_argument(k,a+b+c+d+e+f+g+h);}";
-
-/// What the thread runs on, twice.
-const TURNED: [i64; 16] = [1, 2, 3, 4, 5, 6, 7, 8, 1, 2, 3, 4, 5, 6, 7, 8];
-
-/// Whether the slot at an index awaits the kid of its hole.
-fn awaits_turned(slot: &Slot, index: usize) -> bool {
-    match slot {
-        Slot::Awaits(kid) => {
-            let numbers = kid.arguments.as_slice();
-            kid.hole as usize == index.wrapping_add(1)
-                && kid.thread == 1
-                && numbers.len() == 8
-                && numbers
-                    .iter()
-                    .zip(TURNED.iter().skip(index))
-                    .all(|(a, b)| a == b)
-        }
-        Slot::Filled(_) => false,
-    }
-}
-
-/// Whether a turn joins the eight kids.
-fn joins_eight(turn: &Turn) -> bool {
-    match turn {
-        Turn::Joins(1, slots) => {
-            let slots = slots.as_slice();
-            slots.len() == 8
-                && slots
-                    .iter()
-                    .enumerate()
-                    .all(|(i, slot)| awaits_turned(slot, i))
-        }
-        _ => false,
-    }
-}
-
-#[test]
-fn a_turn_joins_eight_kids(rt: HostRuntime) -> Result<(), Fail> {
-    let alloc = rt.alloc();
-    let checked = check(alloc, parse(alloc, WIDE)?)?;
-    let job = Job::new(
-        checked,
-        Vec::from_slice(alloc, &[1, 2, 3, 4, 5, 6, 7, 8])?,
-        1,
-    )?;
-    let reached = turn(alloc, job.checked(), job.main(), job.input())?;
-    assert!(rt; joins_eight(&reached));
-    assert!(rt; joins_eight(done_of(alloc, &job)?.turn()));
     Ok(())
 }

@@ -1,0 +1,237 @@
+-- How many bytes a format writes at most, of what can be written. A packet that is neither a roster nor an offer takes fewer than are allowed.
+use Rattle.std.proofs.Common.{◌≡◌, ℕ, zero, suc, ◌+◌, ◌*◌, ◌^◌, ◌≤◌, Bool, true, false, not, eqb, leb, ltb, List, [], ◌∷◌, ◌++◌, length, reverse, Option, Some, None, ap, ◌∙◌, arith}
+use Rattle.std.specs.Prelude.{◌&&◌}
+use Rattle.std.proofs.lemmas.Bool.{and_parts, leb-true}
+use Rattle.std.proofs.lemmas.List.{length-append}
+use Rattle.std.proofs.Math.Nat.{mul-le-mul_left, mul-suc}
+use Rattle.std.specs.Int.{w64, cast_unsigned}
+use Rattle.byteorder.specs.Endian.{big_bytes}
+use Rattle.byteorder.specs.Numbers.{length-bytes_high_first}
+use Rattle.ids.specs.Names.{is_actor, is_counted, is_worker}
+use Rattle.ids.specs.declared.outcome.Outcome.TheVariants.{Value, TooDeep}
+use Rattle.packet_fields.specs.declared.fault.Fault.{Fault}
+use Rattle.packet_fields.specs.declared.fault.Fault.TheVariants as fault
+use Rattle.packet_fields.specs.Format.{Format, at_most, chosen, followed, listed, made, never, nothing, number, of_part, plain, tested, variant}
+use Rattle.packet_fields.specs.Fields as field
+use Rattle.codec.specs.declared.body.Body.{Body}
+use Rattle.codec.specs.declared.body.Body.TheVariants as body
+use Rattle.codec.specs.Table.{PacketOf, Spells, abort, beat, fields, fits_body, granted, is_packet, is_short, join, kind_of, leave, offer_ack, packet, refuse, result_ack, steal, suits, task_result, write_body}
+use Rattle.codec.proofs.TableLaws.{is_written}
+
+-- of what can be written, at most so many bytes are
+pub record AtMost {X : Type 0} (most : ℕ) (F : Format X) : Type 0 where
+  pub bytes : (x : X) → F.fits x ≡ true → length (F.write x) ≤ most
+
+-- ---- the words of formats
+
+number_bytes : (n : ℕ) → AtMost n (number n)
+number_bytes n = record { bytes = λ x f. omega (arith, length-bytes_high_first n x) }
+
+tested_bytes : {X : Type 0} (most : ℕ) (fault : Fault) (F : Format X) (test : X → Bool) → AtMost most F → AtMost most (tested fault F test)
+tested_bytes most fault F test bound = record { bytes = λ x f. bound.bytes x (and_parts (F.fits x) (test x) f).0 }
+
+followed_bytes : {X Y : Type 0} (m n : ℕ) (F : Format X) (G : X → Format Y) → AtMost m F → ((x : X) → AtMost n (G x)) → AtMost (m + n) (followed F G)
+followed_bytes m n F G bound bounds = record {
+  bytes = λ p f.
+      let h = and_parts (F.fits p.0) ((G p.0).fits p.1) f in
+      omega (arith, length-append (F.write p.0) ((G p.0).write p.1), bound.bytes p.0 h.0, (bounds p.0).bytes p.1 h.1);
+}
+
+made_bytes : {X Y : Type 0} (most : ℕ) (F : Format X) (make : X → Y) (parts : Y → X) → AtMost most F → AtMost most (made F make parts)
+made_bytes most F make parts bound = record { bytes = λ y f. bound.bytes (parts y) f }
+
+nothing_bytes : {Y : Type 0} (most : ℕ) (y : Y) (test : Y → Bool) → AtMost most (nothing y test)
+nothing_bytes most y test = record { bytes = λ x f. omega arith }
+
+never_bytes : {Y : Type 0} (most : ℕ) (fault : Fault) → AtMost most (never {Y = Y} fault)
+never_bytes most fault = record { bytes = λ x f. omega arith }
+
+part_bytes : {X : Type 0} (most : ℕ) (F : Format X) (o : Option X) → AtMost most F → of_part false F.fits o ≡ true → length (of_part [] F.write o) ≤ most
+part_bytes most F None bound f = omega arith
+part_bytes most F (Some x) bound f = bound.bytes x f
+
+variant_bytes : {X Y : Type 0} (most : ℕ) (F : Format X) (make : X → Y) (part : Y → Option X) → AtMost most F → AtMost most (variant F make part)
+variant_bytes most F make part bound = record { bytes = λ y f. part_bytes most F (part y) bound f }
+
+chosen_bytes : {T Y : Type 0} (m n : ℕ) (F : Format T) (arm : T → Format Y) (tag : Y → T) → AtMost m F → ((t : T) → AtMost n (arm t)) → AtMost (m + n) (chosen F arm tag)
+chosen_bytes m n F arm tag bound bounds = record {
+  bytes = λ y f.
+      let h = and_parts (F.fits (tag y)) ((arm (tag y)).fits y) f in
+      omega (arith, length-append (F.write (tag y)) ((arm (tag y)).write y), bound.bytes (tag y) h.0, (bounds (tag y)).bytes y h.1);
+}
+
+plain_bytes : {X : Type 0} (each : ℕ) (F : Format X) → AtMost each F → (count : ℕ) (xs : List X) → (plain F count).fits xs ≡ true → length ((plain F count).write xs) ≤ each * count
+plain_bytes each F bound zero xs f = omega arith
+plain_bytes each F bound (suc count) [] f = omega arith
+plain_bytes each F bound (suc count) (x ∷ xs) f =
+    let h = and_parts (F.fits x) ((plain F count).fits xs) f in
+    omega (arith, mul-suc each count, length-append (F.write x) ((plain F count).write xs), bound.bytes x h.0, plain_bytes each F bound count xs h.1)
+
+listed_bytes : {X : Type 0} (n most each : ℕ) (F : Format X) → AtMost each F → AtMost (n + each * most) (listed n (at_most most) (plain F))
+listed_bytes n most each F bound = record {
+  bytes = λ xs f.
+      let count : ℕ = length xs in
+      let h = and_parts (ltb count (256 ^ n) && leb count most) ((plain F count).fits xs) f in
+      let few : count ≤ most = leb-true count most (and_parts (ltb count (256 ^ n)) (leb count most) h.0).1 in
+      omega (arith, length-append (big_bytes n count) ((plain F count).write xs), length-bytes_high_first n count, plain_bytes each F bound count xs h.1, mul-le-mul_left each few);
+}
+
+-- ---- fields
+
+worker_bytes : AtMost 8 field.worker
+unfolding field.worker
+worker_bytes = tested_bytes 8 fault.Field (number 8) is_worker (number_bytes 8)
+
+actor_bytes : AtMost 8 field.actor
+unfolding field.actor
+actor_bytes = tested_bytes 8 fault.Field (number 8) is_actor (number_bytes 8)
+
+counted_bytes : AtMost 8 field.counted
+unfolding field.counted
+counted_bytes = tested_bytes 8 fault.Field (number 8) is_counted (number_bytes 8)
+
+hop_bytes : AtMost 4 field.hop
+unfolding field.hop
+hop_bytes = number_bytes 4
+
+grant_bytes : AtMost 16 field.grant
+unfolding field.grant
+grant_bytes =
+    made_bytes 16 (followed field.actor (λ minter. field.counted)) (λ p. record { minter = p.0; number = p.1 }) (λ g. (g.minter, g.number))
+    (followed_bytes 8 8 field.actor (λ minter. field.counted) actor_bytes (λ minter. counted_bytes))
+
+step_bytes : AtMost 1 field.step
+unfolding field.step
+step_bytes = tested_bytes 1 fault.Field (number 1) (λ s. ltb s 9) (number_bytes 1)
+
+-- a place of 1,024 steps
+place_bytes : AtMost 1026 field.place
+unfolding field.place field.steps
+place_bytes = made_bytes 1026 field.steps reverse reverse (listed_bytes 2 1024 1 field.step step_bytes)
+
+thread_bytes : AtMost 1 field.thread
+unfolding field.thread
+thread_bytes = tested_bytes 1 fault.Field (number 1) (λ t. ltb t 64) (number_bytes 1)
+
+signed_bytes : AtMost 8 field.signed
+unfolding field.signed
+signed_bytes = record { bytes = λ z f. omega (arith, length-bytes_high_first 8 (cast_unsigned w64 z)) }
+
+-- eight numbers
+numbers_bytes : AtMost 65 field.numbers
+unfolding field.numbers
+numbers_bytes = listed_bytes 1 8 8 field.signed signed_bytes
+
+task_bytes : AtMost 1092 field.task
+unfolding field.task
+task_bytes =
+    made_bytes 1092 (followed field.place (λ _. followed field.thread (λ _. field.numbers))) (λ x. record { place = x.0; thread = x.1.0; numbers = x.1.1 }) (λ t. (t.place, (t.thread, t.numbers)))
+    (followed_bytes 1026 66 field.place (λ _. followed field.thread (λ _. field.numbers)) place_bytes (λ _. followed_bytes 1 65 field.thread (λ _. field.numbers) thread_bytes (λ _. numbers_bytes)))
+
+arm_bytes : (tag : ℕ) → AtMost 8 (field.outcome_arm tag)
+arm_bytes zero = never_bytes 8 fault.Field
+arm_bytes (suc zero) = variant_bytes 8 field.signed Value field.value_in signed_bytes
+arm_bytes (suc (suc zero)) = nothing_bytes 8 TooDeep field.is_too_deep
+arm_bytes (suc (suc (suc n))) = never_bytes 8 fault.Field
+
+outcome_bytes : AtMost 9 field.outcome
+unfolding field.outcome
+outcome_bytes = chosen_bytes 1 8 (number 1) field.outcome_arm field.tag_of_outcome (number_bytes 1) arm_bytes
+
+-- ---- kinds
+
+join_bytes : AtMost 8 join
+unfolding join
+join_bytes = made_bytes 8 field.worker (λ x. record { from = x }) (λ b. b.from) worker_bytes
+
+steal_bytes : AtMost 16 steal
+unfolding steal
+steal_bytes =
+    made_bytes 16 (followed field.worker (λ _. field.counted)) (λ x. record { from = x.0; seq = x.1 }) (λ b. (b.from, b.seq))
+    (followed_bytes 8 8 field.worker (λ _. field.counted) worker_bytes (λ _. counted_bytes))
+
+granted_bytes : AtMost 1116 granted
+unfolding granted
+granted_bytes =
+    made_bytes 1116 (followed field.counted (λ _. followed field.grant (λ _. field.task))) (λ x. record { seq = x.0; grant = x.1.0; task = x.1.1 }) (λ b. (b.seq, (b.grant, b.task)))
+    (followed_bytes 8 1108 field.counted (λ _. followed field.grant (λ _. field.task)) counted_bytes (λ _. followed_bytes 16 1092 field.grant (λ _. field.task) grant_bytes (λ _. task_bytes)))
+
+refuse_bytes : AtMost 8 refuse
+unfolding refuse
+refuse_bytes = made_bytes 8 field.counted (λ x. record { seq = x }) (λ b. b.seq) counted_bytes
+
+result_bytes : AtMost 33 task_result
+unfolding task_result
+result_bytes =
+    made_bytes 33 (followed field.worker (λ _. followed field.grant (λ _. field.outcome))) (λ x. record { from = x.0; grant = x.1.0; outcome = x.1.1 }) (λ b. (b.from, (b.grant, b.outcome)))
+    (followed_bytes 8 25 field.worker (λ _. followed field.grant (λ _. field.outcome)) worker_bytes (λ _. followed_bytes 16 9 field.grant (λ _. field.outcome) grant_bytes (λ _. outcome_bytes)))
+
+result_ack_bytes : AtMost 16 result_ack
+unfolding result_ack
+result_ack_bytes = made_bytes 16 field.grant (λ x. record { grant = x }) (λ b. b.grant) grant_bytes
+
+offer_ack_bytes : AtMost 28 offer_ack
+unfolding offer_ack
+offer_ack_bytes =
+    made_bytes 28 (followed field.worker (λ _. followed field.grant (λ _. field.hop))) (λ x. record { from = x.0; grant = x.1.0; hop = x.1.1 }) (λ b. (b.from, (b.grant, b.hop)))
+    (followed_bytes 8 20 field.worker (λ _. followed field.grant (λ _. field.hop)) worker_bytes (λ _. followed_bytes 16 4 field.grant (λ _. field.hop) grant_bytes (λ _. hop_bytes)))
+
+leave_bytes : AtMost 16 leave
+unfolding leave
+leave_bytes =
+    made_bytes 16 (followed field.worker (λ own. field.other_worker own)) (λ x. record { from = x.0; heir = x.1 }) (λ b. (b.from, b.heir))
+    (followed_bytes 8 8 field.worker (λ own. field.other_worker own) worker_bytes (λ own. tested_bytes 8 fault.Field field.worker (λ heir. not (eqb heir own)) worker_bytes))
+
+abort_bytes : AtMost 16 abort
+unfolding abort
+abort_bytes = made_bytes 16 field.grant (λ x. record { grant = x }) (λ b. b.grant) grant_bytes
+
+beat_bytes : AtMost 16 beat
+unfolding beat
+beat_bytes =
+    made_bytes 16 (followed field.worker (λ _. field.counted)) (λ x. record { from = x.0; version = x.1 }) (λ b. (b.from, b.version))
+    (followed_bytes 8 8 field.worker (λ _. field.counted) worker_bytes (λ _. counted_bytes))
+
+-- the fields of a short body: a grant's are the most
+body_bytes : (b : Body) → is_short b ≡ true → fits_body b ≡ true → length (write_body b) ≤ 1116
+body_bytes (body.Join b) short f = omega (arith, join_bytes.bytes b f)
+body_bytes (body.Roster b) short f = absurd cc
+body_bytes (body.Steal b) short f = omega (arith, steal_bytes.bytes b f)
+body_bytes (body.Grant b) short f = granted_bytes.bytes b f
+body_bytes (body.Refuse b) short f = omega (arith, refuse_bytes.bytes b f)
+body_bytes (body.Result b) short f = omega (arith, result_bytes.bytes b f)
+body_bytes (body.ResultAck b) short f = omega (arith, result_ack_bytes.bytes b f)
+body_bytes (body.Offer b) short f = absurd cc
+body_bytes (body.OfferAck b) short f = omega (arith, offer_ack_bytes.bytes b f)
+body_bytes (body.Leave b) short f = omega (arith, leave_bytes.bytes b f)
+body_bytes (body.Abort b) short f = omega (arith, abort_bytes.bytes b f)
+body_bytes (body.Beat b) short f = omega (arith, beat_bytes.bytes b f)
+
+-- ---- packets
+
+pieces : (a b c d e f : List ℕ) → length (a ++ (b ++ (c ++ (d ++ (e ++ f))))) ≡ length a + (length b + (length c + (length d + (length e + length f))))
+pieces a b c d e f = simp length-append
+
+-- a short packet has at most 1,136 bytes
+packet_bytes : (p : PacketOf) → is_packet p ≡ true → is_short p.body ≡ true → length (packet.write p) ≤ 1136
+unfolding packet fields
+packet_bytes p whole short =
+    let kind : ℕ = kind_of p.body in
+    let rest = and_parts (ltb p.job (2 ^ 64)) (suits kind p.to && fits_body p.body) whole in
+    let fits : fits_body p.body ≡ true = (and_parts (suits kind p.to) (fits_body p.body) rest.1).1 in
+    omega (
+      arith,
+      pieces (big_bytes 2 0x434E) (big_bytes 1 1) (big_bytes 1 kind) (big_bytes 8 p.job) (big_bytes 8 p.to) (write_body p.body),
+      length-bytes_high_first 2 0x434E,
+      length-bytes_high_first 1 1,
+      length-bytes_high_first 1 kind,
+      length-bytes_high_first 8 p.job,
+      length-bytes_high_first 8 p.to,
+      body_bytes p.body short fits,
+    )
+
+-- what is written for a short packet is its spelling, and not too much
+pub is_written_short : (p : PacketOf) (old out : List ℕ) → old ≡ [] → out ≡ old ++ packet.write p → packet.fits p ≡ true → is_packet p ≡ true → is_short p.body ≡ true → Spells out p
+is_written_short p old out none e fits whole short =
+    let same : out ≡ packet.write p = e ∙ ap (λ (front : List ℕ). front ++ packet.write p) none in
+    is_written p old out none e fits (omega (arith, ap length same, packet_bytes p whole short))

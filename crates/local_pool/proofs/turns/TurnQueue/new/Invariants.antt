@@ -1,0 +1,13 @@
+use Rattle.std.proofs.Common.{◌≡◌, ◌+◌, [], All, vec_len}
+use Rattle.crossbeam_queue.specs.Passes.{view, IsPassOf}
+use Rattle.local_pool.proofs.turns.TurnQueue.new.Given as goal
+
+abbrev pub invariant-loop : goal.invariant-loop
+invariant-loop g l = record {
+  own : IsPassOf l.line l.seat;
+  parts : (view l.seat).parts + l.counter ≡ 1025;
+  put : (view l.seat).put ≡ [];
+  taken : (view l.seat).taken ≡ [];
+  dealt : vec_len l.dealt ≡ l.counter;
+  blank : All (λ p. (p.queue ≡ l.line.table.shared.table_id) × (p.put ≡ []) × (p.taken ≡ [])) l.dealt.items;
+}

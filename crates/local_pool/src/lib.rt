@@ -1,0 +1,17 @@
+//! The pool of a node: tickets that its owner offers and that body workers steal without waiting, each handed out once, and
+//! the queue by which finished turns come back, first in, first out.
+#![tactic(auto)]
+
+mod lane;
+mod law;
+mod owner;
+mod pool;
+#[cfg(test)]
+mod tests;
+mod turns;
+mod worker;
+
+pub use owner::Owner;
+pub use pool::LocalPool;
+pub use turns::{TurnKeeper, TurnPass, TurnQueue};
+pub use worker::BodyWorker;

@@ -1,0 +1,174 @@
+//! A node's own calls.
+ghost use Rattle.std.specs.Prelude.{◌≡◌, ◌+◌, ◌++◌, ◌^◌, nat_lt, if◌then◌else◌, Some, None, OnOk, IfOk, IfErr, IsErrOf};
+ghost use Rattle.std.specs.List.{flat_map};
+ghost use Rattle.node_core.specs.Calls as calls;
+ghost use Rattle.node_core.specs.Moves as moves;
+ghost use Rattle.node_state.specs.Node.{NodeOf};
+ghost use Rattle.node_core.specs.Meeting.{MayStarve, Meets, spelled};
+ghost use Rattle.node_core.specs.declared.error.NodeError.TheVariants.{Memory};
+
+use crate::error::NodeError;
+use crate::node::Node;
+use crate::parts::{Step, Victim};
+use crate::rosters::{says_live, status_of};
+use crate::sending::{alone, send, send_results, sends};
+use body_eval::Done;
+use codec::{Beat, Join, Packet, Roster, Steal};
+use ids::{Actor, Count, FrameNo, GrantId, Incarnation, Listed};
+use node_state::{Parts, State};
+use serial_meaning::Job;
+use std::alloc::{AllocError, Global};
+
+impl<'a> Node<'a> {
+    /// Asks a victim for work, which is another worker that the roster shows live, or the clearinghouse. E60 where the node isn't
+    /// joined or has ended, or the victim isn't such a one; E61 where a request is pending; E62 where no count of requests is
+    /// left; E63 where there is no memory. A refusal changes nothing.
+    #[tactic(auto, unfolding(crate::specs::Calls::ask, node_state::specs::Node::by_state))]
+    pub fn ask(&mut self, alloc: Global, victim: Victim) -> Result<Step, NodeError>
+        ensures answer { Meets (calls.ask self.old.job victim self.old.node) result self.old self.new }
+        ensures starved { IsErrOf result Memory → MayStarve (calls.ask self.old.job victim self.old.node) }
+    {
+        let State::Member(roster) = self.parts.state() else {
+            return Err(NodeError::NotJoined);
+        };
+        let Some(to) = address_of(roster, self.parts.incarnation(), victim) else {
+            return Err(NodeError::NotJoined);
+        };
+        if self.parts.asker().pending().is_some() {
+            return Err(NodeError::Busy);
+        }
+        let Some(seq) = self.next_seq() else {
+            return Err(NodeError::Spent);
+        };
+        let steal = Steal {
+            from: self.parts.incarnation(),
+            seq,
+        };
+        let sent = alone(alloc, &Packet::steal(self.job.number(), to, steal))?;
+        self.parts.ask(to)?;
+        Ok(sends(alloc, sent))
+    }
+
+    /// The count of the next request; none where as many were made as are counted.
+    fn next_seq(&self) -> Option<Count>
+        ensures { result ≡ (if nat_lt (self.now.node.asker.asked + 1) (2 ^ 64) then Some (self.now.node.asker.asked + 1) else None) }
+    {
+        let asked = self.parts.asker().asked().checked_add(1)?;
+        Count::of(asked)
+    }
+
+    /// Carries out a ready frame of a grant's subcomputation by a turn that was evaluated, of this job's program. E60 where the
+    /// node isn't joined or has ended; E40 where the frame isn't ready here with that thread and those numbers; E62 where no
+    /// frame numbers are left; E63 where there is no memory. A refusal changes nothing.
+    #[tactic(auto, unfolding(crate::specs::Calls::exec, crate::specs::Cases::by_option, node_state::specs::Node::by_state))]
+    pub fn exec(
+        &mut self,
+        alloc: Global,
+        grant: GrantId,
+        frame: FrameNo,
+        done: &Done,
+    ) -> Result<Step, NodeError>
+        requires { done.now.program ≡ self.old.job.program }
+        ensures answer { Meets (calls.exec self.old.job done.now grant frame self.old.node) result self.old self.new }
+        ensures starved { IsErrOf result Memory → MayStarve (calls.exec self.old.job done.now grant frame self.old.node) }
+    {
+        let State::Member(_) = self.parts.state() else {
+            return Err(NodeError::NotJoined);
+        };
+        let Some(sub) = self.parts.sub(grant) else {
+            return Err(NodeError::Stale);
+        };
+        let _ = done.turn();
+        let changed = sub.exec(alloc, frame, done)?;
+        self.change(alloc, Listed::new(alloc), changed)
+    }
+
+    /// Sends again what isn't answered yet: a joining node its Join, a member its Beat, its pending Steal, and the Result of each
+    /// finished subcomputation, by rising grant. E60 where the node has ended, E63 where there is no memory. It changes nothing.
+    #[tactic(auto, unfolding(crate::specs::Calls::resend, node_state::specs::Node::by_state))]
+    pub fn resend(&self, alloc: Global) -> Result<Step, NodeError>
+        ensures answer { Meets (calls.resend self.now.job self.now.node) result self.now self.now }
+        ensures starved { IsErrOf result Memory → MayStarve (calls.resend self.now.job self.now.node) }
+    {
+        self.parts.nothing_goes();
+        match self.parts.state() {
+            State::Joining => {
+                let join = Join {
+                    from: self.parts.incarnation(),
+                };
+                let sent = alone(alloc, &Packet::join(self.job.number(), join))?;
+                Ok(sends(alloc, sent))
+            }
+            State::Member(roster) => {
+                let sent = self.unanswered(alloc, roster)?;
+                Ok(sends(alloc, sent))
+            }
+            State::Leaving(_, _) | State::Ended => Err(NodeError::NotJoined),
+        }
+    }
+
+    /// What a member sends again.
+    fn unanswered(&self, alloc: Global, roster: &Roster) -> Result<Listed<Listed<u8>>, NodeError>
+        ensures sent { IfOk result (λ sent. sent ≡ spelled (calls.member_resend self.now.job self.now.node roster.now)) }
+        ensures memory { IfErr result (λ e. e ≡ Memory) }
+    {
+        let beat = Beat {
+            from: self.parts.incarnation(),
+            version: roster.version,
+        };
+        let mut sent = alone(alloc, &Packet::beat(self.job.number(), roster.epoch, beat))?;
+        if let Some(request) = self.parts.asker().pending() {
+            let steal = Steal {
+                from: self.parts.incarnation(),
+                seq: request.seq,
+            };
+            send(
+                alloc,
+                &mut sent,
+                &Packet::steal(self.job.number(), request.victim, steal),
+            )?;
+        }
+        send_all_results(
+            alloc,
+            self.job,
+            &mut sent,
+            self.parts.incarnation(),
+            &self.parts,
+        )?;
+        Ok(sent)
+    }
+}
+
+/// Whom a request to a victim goes to; none where it may not be asked: a worker may that is another one and is shown live, and the
+/// clearinghouse always.
+fn address_of(roster: &Roster, own: Incarnation, victim: Victim) -> Option<Actor>
+    ensures { (n : NodeOf) → n.incarnation ≡ own → result ≡ (if calls.may_ask roster.now n victim then Some (calls.address_of roster.now victim) else None) }
+{
+    match victim {
+        Victim::Worker(worker) => {
+            let to = Actor::worker(worker);
+            if worker.word() != own.word() && says_live(status_of(roster.members.as_slice(), to)) {
+                Some(to)
+            } else {
+                None
+            }
+        }
+        Victim::House => Some(roster.epoch.house()),
+    }
+}
+
+/// Adds the Results of the subcomputations that are finished.
+fn send_all_results(
+    alloc: Global,
+    job: &Job,
+    sent: &mut Listed<Listed<u8>>,
+    from: Incarnation,
+    parts: &Parts,
+) -> Result<(), AllocError>
+    ensures { OnOk result (sent.new ≡ sent.old ++ spelled (flat_map (moves.results job.now from) parts.now.node.subs)) }
+{
+    for sub in parts.subs() {
+        send_results(alloc, job, sent, from, sub)?;
+    }
+    Ok(())
+}

@@ -1,0 +1,139 @@
+ghost use Rattle.std.specs.Prelude.{◌≡◌, Some, None, OnOk, IfOk, IfErr, option_copied, IsTrue, true, false, [], ◌∷◌, nat_eq, ◌&&◌};
+ghost use Rattle.ids.specs.Members.{status_in, is_live};
+ghost use Rattle.serial_meaning.specs.Job.{meaning_of};
+ghost use Rattle.steal_protocol.specs.declared.asker.Request as asking;
+ghost use Rattle.node_core.specs.Calls as calls;
+ghost use Rattle.node_core.specs.Cases as cases;
+ghost use Rattle.node_core.specs.Choosing.{own_choice};
+ghost use Rattle.node_core.specs.Meeting.{Meets, spelled};
+ghost use Rattle.node_core.specs.declared.error.NodeError.TheVariants.{Memory};
+ghost use Rattle.node_core.specs.Moves as moves;
+ghost use Rattle.node_core.specs.Staying as staying;
+ghost use Rattle.node_core.specs.Steps.{Does, quiet};
+
+use crate::error::NodeError;
+use crate::parts::Step;
+use crate::rosters::status_of;
+use crate::sending::{alone, ignored};
+use codec::{Body, Join, Packet, ReadError, Roster, decode};
+use ids::{Incarnation, Listed, Status};
+use node_state::{Parts, State};
+use serial_meaning::Job;
+use std::alloc::{AllocError, Global};
+use std::marker::Model;
+
+/// The case of a body, by where the node stands. No node leaves yet.
+macro_rules! on_case {
+    ($node:ident, $alloc:ident, $body:ident; $($kind:ident: $joining:ident, $member:ident, $ended:ident;)*) => {
+        match $body {
+            $(Body::$kind(packet) => match $node.parts.state() {
+                State::Joining => case!($joining, $node, $alloc, packet),
+                State::Member(_) => case!($member, $node, $alloc, packet),
+                State::Leaving(_, _) | State::Ended => case!($ended, $node, $alloc, packet),
+            },)*
+        }
+    };
+}
+
+/// One case: a packet is ignored, or a method does what it says.
+macro_rules! case {
+    (ignored, $node:ident, $alloc:ident, $packet:ident) => {
+        Ok(ignored($alloc))
+    };
+    ($case:ident, $node:ident, $alloc:ident, $packet:ident) => {
+        $node.$case($alloc, $packet)
+    };
+}
+
+/// A node of a job: what it holds, and what each packet and each call does at it. Contracts see the job, the node and the
+/// posts of its ready frames.
+#[derive(Drop)]
+pub struct Node<'a> {
+    pub(crate) job: &'a Job,
+    pub(crate) parts: Parts,
+}
+
+impl<'a> Model for Node<'a> {
+    ghost use Rattle.std.specs.Coded.{codes as known};
+    ghost use Rattle.task_syntax.specs.contracts.tree.Expr as expr;
+    ghost use Rattle.task_syntax.specs.contracts.tree.Block as block;
+    ghost use Rattle.task_syntax.specs.contracts.tree.End as end;
+    ghost use Rattle.node_core.specs.Meeting.{NodeOn, IsNode};
+
+    ghost Value = { NodeOn };
+
+    ghost coded = { Prim.hlevel (known, expr.the_row.coded, block.the_row.coded, end.the_row.coded) };
+
+    ghost view = { λ n. record { job = n.job.now; node = n.parts.node; posts = n.parts.posts } };
+
+    ghost invariant = { λ n. IsNode (record { job = n.job.now; node = n.parts.node; posts = n.parts.posts }) };
+}
+
+impl<'a> Node<'a> {
+    /// A node that starts, and the Join with which it asks to be listed; refused for want of memory alone (E63).
+    pub fn start(
+        alloc: Global,
+        job: &'a Job,
+        incarnation: Incarnation,
+    ) -> Result<(Node<'a>, Step), NodeError>
+        ensures node { IfOk result (λ r. r.0 ≡ record { job = job.now; node = (calls.start job.now incarnation).after; posts = [] }) }
+        ensures step { IfOk result (λ r. r.1 ≡ record { sent = spelled (calls.start job.now incarnation).sent; fills = []; ignored = false }) }
+        ensures memory { IfErr result (λ e. e ≡ Memory) }
+    {
+        let join = Packet::join(job.number(), Join { from: incarnation });
+        let sent = alone(alloc, &join)?;
+        let node = Node {
+            job,
+            parts: Parts::new(alloc, incarnation),
+        };
+        Ok((
+            node,
+            Step {
+                sent,
+                fills: Listed::new(alloc),
+                ignored: false,
+            },
+        ))
+    }
+
+    /// What comes in a packet's bytes is done, by the kind of the packet and by where the node stands. Bytes that are no packet
+    /// are refused (E30 to E36), also by a node that has ended; a packet of another job, or to somebody else, is ignored. E62
+    /// where a request would be granted and no grant is left to mint, E63 where there is no memory. A refusal changes nothing.
+    #[tactic(auto, unfolding(crate::specs::Staying::on_packet_staying))]
+    pub fn on_bytes(&mut self, alloc: Global, bytes: &[u8]) -> Result<Step, NodeError>
+        ensures { Meets (staying.on_bytes_staying self.old.job (own_choice self.old.posts) bytes.now self.old.node) result self.old self.new }
+    {
+        let packet = match decode(alloc, bytes) {
+            Ok(packet) => packet,
+            Err(ReadError::Fault(fault)) => return Err(NodeError::Bytes(fault)),
+            Err(ReadError::Memory) => return Err(NodeError::Memory),
+        };
+        if packet.job() != self.job.number()
+            || packet.to().word() != self.parts.incarnation().word()
+        {
+            return Ok(ignored(alloc));
+        }
+        self.on_body(alloc, packet.into_body())
+    }
+
+    /// The table: a row for each kind, and a column for a joining node, a member and an ended one.
+    #[tactic(auto, unfolding(crate::specs::Staying::on_body_staying, crate::specs::Cases::on_body, node_state::specs::Node::by_state))]
+    fn on_body(&mut self, alloc: Global, body: Body) -> Result<Step, NodeError>
+        ensures { Meets (staying.on_body_staying self.old.job (own_choice self.old.posts) body self.old.node) result self.old self.new }
+    {
+        on_case! { self, alloc, body;
+            Join: ignored, ignored, ignored;
+            Roster: joining_roster, member_roster, ignored;
+            Steal: ignored, member_steal, ignored;
+            Grant: ignored, member_grant, ignored;
+            Refuse: ignored, member_refuse, ignored;
+            Result: ignored, member_result, ignored;
+            ResultAck: ignored, member_result_ack, ignored;
+            Offer: ignored, ignored, ignored;
+            OfferAck: ignored, ignored, ignored;
+            Leave: ignored, ignored, ignored;
+            Abort: ignored, member_abort, ignored;
+            Beat: ignored, ignored, ignored;
+        }
+    }
+}

@@ -1,0 +1,151 @@
+//! What a node shows of itself.
+ghost use Rattle.std.specs.Prelude.{◌≡◌, ◌==◌, IfOk, IfErr, map};
+ghost use Rattle.frames.specs.Frames.{missing_in};
+ghost use Rattle.node_core.specs.Views as views;
+ghost use Rattle.node_core.specs.declared.error.NodeError.TheVariants.{Memory};
+
+use crate::error::NodeError;
+use crate::node::Node;
+use frames::Frames;
+use ids::{FrameNo, GrantId, Hop, Listed, Progress};
+use node_state::State;
+use std::alloc::{AllocError, Global};
+use sub_rules::numbers_in;
+use subcomputation::Sub;
+use victim_records::Records;
+
+/// A ready frame: the grant of its subcomputation, its number there, the thread that is to run, and the numbers that the
+/// thread takes.
+#[derive(Drop)]
+pub struct Work {
+    pub grant: GrantId,
+    pub frame: FrameNo,
+    pub thread: u8,
+    pub numbers: Listed<i64>,
+}
+
+/// A subcomputation, as it is shown: its grant, how often it had moved when it came, how far it is, the numbers of its ready
+/// frames and of those that wait, and the grants of its open records.
+#[derive(Drop)]
+pub struct SubView {
+    pub grant: GrantId,
+    pub hop: Hop,
+    pub progress: Progress,
+    pub ready: Listed<FrameNo>,
+    pub waiting: Listed<FrameNo>,
+    pub open: Listed<GrantId>,
+}
+
+impl<'a> Node<'a> {
+    /// The work that comes after so many others, from the deepest level on and in a level the newest first; none where fewer
+    /// frames are ready. Refused for want of memory alone (E63).
+    pub fn ready_at(&self, alloc: Global, index: usize) -> Result<Option<Work>, NodeError>
+        ensures work { IfOk result (λ o. o ≡ views.work_at self.now.node self.now.posts index) }
+        ensures memory { IfErr result (λ e. e ≡ Memory) }
+    {
+        let State::Member(_) = self.parts.state() else {
+            return Ok(None);
+        };
+        let Some(post) = self.parts.posts().at(index) else {
+            return Ok(None);
+        };
+        let Some(sub) = self.parts.sub(post.grant) else {
+            return Ok(None);
+        };
+        Ok(work_in(alloc, post.grant, sub, post.frame)?)
+    }
+
+    /// The subcomputations that it holds, by rising grant. Refused for want of memory alone (E63).
+    pub fn subs(&self, alloc: Global) -> Result<Listed<SubView>, NodeError>
+        ensures subs { IfOk result (λ s. s ≡ map views.view_of self.now.node.subs) }
+        ensures memory { IfErr result (λ e. e ≡ Memory) }
+    {
+        let mut shown = Listed::new(alloc);
+        for sub in self.parts.subs() {
+            shown.push(view_of(alloc, sub)?)?;
+        }
+        Ok(shown)
+    }
+}
+
+/// The work of a frame, if it is ready.
+fn work_in(
+    alloc: Global,
+    grant: GrantId,
+    sub: &Sub,
+    number: FrameNo,
+) -> Result<Option<Work>, AllocError>
+    ensures { IfOk result (λ o. o ≡ views.work_in grant number sub.now.content) }
+{
+    let Some(frame) = sub.content().frames.get(number) else {
+        return Ok(None);
+    };
+    let Some(numbers) = numbers_in(alloc, frame.slots.as_slice())? else {
+        return Ok(None);
+    };
+    Ok(Some(Work {
+        grant,
+        frame: number,
+        thread: frame.thread,
+        numbers,
+    }))
+}
+
+/// A subcomputation, as it is shown.
+fn view_of(alloc: Global, sub: &Sub) -> Result<SubView, AllocError>
+    ensures { IfOk result (λ v. v ≡ views.view_of sub.now) }
+{
+    let content = sub.content();
+    Ok(SubView {
+        grant: sub.grant(),
+        hop: sub.hop(),
+        progress: content.progress,
+        ready: ready_numbers(alloc, &content.frames)?,
+        waiting: waiting_numbers(alloc, &content.frames)?,
+        open: open_grants(alloc, &content.records)?,
+    })
+}
+
+/// The numbers of the frames that are ready.
+fn ready_numbers(alloc: Global, frames: &Frames) -> Result<Listed<FrameNo>, AllocError>
+    ensures { IfOk result (λ numbers. numbers ≡ views.ready_numbers frames.now) }
+{
+    let mut numbers = Listed::new(alloc);
+    for frame in frames.values() {
+        if is_full(frame.slots.as_slice()) {
+            numbers.push(frame.number)?;
+        }
+    }
+    Ok(numbers)
+}
+
+/// The numbers of the frames that wait.
+fn waiting_numbers(alloc: Global, frames: &Frames) -> Result<Listed<FrameNo>, AllocError>
+    ensures { IfOk result (λ numbers. numbers ≡ views.waiting_numbers frames.now) }
+{
+    let mut numbers = Listed::new(alloc);
+    for frame in frames.values() {
+        if !is_full(frame.slots.as_slice()) {
+            numbers.push(frame.number)?;
+        }
+    }
+    Ok(numbers)
+}
+
+/// The grants of open records.
+fn open_grants(alloc: Global, records: &Records) -> Result<Listed<GrantId>, AllocError>
+    ensures { IfOk result (λ grants. grants ≡ views.open_grants records.now) }
+{
+    let mut grants = Listed::new(alloc);
+    for record in records.values() {
+        grants.push(record.grant)?;
+    }
+    Ok(grants)
+}
+
+/// Whether no slot is empty.
+fn is_full(slots: &[Option<i64>]) -> bool
+    ensures { result ≡ (missing_in slots.now == 0) }
+{
+    slots.iter().filter(|slot| slot.is_none()).count() == 0
+}

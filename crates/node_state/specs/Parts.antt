@@ -1,0 +1,96 @@
+-- A node and its posts, and what holds of them between its calls.
+use Rattle.std.specs.Prelude.{◌≡◌, ◌<◌, ℕ, ◌&&◌, Bool, nat_eq, List, [], Option, None, Some, IsSome, map, sum_by}
+use Rattle.ids.specs.Names.{Grant}
+use Rattle.ids.specs.Place.{level_of}
+use Rattle.level_deques.specs.declared.posts.Post.{Post}
+use Rattle.victim_records.specs.Records.{record_in}
+use Rattle.sub_rules.specs.Debts.{one_if}
+use Rattle.sub_rules.specs.Readiness.{TellsReady}
+use Rattle.sub_rules.specs.declared.change.Readied.{Readied}
+use Rattle.subcomputation.specs.Subs.{SubOf, ReadyIn, sub_in}
+use Rattle.node_state.specs.Node.{NodeOf, hop_in}
+use Rattle.node_state.specs.Posts.{ReadyFrame, ready_at, posts_after}
+use Rattle.node_state.specs.declared.parts.State.{State}
+use Rattle.node_state.specs.declared.parts.State.TheVariants.{Joining, Member, Leaving, Ended}
+
+-- a node, and its ready frames in the order in which they are posted
+pub record PartsOf : Type 0 where
+  pub node : NodeOf
+  pub posts : List Post
+
+abbrev pub same_grant : Grant → Grant → Bool
+same_grant g h = nat_eq g.minter h.minter && nat_eq g.number h.number
+
+-- 1 where two posts are the same, else 0
+abbrev pub is_same_post : Post → Post → ℕ
+is_same_post p q = one_if (same_grant p.grant q.grant && (nat_eq p.frame q.frame && nat_eq p.level q.level))
+
+-- how many posts are this one
+abbrev pub times_posted : Post → List Post → ℕ
+times_posted p posts = sum_by (is_same_post p) posts
+
+-- 1 where a post is that of a ready frame, at the level of its place, else 0
+abbrev pub is_post_at : Post → Option ReadyFrame → ℕ
+is_post_at p None = 0
+is_post_at p (Some f) = one_if (nat_eq p.level (level_of f.ready.frame.place))
+
+-- each ready frame has one post, at the level of its place, and there are no others
+pub record ArePosts (n : NodeOf) (posts : List Post) : Type 0 where
+  pub each : (p : Post) → times_posted p posts ≡ is_post_at p (ready_at n p.grant p.frame)
+
+-- a node that isn't joined, or has ended, holds nothing
+abbrev pub HoldsByState : State → List SubOf → Type 0
+HoldsByState Joining subs = subs ≡ []
+HoldsByState (Member r) subs = Unit {0}
+HoldsByState (Leaving r heir) subs = Unit {0}
+HoldsByState Ended subs = subs ≡ []
+
+-- what a node holds was taken here
+abbrev pub AreTaken : NodeOf → Type 0
+AreTaken n = (g : Grant) (s : SubOf) → sub_in g n.subs ≡ Some s → IsSome (hop_in g n.seen)
+
+-- no record has a grant that is still to be minted here
+abbrev pub IsFresh : NodeOf → Grant → Type 0
+IsFresh n h = (h.minter ≡ n.incarnation) × (n.minted < h.number)
+
+abbrev pub AreMinted : NodeOf → Type 0
+AreMinted n = (h : Grant) → IsFresh n h → (g : Grant) (s : SubOf) → sub_in g n.subs ≡ Some s → record_in h s.content.records ≡ None
+
+-- what holds of a node's parts between its calls
+pub record AreParts (parts : PartsOf) : Type 0 where
+  pub posts : ArePosts parts.node parts.posts
+  pub holds : HoldsByState parts.node.state parts.node.subs
+  pub taken : AreTaken parts.node
+  pub minted : AreMinted parts.node
+
+-- a node that may be a member: it is joining or is one
+abbrev pub MayBeMember : State → Type 0
+MayBeMember Joining = Unit {0}
+MayBeMember (Member r) = Unit {0}
+MayBeMember (Leaving r heir) = ⊥
+MayBeMember Ended = ⊥
+
+abbrev pub IsMember : State → Type 0
+IsMember Joining = ⊥
+IsMember (Member r) = Unit {0}
+IsMember (Leaving r heir) = ⊥
+IsMember Ended = ⊥
+
+-- a subcomputation in the place of one that a member holds, and the frames that became ready in it
+pub record IsNext (n : NodeOf) (s : SubOf) (told : List Readied) : Type 0 where
+  pub member : IsMember n.state
+  pub before : SubOf
+  pub there : sub_in s.grant n.subs ≡ Some before
+  pub ready : TellsReady before.content s.content told
+
+-- it has no record of a grant of which it had none
+abbrev pub HasNoNewRecord : NodeOf → SubOf → Type 0
+HasNoNewRecord n s = (h : Grant) → IsFresh n h → record_in h s.content.records ≡ None
+
+-- frames of a subcomputation, as ready frames of the node
+abbrev pub ready_of : Grant → List Readied → List ReadyIn
+ready_of g told = map (λ r. record { grant = g; frame = r }) told
+
+-- a node after a step, with its posts
+abbrev pub with_posts : NodeOf → List ReadyIn → List Post → PartsOf
+with_posts after became posts = record { node = after; posts = posts_after after became posts }

@@ -1,0 +1,373 @@
+ghost use Rattle.std.specs.Prelude.{◌≡◌, ◌<◌, ◌+◌, ◌^◌, ℕ, OnOk, OnErr, IfOk, IfSome, IsSome, None, Some, option_copied, is_some, []};
+ghost use Rattle.std.specs.List.{filter};
+ghost use Rattle.ids.specs.declared.member.Status as declared;
+ghost use Rattle.sub_rules.specs.declared.change.Readied as readied;
+ghost use Rattle.subcomputation.specs.Subs.{sub_in, host_in, put_sub, without_sub, ready_frames};
+ghost use Rattle.steal_protocol.specs.Requests.{asked, IsAsked, without_request, settled};
+ghost use Rattle.steal_protocol.specs.Replies.{put_reply};
+ghost use Rattle.node_state.specs.Node.{starting, ended, hop_in, holding, put_seen, name_of_seen};
+ghost use Rattle.node_state.specs.Posts.{posted_all, posts_after, ready_of_sub};
+ghost use Rattle.sub_rules.specs.Changes.{readied_in};
+ghost use Rattle.ids.specs.Naming.{name_of_frame, name_of_grant};
+ghost use Rattle.ids.specs.Names.{Grant};
+ghost use Rattle.ids.specs.Ordered.{AreInOrder};
+ghost use Rattle.subcomputation.specs.Subs.{SubOf};
+ghost use Rattle.node_state.specs.declared.parts.State.TheVariants.{Member};
+ghost use Rattle.node_state.specs.Parts.{ArePosts, MayBeMember, IsMember, IsNext, HasNoNewRecord, IsFresh, ready_of, with_posts};
+
+use crate::parts::{Confirmed, Seen, State};
+use codec::Roster;
+use ids::{Actor, GrantId, Hop, Incarnation, Listed, Named, Status, Store};
+use level_deques::{Post, PostTest, Posts};
+use std::alloc::{AllocError, Global};
+use std::collections::btree_map::Values;
+use std::marker::Model;
+use steal_protocol::{AskError, Asker, Replies, Reply, Request};
+use sub_rules::Readied;
+use subcomputation::Sub;
+
+/// The name under which what a grant names is kept.
+fn name_of(grant: GrantId) -> (u64, u64)
+    ensures { result ≡ name_of_grant grant }
+{
+    (grant.minter().word(), grant.number())
+}
+
+/// A taken grant's name is the grant's.
+impl Named for Seen {
+    ghost name_of = { name_of_seen };
+
+    fn name(&self) -> (u64, u64) {
+        name_of(self.grant)
+    }
+}
+
+/// The parts of a node, and the posts of its ready frames: each ready frame of a subcomputation that isn't frozen has one
+/// post, of the level of its place, and there are no others. Contracts see the node and its posts.
+#[derive(Drop)]
+pub struct Parts {
+    alloc: Global,
+    incarnation: Incarnation,
+    state: State,
+    subs: Store<Sub>,
+    asker: Asker,
+    minted: u64,
+    replies: Replies,
+    confirmed: Listed<Confirmed>,
+    seen: Store<Seen>,
+    posts: Posts,
+}
+
+impl Model for Parts {
+    ghost use Rattle.node_state.specs.Node.{NodeOf};
+    ghost use Rattle.node_state.specs.declared.parts.State.TheVariants.{Member};
+    ghost use Rattle.node_state.specs.Parts.{PartsOf, AreParts};
+
+    ghost Value = { PartsOf };
+
+    ghost view = { λ p. record { node = record { incarnation = p.incarnation; state = p.state; subs = p.subs; asker = p.asker; minted = p.minted; replies = p.replies; confirmed = p.confirmed; seen = p.seen }; posts = p.posts } };
+
+    ghost invariant = { λ p. AreParts (record { node = record { incarnation = p.incarnation; state = p.state; subs = p.subs; asker = p.asker; minted = p.minted; replies = p.replies; confirmed = p.confirmed; seen = p.seen }; posts = p.posts }) };
+}
+
+impl Parts {
+    /// A node that starts; takes no memory.
+    pub fn new(alloc: Global, incarnation: Incarnation) -> Parts
+        ensures { result ≡ record { node = starting incarnation; posts = [] } }
+    {
+        Parts {
+            alloc,
+            incarnation,
+            state: State::Joining,
+            subs: Store::new(alloc),
+            asker: Asker::new(),
+            minted: 0,
+            replies: Replies::new(alloc),
+            confirmed: Listed::new(alloc),
+            seen: Store::new(alloc),
+            posts: Posts::new(alloc),
+        }
+    }
+
+    /// Its name.
+    pub fn incarnation(&self) -> Incarnation
+        ensures { result ≡ self.now.node.incarnation }
+    {
+        self.incarnation
+    }
+
+    /// Where it stands.
+    pub fn state(&self) -> &State
+        ensures { result.now ≡ self.now.node.state }
+    {
+        &self.state
+    }
+
+    /// Its requests.
+    pub fn asker(&self) -> &Asker
+        ensures { result.now ≡ self.now.node.asker }
+    {
+        &self.asker
+    }
+
+    /// How many grants it has minted.
+    pub fn minted(&self) -> u64
+        ensures { result ≡ self.now.node.minted }
+    {
+        self.minted
+    }
+
+    /// Its last answer to each thief.
+    pub fn replies(&self) -> &Replies
+        ensures { result.now ≡ self.now.node.replies }
+    {
+        &self.replies
+    }
+
+    /// The posts of its ready frames.
+    pub fn posts(&self) -> &Posts
+        ensures same { result.now ≡ self.now.posts }
+        ensures ready { ArePosts self.now.node self.now.posts }
+    {
+        &self.posts
+    }
+
+    /// All posts stay while no subcomputation changes. Does nothing.
+    pub fn nothing_goes(&self)
+        ensures { posts_after self.now.node [] self.now.posts ≡ self.now.posts }
+    {
+        let _ = &self.posts;
+    }
+
+    /// The greatest hop with which a grant was taken, if it was.
+    pub fn hop(&self, grant: GrantId) -> Option<Hop>
+        ensures { result ≡ hop_in grant self.now.node.seen }
+    {
+        let seen = self.seen.get(name_of(grant))?;
+        Some(seen.hop)
+    }
+
+    /// The subcomputation of a grant.
+    pub fn sub(&self, grant: GrantId) -> Option<&Sub>
+        ensures sub { option_copied result ≡ sub_in grant self.now.node.subs }
+        ensures name { IfSome result (λ s. s.now.grant ≡ grant) }
+        ensures minted { IfSome result (λ s. HasNoNewRecord self.now.node s.now) }
+    {
+        let sub = self.subs.get(name_of(grant))?;
+        Some(sub)
+    }
+
+    /// The subcomputations, by rising grant.
+    pub fn subs(&self) -> Values<'_, (u64, u64), Sub>
+        ensures { result ≡ self.now.node.subs }
+    {
+        self.subs.values()
+    }
+
+    /// The subcomputation that has the open record of a grant.
+    pub fn host(&self, grant: GrantId) -> Option<&Sub>
+        ensures host { option_copied result ≡ host_in grant self.now.node.subs }
+        ensures held { IfSome result (λ s. sub_in s.now.grant self.now.node.subs ≡ Some s.now) }
+        ensures minted { IfSome result (λ s. HasNoNewRecord self.now.node s.now) }
+    {
+        self.subs.stand_in_order();
+        let found = find_host(&self.subs, grant)?;
+        Some(found)
+    }
+
+    /// Keeps a roster, as a member's, and forgets a pending request whose victim isn't live by what is said of it.
+    pub fn keep_roster(&mut self, roster: Roster, victim: Option<Status>)
+        requires { MayBeMember self.old.node.state }
+        ensures { self.new ≡ with_posts (record self.old.node { state = Member roster; asker = settled victim self.old.node.asker }) [] self.old.posts }
+    {
+        self.state = State::Member(roster);
+        self.asker.settle(victim);
+    }
+
+    /// Ends: it holds nothing any more.
+    pub fn end(&mut self)
+        ensures { self.new ≡ with_posts (ended self.old.node) [] self.old.posts }
+    {
+        self.state = State::Ended;
+        self.subs = Store::new(self.alloc);
+        self.asker.clear();
+        self.replies = Replies::new(self.alloc);
+        self.confirmed = Listed::new(self.alloc);
+        self.seen = Store::new(self.alloc);
+        self.posts = Posts::new(self.alloc);
+    }
+
+    /// Makes a request of a victim: E61 where one waits for its answer, E62 where no count is left. A refusal changes nothing.
+    pub fn ask(&mut self, victim: Actor) -> Result<Request, AskError>
+        ensures asked { IsAsked (asked victim self.old.node.asker) self.old.node.asker self.new.node.asker result }
+        ensures rest { self.new ≡ with_posts (record self.old.node { asker = self.new.node.asker }) [] self.old.posts }
+    {
+        self.asker.ask(victim)
+    }
+
+    /// The request has its answer.
+    pub fn clear_request(&mut self)
+        ensures { self.new ≡ with_posts (record self.old.node { asker = without_request self.old.node.asker }) [] self.old.posts }
+    {
+        self.asker.clear();
+    }
+
+    /// Keeps an answer to a thief; refused for want of memory alone, which changes nothing.
+    pub fn answer(&mut self, reply: Reply) -> Result<(), AllocError>
+        ensures ok { OnOk result (self.new ≡ with_posts (record self.old.node { replies = put_reply reply self.old.node.replies }) [] self.old.posts) }
+        ensures err { OnErr result (self.new ≡ self.old) }
+    {
+        self.replies.keep(reply)?;
+        Ok(())
+    }
+
+    /// Puts a subcomputation in the place of the one that a member holds under its grant, and posts the frames that became
+    /// ready in it; refused for want of memory alone, which changes nothing.
+    pub fn change(&mut self, after: Sub, ready: &[Readied]) -> Result<(), AllocError>
+        requires next { IsNext self.old.node after ready.now }
+        requires records { HasNoNewRecord self.old.node after }
+        ensures ok { OnOk result (self.new ≡ with_posts (record self.old.node { subs = put_sub after self.old.node.subs }) (ready_of after.grant ready.now) self.old.posts) }
+        ensures err { OnErr result (self.new ≡ self.old) }
+    {
+        let posts = posted(&self.posts, after.grant(), ready)?;
+        frames_stand_in_order(&self.subs, after.grant());
+        stands_in_order(&after);
+        self.subs.replace(after);
+        self.posts = posts;
+        withdraw_stale(&mut self.posts, &self.subs);
+        Ok(())
+    }
+
+    /// Puts a subcomputation in the place of the one that a member holds under its grant, after a frame of it was given away
+    /// under the next number, and keeps the answer to the thief; refused for want of memory alone, which changes nothing.
+    pub fn give(&mut self, after: Sub, reply: Reply) -> Result<(), AllocError>
+        requires next { IsNext self.old.node after [] }
+        requires counted { self.old.node.minted + 1 < 2 ^ 64 }
+        requires records { HasNoNewRecord (record self.old.node { minted = self.old.node.minted + 1 }) after }
+        ensures ok { OnOk result (self.new ≡ with_posts (record self.old.node { minted = self.old.node.minted + 1; subs = put_sub after self.old.node.subs; replies = put_reply reply self.old.node.replies }) [] self.old.posts) }
+        ensures err { OnErr result (self.new ≡ self.old) }
+    {
+        self.replies.keep(reply)?;
+        frames_stand_in_order(&self.subs, after.grant());
+        stands_in_order(&after);
+        self.minted += 1;
+        self.subs.replace(after);
+        withdraw_stale(&mut self.posts, &self.subs);
+        Ok(())
+    }
+
+    /// Takes a subcomputation, under a grant that was never taken here, whose frames are `ready`: it answers the pending
+    /// request; refused for want of memory alone, which changes nothing.
+    pub fn take(&mut self, sub: Sub, ready: &[Readied]) -> Result<(), AllocError>
+        requires member { IsMember self.old.node.state }
+        requires never { hop_in sub.grant self.old.node.seen ≡ None }
+        requires ready { ready.now ≡ readied_in sub.content.frames }
+        requires records { HasNoNewRecord self.old.node sub }
+        ensures ok { OnOk result (self.new ≡ with_posts (holding sub (record self.old.node { asker = without_request self.old.node.asker })) (ready_frames sub) self.old.posts) }
+        ensures err { OnErr result (self.new ≡ self.old) }
+    {
+        let posts = posted(&self.posts, sub.grant(), ready)?;
+        stands_in_order(&sub);
+        hold(&mut self.subs, &mut self.seen, sub)?;
+        self.asker.clear();
+        self.posts = posts;
+        withdraw_stale(&mut self.posts, &self.subs);
+        Ok(())
+    }
+
+    /// A member's subcomputation of a grant goes.
+    pub fn remove(&mut self, grant: GrantId)
+        requires { IsMember self.old.node.state }
+        ensures { self.new ≡ with_posts (record self.old.node { subs = without_sub grant self.old.node.subs }) [] self.old.posts }
+    {
+        self.subs.take(name_of(grant));
+        withdraw_stale(&mut self.posts, &self.subs);
+    }
+}
+
+/// The subcomputation that has the open record of a grant.
+fn find_host(subs: &Store<Sub>, grant: GrantId) -> Option<&Sub>
+    ensures { option_copied result ≡ host_in grant subs.now }
+{
+    for sub in subs.values() {
+        if sub.content().records.get(grant).is_some() {
+            return Some(sub);
+        }
+    }
+    None
+}
+
+/// The frames of a subcomputation stand by rising number. Does nothing.
+fn frames_stand_in_order(subs: &Store<Sub>, grant: GrantId)
+    ensures { (s : SubOf) → sub_in grant subs.now ≡ Some s → AreInOrder name_of_frame s.content.frames }
+{
+    if let Some(sub) = subs.get(name_of(grant)) {
+        stands_in_order(sub);
+    }
+}
+
+/// The frames of a subcomputation stand by rising number. Does nothing.
+fn stands_in_order(sub: &Sub)
+    ensures { AreInOrder name_of_frame sub.now.content.frames }
+{
+    sub.content().frames.stand_in_order();
+}
+
+/// The posts, and behind them those of frames of a grant's subcomputation.
+fn posted(posts: &Posts, grant: GrantId, ready: &[Readied]) -> Result<Posts, AllocError>
+    ensures { IfOk result (λ p. p ≡ posted_all (ready_of grant ready.now) posts.now) }
+{
+    let mut all = posts.clone()?;
+    for frame in ready {
+        all.post(Post {
+            level: frame.level,
+            grant,
+            frame: frame.frame,
+        })?;
+    }
+    Ok(all)
+}
+
+/// Takes the posts away of what isn't ready any more.
+fn withdraw_stale(posts: &mut Posts, subs: &Store<Sub>)
+    ensures { posts.new ≡ filter (λ p. is_some (ready_of_sub p.frame (sub_in p.grant subs.now))) posts.old }
+{
+    posts.retain(&StillReady { subs })
+}
+
+/// Puts a subcomputation under its grant, and remembers with which hop it came, where it never did; want of memory changes
+/// neither.
+fn hold(subs: &mut Store<Sub>, seen: &mut Store<Seen>, sub: Sub) -> Result<(), AllocError>
+    requires { hop_in sub.grant seen.old ≡ None }
+    ensures subs { OnOk result (subs.new ≡ put_sub sub subs.old) }
+    ensures seen { OnOk result (seen.new ≡ put_seen sub.grant sub.hop seen.old) }
+    ensures err { OnErr result ((subs.new ≡ subs.old) × (seen.new ≡ seen.old)) }
+{
+    let grant = sub.grant();
+    seen.put(Seen {
+        grant,
+        hop: sub.hop(),
+    })?;
+    if let Err(refused) = subs.put(sub) {
+        seen.take(name_of(grant));
+        return Err(refused);
+    }
+    Ok(())
+}
+
+/// The test of a post: its frame is ready.
+#[derive(Drop)]
+struct StillReady<'a> {
+    subs: &'a Store<Sub>,
+}
+
+impl PostTest for StillReady<'_> {
+    ghost stays = { λ t p. is_some (ready_of_sub p.frame (sub_in p.grant t.subs.now)) };
+
+    fn stays(&self, post: &Post) -> bool {
+        match self.subs.get(name_of(post.grant)) {
+            Some(sub) => sub.is_ready(post.frame),
+            None => false,
+        }
+    }
+}

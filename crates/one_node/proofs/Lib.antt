@@ -1,0 +1,5 @@
+pub mod Posting
+pub mod Turning
+pub mod Keeping
+pub mod Beginning
+pub mod Ending

@@ -1,0 +1,14 @@
+//! The run of a job on one node.
+#![tactic(auto)]
+
+mod begin;
+mod fault;
+mod laws;
+mod run;
+#[cfg(test)]
+mod tests;
+mod turn;
+
+pub use fault::RunFault;
+pub use laws::runs_end_once;
+pub use run::evaluate;

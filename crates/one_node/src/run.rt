@@ -1,0 +1,26 @@
+ghost use Rattle.one_node.specs.Outcomes.{IsRunOf};
+
+use crate::begin::begun;
+use crate::fault::RunFault;
+use crate::turn::turn;
+use agreement::finished_roots_mean;
+use ids::{Outcome, Progress};
+use serial_meaning::Job;
+use std::alloc::Global;
+
+/// The outcome of a job, which is its meaning, in at most so many turns on one node: of the ready frames the newest of the
+/// greatest level runs, and each body is one turn. Refused as `TurnsSpent` (E95) where more turns are needed, as
+/// `NumbersSpent` (E62) where a turn needs a frame number above 2^32 - 1, and as `Memory` (E9) where there is no memory.
+pub fn evaluate(alloc: Global, job: &Job, turns: u64) -> Result<Outcome, RunFault>
+    ensures { IsRunOf job.now turns result }
+{
+    finished_roots_mean();
+    let mut run = begun(alloc, job)?;
+    for taken in 0..turns {
+        run = turn(alloc, job, run)?;
+        if let Progress::Finished(outcome) = run.content.progress {
+            return Ok(outcome);
+        }
+    }
+    Err(RunFault::TurnsSpent)
+}

@@ -1,0 +1,79 @@
+ghost use Rattle.std.specs.Prelude.{◌≡◌, IfErr, IfOk, IsSome, OnOk, Some};
+ghost use Rattle.sub_rules.specs.Carrying.{exec};
+ghost use Rattle.sub_rules.specs.Debts.{IsSound};
+ghost use Rattle.one_node.specs.Runs.{one_turn, posted_all, run_of};
+ghost use Rattle.one_node.specs.Holding.{Follows, Holds, IsCarried, IsFrame, IsTurnOf, TurnFails};
+
+use crate::begin::{Run, own_grant, post_of};
+use crate::fault::RunFault;
+use agreement::turn_keeps_agreement;
+use body_eval::Done;
+use ids::FrameNo;
+use level_deques::Posts;
+use serial_meaning::Job;
+use std::alloc::{AllocError, Global};
+use sub_rules::{Change, Content, Readied, SubError, exec, numbers_in};
+
+/// One turn of a run that goes on: the newest ready frame of the greatest level runs.
+pub fn turn(alloc: Global, job: &Job, run: Run) -> Result<Run, RunFault>
+    requires { Holds job.now (run_of run) }
+    ensures next { IfOk result (λ next. one_turn job.now.program (run_of run) ≡ Some (run_of next)) }
+    ensures follows { IfOk result (λ next. Follows job.now (run_of next)) }
+    ensures fails { IfErr result (TurnFails job.now (run_of run)) }
+{
+    let Run { content, posts } = run;
+    content.frames.stand_in_order();
+    let frame = posts.deepest().unwrap().frame;
+    let done = evaluated(alloc, job, &content, frame)?;
+    let Change { after, ready, .. } = carried(alloc, content, frame, &done)?;
+    after.frames.stand_in_order();
+    turn_keeps_agreement();
+    let mut posts = posts;
+    posts.withdraw(own_grant(), frame);
+    post_all(&mut posts, ready.as_slice())?;
+    Ok(Run {
+        content: after,
+        posts,
+    })
+}
+
+/// The turn of a frame that is ready.
+fn evaluated(
+    alloc: Global,
+    job: &Job,
+    content: &Content,
+    frame: FrameNo,
+) -> Result<Done, AllocError>
+    requires { IsFrame job.now content.now frame }
+    ensures turn { IfOk result (IsTurnOf content.now frame) }
+    ensures program { IfOk result (λ d. d.program ≡ job.now.program) }
+{
+    let frame = content.frames.get(frame).unwrap();
+    let numbers = numbers_in(alloc, frame.slots.as_slice())?.unwrap();
+    Done::of(alloc, job.checked(), frame.thread, numbers.into_vec())
+}
+
+/// Carries out a frame by a turn of it.
+fn carried(alloc: Global, content: Content, frame: FrameNo, done: &Done) -> Result<Change, RunFault>
+    requires sound { IsSound content }
+    requires turn { IsTurnOf content frame done.now }
+    ensures answer { IsCarried (exec done.now frame content) result }
+    ensures sound { IfOk result (λ change. IsSound change.after) }
+{
+    match exec(alloc, content, frame, done) {
+        Ok(change) => Ok(change),
+        Err(SubError::Spent) => Err(RunFault::NumbersSpent),
+        Err(SubError::Memory) => Err(RunFault::Memory),
+        Err(SubError::Stale) => unreachable!(),
+    }
+}
+
+/// Posts frames that became ready, in this order.
+fn post_all(posts: &mut Posts, ready: &[Readied]) -> Result<(), AllocError>
+    ensures { OnOk result (posts.new ≡ posted_all ready.now posts.old) }
+{
+    for readied in ready {
+        posts.post(post_of(*readied))?;
+    }
+    Ok(())
+}

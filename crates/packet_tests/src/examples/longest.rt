@@ -1,0 +1,42 @@
+ghost use Rattle.std.specs.Prelude.{◌<◌, ◌≤◌, length, IfOk};
+
+use codec::{Grant, Packet, encode, encode_short};
+use ids::{Actor, Count, GrantId, Incarnation, Listed, Place, Task};
+use std::alloc::Global;
+use std::test::Fail;
+
+/// A task as long as one can be: 1,024 steps and 8 numbers.
+fn longest_task(alloc: Global) -> Result<Task, Fail>
+    ensures thread { IfOk result (λ t. t.thread < 64) }
+    ensures numbers { IfOk result (λ t. length t.numbers ≤ 8) }
+{
+    let steps = Listed::from_vec(vec![in alloc; 8u8; 1024]?);
+    let numbers = Listed::from_vec(vec![in alloc; i64::MIN; 8]?);
+    Ok(Task {
+        place: Place::of(steps).ok_or("a place")?,
+        thread: 63,
+        numbers,
+    })
+}
+
+fn worker(word: u64) -> Result<Incarnation, Fail> {
+    Ok(Incarnation::worker(word).ok_or("a worker")?)
+}
+
+/// Its grant, written by both calls: how many bytes each makes, if they are the same.
+fn longest_grant(alloc: Global) -> Result<Option<usize>, Fail> {
+    let task = longest_task(alloc)?;
+    let grant = GrantId::of(Actor::worker(worker(3)?), 5).ok_or("a grant")?;
+    let seq = Count::of(2).ok_or("a count")?;
+    let packet = Packet::grant(7, worker(4)?, Grant { seq, grant, task });
+    let short = encode_short(alloc, &packet)?;
+    let bytes = encode(alloc, &packet)?;
+    Ok((short.as_slice() == bytes.as_slice()).then_some(short.len()))
+}
+
+#[test]
+fn the_longest_short_packet_is_written_alike(rt: HostRuntime) -> Result<(), Fail> {
+    // 20 in front, 24 for the request and the grant, and the task: 2 and 1,024 for the place, 1, and 1 and 64 for the numbers
+    assert_eq!(rt; longest_grant(rt.alloc())?, Some(1136));
+    Ok(())
+}

@@ -1,0 +1,24 @@
+-- Runs: lists of moves in which each change of a content has its cause in the protocol, and turns end as the bodies of the
+-- program do.
+use Rattle.std.specs.Prelude.{[]}
+use Rattle.run_tables.specs.Content.{given}
+use Rattle.run_tables.specs.View.{View, first}
+use Rattle.run_tables.specs.Meaning.{Meaning, Fits}
+use Rattle.run_tables.specs.Causes.{Cause}
+use Rattle.run_tables.specs.Acts.{Act, grants_root, alters}
+
+-- what a move computes is right: a changed content has its cause, and the house grants the job's first task
+abbrev pub Right : (m : Meaning) {v w : View} → Act v w → Type 0
+Right m (grants_root i thief seq c house new may begins) = Fits m [] c.task.thread (λ j. given c.task.numbers j)
+Right m {v} (alters i g s c fill results gone here change is) = Cause m v i g s.content c fill
+Right m act = Unit {0}
+
+-- v comes of a list of moves that are right
+pub data Run (m : Meaning) : View → Type 0 where
+  at_start : Run m first
+  by_right : {v w : View} → Run m v → (act : Act v w) → Right m act → Run m w
+
+-- w comes of v by a list of moves
+pub data Leads (v : View) : View → Type 0 where
+  stays_at : Leads v v
+  leads_on : {w x : View} → Leads v w → Act w x → Leads v x
