@@ -69,15 +69,17 @@ fn thousands_of_posts_are_taken(rt: HostRuntime) -> Result<(), Fail> {
 
 /// Keeps the posts from a level on.
 #[derive(Drop)]
-struct FromLevel(u16);
+struct FromLevel {
+    level: u16,
+}
 
 impl PostTest for FromLevel {
     ghost use Rattle.std.specs.Prelude.{nat_lt, not};
 
-    ghost stays = { λ test post. not (nat_lt post.level test.field-0) };
+    ghost stays = { λ test post. not (nat_lt post.level test.level) };
 
     fn stays(&self, post: &Post) -> bool {
-        post.level >= self.0
+        post.level >= self.level
     }
 }
 
@@ -88,7 +90,7 @@ fn a_test_keeps_posts(rt: HostRuntime) -> Result<(), Fail> {
         posts.post(post(level, 1, 7)?)?;
     }
     let copy = posts.clone()?;
-    posts.retain(&FromLevel(2));
+    posts.retain(&FromLevel { level: 2 });
     assert_eq!(rt; (copy.len(), posts.len()), (4, 2));
     assert_eq!(rt;
         (posts.shallowest(), copy.shallowest()),
