@@ -1,0 +1,84 @@
+ghost use Rattle.std.specs.Prelude.{◌≡◌, ℕ, IfOk, map};
+ghost use Rattle.ids.specs.Members.{resolve};
+ghost use Rattle.heirs.specs.Bearers.{name_of_bearing, bearer_in};
+ghost use Rattle.heirs.specs.Chains.{bearing_of};
+
+mod chains;
+#[cfg(test)]
+mod tests;
+
+use chains::{Chain, after_steps, first_step};
+use ids::{Actor, Incarnation, Member, Named, Store};
+use std::alloc::{AllocError, Global};
+use std::marker::Model;
+
+/// A worker, and who has its work: nobody where it is dead.
+#[derive(Clone, Copy, PartialEq, Eq, Debug)]
+pub struct Bearing {
+    pub worker: Incarnation,
+    pub bearer: Option<Actor>,
+}
+
+/// A bearing's name is its worker.
+impl Named for Bearing {
+    ghost name_of = { name_of_bearing };
+
+    fn name(&self) -> (u64, u64) {
+        (self.worker.word(), 0)
+    }
+}
+
+/// Who has the work of each worker of a roster. Contracts see the table, by rising worker.
+#[derive(Drop)]
+pub struct Bearers {
+    table: Store<Bearing>,
+}
+
+impl Model for Bearers {
+    ghost use Rattle.std.specs.Prelude.{List};
+    ghost use Rattle.heirs.specs.declared.bearers.Bearing.{Bearing};
+
+    ghost Value = { List Bearing };
+
+    ghost view = { λ b. b.table };
+}
+
+impl Bearers {
+    /// Looks through a roster's members once: time about their number, times the square of its logarithm, however long
+    /// the chains of heirs are. Refused for want of memory alone.
+    pub fn of(alloc: Global, members: &[Member]) -> Result<Bearers, AllocError>
+        ensures { IfOk result (λ b. (i : ℕ) → bearer_in i b ≡ resolve members.now i) }
+    {
+        let step = first_step(alloc, members)?;
+        let chains = after_steps(alloc, &step, members.len() + 1)?;
+        Ok(Bearers {
+            table: ends(alloc, &chains)?,
+        })
+    }
+
+    /// Who has a worker's work: itself where it lives or isn't listed, nobody where it is dead, and where it left,
+    /// whoever has its heir's; a circle of heirs ends at nobody.
+    pub fn bearer(&self, worker: Actor) -> Option<Actor>
+        ensures { result ≡ bearer_in worker self.now }
+    {
+        match self.table.get((worker.word(), 0)) {
+            Some(bearing) => bearing.bearer,
+            None => Some(worker),
+        }
+    }
+}
+
+/// Who has the work at the end of each chain.
+fn ends(alloc: Global, chains: &Store<Chain>) -> Result<Store<Bearing>, AllocError>
+    ensures { IfOk result (λ table. table ≡ map bearing_of chains.now) }
+{
+    chains.stand_in_order();
+    let mut table = Store::new(alloc);
+    for chain in chains.values() {
+        table.put(Bearing {
+            worker: chain.worker,
+            bearer: chain.reach.end(),
+        })?;
+    }
+    Ok(table)
+}
