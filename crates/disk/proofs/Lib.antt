@@ -1,0 +1,4 @@
+pub mod Bytes
+pub mod Calls
+pub mod Crashes
+pub mod Writes
