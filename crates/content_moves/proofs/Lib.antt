@@ -1,0 +1,17 @@
+pub mod Entries
+pub mod Rows
+pub mod Apart
+pub mod Records
+pub mod Telling
+pub mod Leaving
+pub mod Arriving
+pub mod Joining
+pub mod Beginning
+pub mod Renaming
+pub mod Granting
+pub mod Carrying
+pub mod Evaluated
+pub mod Rooting
+pub mod Existing
+pub mod Orders
+pub mod Keeping
