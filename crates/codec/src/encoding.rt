@@ -1,4 +1,4 @@
-ghost use Rattle.std.specs.Prelude.{◌≡◌, ◌++◌, IfOk, IsErrOf, IsTrue, OnOk};
+ghost use Rattle.std.specs.Prelude.{◌≡◌, ◌<◌, ◌++◌, IfOk, IsErrOf, IsTrue, OnOk, length};
 ghost use Rattle.codec.specs.Table.{IsTooBig, Spells};
 ghost use Rattle.codec.specs.Table as table;
 ghost use Rattle.codec.specs.declared.encoding.EncodeError.TheVariants.{TooBig};
@@ -65,8 +65,10 @@ fn put(packet: &Packet, out: &mut Vec<u8>) -> Result<(), AllocError>
 pub fn encode(alloc: Global, packet: &Packet) -> Result<Vec<u8>, EncodeError>
     // What is written is the packet's spelling.
     ensures written { IfOk result (λ v. Spells v.items packet.now) }
+    ensures spelled { IfOk result (λ v. v.items ≡ table.packet.write packet.now) }
     // What is too big has a spelling of more bytes than are allowed.
     ensures big { IsErrOf result TooBig → IsTooBig packet.now }
+    ensures long { IsErrOf result TooBig → 1048576 < length (table.packet.write packet.now) }
 {
     let mut out = Vec::with_capacity(alloc, room_for(packet.body()))?;
     put(packet, &mut out)?;

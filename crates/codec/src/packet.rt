@@ -1,9 +1,9 @@
-ghost use Rattle.std.specs.Prelude.{◌≡◌, ◌^◌, ◌<◌, ◌≤◌, length, IsTrue, Some, None, if◌then◌else◌};
+ghost use Rattle.std.specs.Prelude.{◌≡◌, ◌^◌, ◌<◌, ◌≤◌, length, false, nat_eq, IsTrue, Some, None, if◌then◌else◌};
 ghost use Rattle.ids.specs.Names.{house_of};
 ghost use Rattle.codec.specs.Table as table;
 
 use crate::body::{
-    Abort, Beat, Body, Grant, Join, Kind, OfferAck, Refuse, ResultAck, Steal, TaskResult,
+    Abort, Beat, Body, Grant, Join, Kind, Leave, OfferAck, Refuse, ResultAck, Steal, TaskResult,
 };
 use crate::fields::{fields_fit, kind_of};
 use ids::{Actor, Address, Epoch, Incarnation};
@@ -155,6 +155,19 @@ impl Packet {
             job,
             to: Address::actor(epoch.house()),
             body: Body::Beat(beat),
+        }
+    }
+
+    /// A worker tells the clearinghouse in its epoch that it has left to an heir, which is another worker.
+    #[tactic(auto, unfolding(crate::specs::Table::leave, packet_fields::specs::Fields::worker))]
+    pub fn leave(job: u64, epoch: Epoch, leave: Leave) -> Packet
+        requires { nat_eq leave.heir leave.from ≡ false }
+        ensures { result ≡ record { job = job; to = house_of epoch; body = Body.Leave leave } }
+    {
+        Packet {
+            job,
+            to: Address::actor(epoch.house()),
+            body: Body::Leave(leave),
         }
     }
 

@@ -7,3 +7,4 @@ pub mod Serving
 pub mod Returning
 mod Viewing
 pub mod Carrying
+mod Stopping

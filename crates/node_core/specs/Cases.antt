@@ -29,7 +29,7 @@ use Rattle.node_state.specs.declared.parts.State.TheVariants.{Member, Leaving}
 use Rattle.node_state.specs.Posts.{ReadyFrame, ready_at}
 use Rattle.node_core.specs.declared.error.NodeError.TheVariants as error
 use Rattle.node_core.specs.Moves
-use Rattle.node_core.specs.Steps.{Answer, Ignored, Refused, Does, quiet, sends, ◌then◌}
+use Rattle.node_core.specs.Steps.{Answer, Ignored, Refused, Does, StepOf, quiet, sends, ◌then◌}
 
 -- a frame that a thief may be granted, if it is ready
 pub record Choice : Type 0 where
@@ -80,11 +80,13 @@ is_above hop (Some greatest) = nat_lt greatest hop
 module _ (job : JobOf) where
   -- Roster, to a member: it is kept, and what the node holds is recovered by it; then a pending request is forgotten whose
   -- victim isn't live any more
-  abbrev pub member_roster : Roster → Roster → NodeOf → Answer
-  member_roster old new n =
-      by_roster old new n (Does (
+  abbrev pub recovers_by : Roster → NodeOf → StepOf
+  recovers_by new n =
       Moves.recovers job new.members (grants_of n.subs) (record n { state = Member new }) then λ m.
-      quiet (record m { asker = Moves.settle_request new.members m.asker })))
+      quiet (record m { asker = Moves.settle_request new.members m.asker })
+
+  abbrev pub member_roster : Roster → Roster → NodeOf → Answer
+  member_roster old new n = by_roster old new n (Does (recovers_by new n))
 
   -- Roster, to a leaving node: it is kept, and nothing that is frozen changes; but a node that holds something ends where its
   -- heir isn't live any more

@@ -7,7 +7,7 @@ use Rattle.codec.specs.declared.body.Body.TheVariants as body
 use Rattle.codec.specs.declared.body.Steal.{Steal}
 use Rattle.level_deques.specs.declared.posts.Post.{Post}
 use Rattle.serial_meaning.specs.Job.{JobOf}
-use Rattle.node_state.specs.Node.{NodeOf}
+use Rattle.node_state.specs.Node.{NodeOf, ended}
 use Rattle.node_state.specs.Posts.{posts_after}
 use Rattle.node_state.specs.declared.parts.State.{State}
 use Rattle.node_state.specs.declared.parts.State.TheVariants.{Joining, Member, Leaving, Ended}
@@ -20,7 +20,9 @@ use Rattle.subcomputation.specs.declared.sub.Changed.{Changed}
 use Rattle.subcomputation.specs.declared.sub.Given.{Given}
 use Rattle.node_state.specs.Parts.{ready_of}
 use Rattle.node_core.specs.Moves
-use Rattle.node_core.specs.Steps.{Answer, Ignored, Refused, Does, StepOf, fills_of}
+use Rattle.node_core.specs.declared.rosters.News.{News}
+use Rattle.node_core.specs.declared.rosters.News.TheVariants as news
+use Rattle.node_core.specs.Steps.{Answer, Ignored, Refused, Does, StepOf, fills_of, quiet}
 
 -- a node of a job, and the posts of its ready frames
 pub record NodeOn : Type 0 where
@@ -51,6 +53,12 @@ Meets expected (Err error.NoHeir) old new = (expected ≡ Refused error.NoHeir) 
 Meets expected (Err error.NotJoined) old new = (expected ≡ Refused error.NotJoined) × (new ≡ old)
 Meets expected (Err error.Busy) old new = (expected ≡ Refused error.Busy) × (new ≡ old)
 Meets expected (Err error.Spent) old new = (expected ≡ Refused error.Spent) × (new ≡ old)
+
+-- what a roster that is old, that ends the node, or that is newer leads to
+abbrev pub by_news : News → NodeOf → Answer → Answer
+by_news news.Old n kept = Ignored
+by_news news.Over n kept = Does (quiet (ended n))
+by_news news.Newer n kept = kept
 
 -- want of memory comes behind the other refusals of a call but that of a spent count
 abbrev pub MayStarve : Answer → Type 0

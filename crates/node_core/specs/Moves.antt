@@ -26,6 +26,7 @@ use Rattle.steal_protocol.specs.Replies.{put_reply}
 use Rattle.steal_protocol.specs.Requests.{AskerOf, settled, without_request}
 use Rattle.steal_protocol.specs.declared.asker.Request.{Request}
 use Rattle.steal_protocol.specs.declared.replies.Reply.{Reply}
+use Rattle.recovery.specs.declared.plan.Stopped.{Stopped}
 use Rattle.subcomputation.specs.Recovering.{recovered}
 use Rattle.subcomputation.specs.Subs.{SubOf, granted_sub, host_in, put_sub, ready_frames, with_content, without_sub}
 use Rattle.node_state.specs.Node.{NodeOf, holding, is_confirmed}
@@ -127,6 +128,10 @@ module _ (job : JobOf) where
 
   abbrev pub beat : ℕ → Roster → PacketOf
   beat i r = packet (house_of r.epoch) (body.Beat (record { from = i; version = r.version }))
+
+  -- a holder is told to stop
+  abbrev pub stops : Stopped → PacketOf
+  stops s = packet s.holder (body.Abort (record { grant = s.grant }))
 
   -- to the holder of each record: the outcome of its grant isn't wanted any more
   abbrev pub aborts : List Record → List PacketOf

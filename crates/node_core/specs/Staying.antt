@@ -1,28 +1,19 @@
--- The table as far as nodes keep to it today: none leaves, so no Offer is taken or acknowledged, and a newer roster is kept
--- without a recovery by it. All else is by the table.
+-- The table as far as nodes keep to it today: none leaves, so no Offer is taken or acknowledged. All else is by the table.
 use Rattle.std.specs.Prelude.{ℕ, ◌&&◌, nat_eq, if◌then◌else◌, List, Option, Result, Ok, Err}
 use Rattle.packet_fields.specs.declared.fault.Fault.{Fault}
 use Rattle.codec.specs.Table.{PacketOf, reading}
 use Rattle.codec.specs.declared.body.Body.{Body}
 use Rattle.codec.specs.declared.body.Body.TheVariants as body
-use Rattle.codec.specs.declared.body.Roster.{Roster}
 use Rattle.serial_meaning.specs.Job.{JobOf}
-use Rattle.node_state.specs.Node.{NodeOf, by_state}
-use Rattle.node_state.specs.declared.parts.State.TheVariants.{Member}
+use Rattle.node_state.specs.Node.{NodeOf}
 use Rattle.node_core.specs.declared.error.NodeError.TheVariants as error
-use Rattle.node_core.specs.Cases.{Choice, by_roster, joins, on_body}
-use Rattle.node_core.specs.Moves
-use Rattle.node_core.specs.Steps.{Answer, Ignored, Refused, Does, quiet}
-
--- a newer roster is kept, and a pending request is forgotten whose victim isn't live any more; nothing is recovered
-abbrev pub keeps_roster : Roster → Roster → NodeOf → Answer
-keeps_roster old new n =
-    by_roster old new n (Does (quiet (record n { state = Member new; asker = Moves.settle_request new.members n.asker })))
+use Rattle.node_core.specs.Cases.{Choice, on_body}
+use Rattle.node_core.specs.Steps.{Answer, Ignored, Refused}
 
 module _ (job : JobOf) where
   unfoldable pub on_body_staying : Option Choice → Body → NodeOf → Answer
   on_body_staying choice (body.Join b) n = on_body job choice (body.Join b) n
-  on_body_staying choice (body.Roster b) n = by_state n.state (joins b n) (λ r. keeps_roster r b n) (λ r heir. Ignored) Ignored
+  on_body_staying choice (body.Roster b) n = on_body job choice (body.Roster b) n
   on_body_staying choice (body.Steal b) n = on_body job choice (body.Steal b) n
   on_body_staying choice (body.Grant b) n = on_body job choice (body.Grant b) n
   on_body_staying choice (body.Refuse b) n = on_body job choice (body.Refuse b) n

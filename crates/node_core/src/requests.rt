@@ -6,16 +6,17 @@ ghost use Rattle.node_core.specs.Cases as cases;
 ghost use Rattle.node_core.specs.Choosing.{own_choice};
 ghost use Rattle.node_core.specs.Meeting.{Meets};
 ghost use Rattle.node_core.specs.Moves as moves;
-ghost use Rattle.node_core.specs.Staying as staying;
+ghost use Rattle.node_core.specs.Steps.{Does};
+ghost use Rattle.node_core.specs.Cases.{recovers_by};
 ghost use Rattle.node_state.specs.declared.parts.State.TheVariants.{Joining};
 
 use crate::error::NodeError;
 use crate::node::Node;
 use crate::parts::Step;
-use crate::rosters::status_of;
-use crate::sending::{ignored, quiet};
+use crate::rosters::{News, news_of, status_of};
+use crate::sending::{ignored, quiet, send_stops, sends};
 use codec::{Refuse, ResultAck, Roster};
-use ids::{Actor, Progress, Status};
+use ids::{Actor, Listed, Progress, Status};
 use node_state::State;
 use std::alloc::Global;
 
@@ -47,41 +48,38 @@ impl<'a> Node<'a> {
         }
     }
 
-    /// A roster comes to a member: a newer one of its epoch that lists it as live is kept, and one of a greater epoch, or a newer
-    /// one that lists it as dead or left, ends it.
-    #[tactic(auto, unfolding(crate::specs::Cases::by_status, steal_protocol::specs::Replies::by_order, node_state::specs::Node::by_state, crate::specs::Staying::on_body_staying))]
+    /// A roster comes to a member: a newer one of its epoch that lists it as live is kept, and what the node holds is recovered by
+    /// it; one of a greater epoch, or a newer one that lists it as dead or left, ends it.
+    #[tactic(auto, unfolding(crate::specs::Cases::on_body, node_state::specs::Node::by_state))]
     pub(crate) fn member_roster(&mut self, alloc: Global, roster: Roster) -> Result<Step, NodeError>
         requires { IsMember self.old.node.state }
-        ensures { Meets (staying.on_body_staying self.old.job (own_choice self.old.posts) (body.Roster roster) self.old.node) result self.old self.new }
+        ensures { Meets (cases.on_body self.old.job (own_choice self.old.posts) (body.Roster roster) self.old.node) result self.old self.new }
     {
         let State::Member(kept) = self.parts.state() else {
             return Ok(ignored(alloc));
         };
-        if roster.epoch.number() < kept.epoch.number() {
-            return Ok(ignored(alloc));
-        }
-        if roster.epoch.number() > kept.epoch.number() {
-            self.parts.end();
-            return Ok(quiet(alloc));
-        }
-        if roster.version.number() <= kept.version.number() {
-            return Ok(ignored(alloc));
-        }
-        match status_of(
-            roster.members.as_slice(),
-            Actor::worker(self.parts.incarnation()),
-        ) {
-            Some(Status::Live) => {
-                let victim = self.victim_status(&roster);
-                self.parts.keep_roster(roster, victim);
-                Ok(quiet(alloc))
-            }
-            Some(Status::Dead | Status::Left(_)) => {
+        match news_of(kept, &roster, self.parts.incarnation()) {
+            News::Old => Ok(ignored(alloc)),
+            News::Over => {
                 self.parts.end();
                 Ok(quiet(alloc))
             }
-            None => Ok(ignored(alloc)),
+            News::Newer => self.recover(alloc, roster),
         }
+    }
+
+    /// A newer roster is kept, what is held is recovered by it, and a pending request is forgotten whose victim isn't live any
+    /// more.
+    fn recover(&mut self, alloc: Global, roster: Roster) -> Result<Step, NodeError>
+        requires { IsMember self.old.node.state }
+        ensures { Meets (Does (recovers_by self.old.job roster self.old.node)) result self.old self.new }
+    {
+        let victim = self.victim_status(&roster);
+        let plan = recovery::make_plan(alloc, roster.members.as_slice(), self.parts.held())?;
+        let mut sent = Listed::new(alloc);
+        send_stops(alloc, self.job, &mut sent, plan.stopped())?;
+        self.parts.recover(roster, victim, plan)?;
+        Ok(sends(alloc, sent))
     }
 
     /// What a roster says of the victim of the pending request.

@@ -1,5 +1,5 @@
 //! Packets on their way, as bytes.
-ghost use Rattle.std.specs.Prelude.{◌≡◌, ◌++◌, OnOk, IfOk, IsTrue, true, false, [], ◌∷◌};
+ghost use Rattle.std.specs.Prelude.{◌≡◌, ◌++◌, OnOk, IfOk, IsTrue, true, false, [], ◌∷◌, map};
 ghost use Rattle.node_core.specs.Meeting.{spelled};
 ghost use Rattle.node_core.specs.Moves as moves;
 ghost use Rattle.node_core.specs.Steps.{fills_of};
@@ -8,6 +8,7 @@ ghost use Rattle.codec.specs.Table.{is_short, packet as spelling};
 use crate::parts::{Fill, Step};
 use codec::{Abort, Packet, TaskResult, encode_short};
 use ids::{GrantId, Incarnation, Listed, Progress};
+use recovery::Stopped;
 use serial_meaning::Job;
 use std::alloc::{AllocError, Global};
 use sub_rules::Filling;
@@ -49,6 +50,26 @@ pub fn send_aborts(
             alloc,
             sent,
             &Packet::abort(job.number(), record.holder, abort),
+        )?;
+    }
+    Ok(())
+}
+
+/// Adds an Abort to each holder that is told to stop, in the order of these.
+pub fn send_stops(
+    alloc: Global,
+    job: &Job,
+    sent: &mut Listed<Listed<u8>>,
+    stopped: &[Stopped],
+) -> Result<(), AllocError>
+    ensures { OnOk result (sent.new ≡ sent.old ++ spelled (map (moves.stops job.now) stopped.now)) }
+{
+    for stop in stopped {
+        let abort = Abort { grant: stop.grant };
+        send(
+            alloc,
+            sent,
+            &Packet::abort(job.number(), stop.holder, abort),
         )?;
     }
     Ok(())

@@ -22,14 +22,17 @@ use Rattle.sub_rules.proofs.Listings.{listed_each}
 use Rattle.sub_rules.proofs.Slots.{apart, full_numbers, numbers_full}
 use Rattle.steal_protocol.specs.Requests.{AskerOf}
 use Rattle.steal_protocol.specs.declared.replies.Reply.{Reply}
-use Rattle.subcomputation.specs.Subs.{SubOf, ReadyIn, name_of_sub, put_sub, ready_frames, sub_in, without_sub}
+use Rattle.subcomputation.specs.Subs.{SubOf, name_of_sub, put_sub, ready_frames, sub_in, without_sub}
+use Rattle.subcomputation.specs.declared.sub.ReadyIn.{ReadyIn}
 use Rattle.subcomputation.proofs.Others.{put_goes, put_other, without_itself, without_other}
 use Rattle.node_state.specs.Node.{NodeOf, by_state, ended, holding, hop_in, name_of_seen, put_seen, starting}
-use Rattle.node_state.specs.Parts.{AreParts, ArePosts, AreTaken, HasNoNewRecord, HoldsByState, IsFresh, IsMember, IsNext, MayBeMember, PartsOf, ready_of, same_grant, with_posts}
+use Rattle.node_state.specs.Parts.{AreParts, ArePosts, AreTaken, AsksByState, HasNoNewRecord, HoldsByState, IsFresh, IsJoined, IsLeaving, IsMember, IsNext, MayBeMember, PartsOf, ready_of, same_grant, with_posts}
 use Rattle.node_state.specs.Posts.{is_ready_post, live_subs, posted_all, posts_after, ready_of_sub}
+use Rattle.node_state.specs.declared.parts.Confirmed.{Confirmed}
 use Rattle.node_state.specs.declared.parts.Seen.{Seen}
 use Rattle.node_state.specs.declared.parts.State.{State}
 use Rattle.node_state.specs.declared.parts.State.TheVariants.{Joining, Member, Leaving, Ended}
+use Rattle.node_state.proofs.Leaves.{all_frozen, asks_member, asks_nothing, joined_may, left_frozen, live_goes, no_posts, none_of}
 use Rattle.node_state.proofs.Kept.{IsListed, after_coming, after_going, member_holds, none_goes, stands, with_nothing, with_the_same}
 use Rattle.node_state.proofs.Posting.{differs, same_name, same_names}
 
@@ -52,7 +55,7 @@ pub is_listed : (c : Content) → AreInOrder name_of_frame c.frames → IsListed
 is_listed c order = λ r. listed_each c r order ∙ listed r c (frame_in r.frame c.frames) refl
 
 -- a member may hold anything
-member_may : (st : State) (subs : List SubOf) → IsMember st → HoldsByState st subs
+pub member_may : (st : State) (subs : List SubOf) → IsMember st → HoldsByState st subs
 member_may Joining subs is = absurd is
 member_may (Member r) subs is = tt
 member_may (Leaving r heir) subs is = absurd is
@@ -63,12 +66,12 @@ pub record Quiet (m : NodeOf) (posts : List Post) : Type 0 where
   pub parts : AreParts (record { node = m; posts = posts })
   pub same : posts_after m [] posts ≡ posts
 
-pub quiet_parts : (n : NodeOf) (asker : AskerOf) (replies : List Reply) (posts : List Post) → AreParts (record { node = n; posts = posts }) → Quiet (record n { asker = asker; replies = replies }) posts
-quiet_parts n asker replies posts are =
-    let m : NodeOf = record n { asker = asker; replies = replies } in
+pub quiet_parts : (n : NodeOf) (asker : AskerOf) (replies : List Reply) (confirmed : List Confirmed) (posts : List Post) → AreParts (record { node = n; posts = posts }) → AsksByState n.state asker → Quiet (record n { asker = asker; replies = replies; confirmed = confirmed }) posts
+quiet_parts n asker replies confirmed posts are asks =
+    let m : NodeOf = record n { asker = asker; replies = replies; confirmed = confirmed } in
     let stay : ArePosts m posts = with_the_same n m posts refl are.posts in
     record {
-      parts = record { posts = stay; holds = are.holds; taken = are.taken; minted = are.minted };
+      parts = record { posts = stay; holds = are.holds; asks = asks; taken = are.taken; minted = are.minted };
       same = none_goes m posts stay;
     }
 
@@ -88,7 +91,7 @@ listed_parts n r asker posts may are =
     let m : NodeOf = record n { state = Member r; asker = asker } in
     let stay : ArePosts m posts = with_the_same n m posts (listed_live n r asker ∙ held_by n.state n.subs may are.holds) are.posts in
     record {
-      parts = record { posts = stay; holds = tt; taken = are.taken; minted = are.minted };
+      parts = record { posts = stay; holds = tt; asks = tt; taken = are.taken; minted = are.minted };
       same = none_goes m posts stay;
     }
 
@@ -109,7 +112,7 @@ pub record Over (n : NodeOf) (posts : List Post) : Type 0 where
 
 pub ended_parts : (n : NodeOf) (posts : List Post) → Over n posts
 ended_parts n posts = record {
-  parts = record { posts = with_nothing (ended n) (none_held n); holds = refl; taken = λ g s there. cc; minted = λ h fresh g s there. cc };
+  parts = record { posts = with_nothing (ended n) (none_held n); holds = refl; asks = tt; taken = λ g s there. cc; minted = λ h fresh g s there. cc };
   none = none_ready n posts;
 }
 
@@ -122,6 +125,7 @@ pub starting_parts : (word : ℕ) → AreParts (record { node = starting word; p
 starting_parts word = record {
   posts = with_nothing (starting word) (none_started word);
   holds = refl;
+  asks = tt;
   taken = λ g s there. cc;
   minted = λ h fresh g s there. cc;
 }
@@ -161,6 +165,7 @@ changed_parts n m s told posts are next order order_before member subs seen fres
       })
       are.posts;
   holds = member_may m.state m.subs member;
+  asks = asks_member m.state m.asker member;
   taken = λ g t there. taken_after g t (rw subs at there);
   minted = λ h is g t there. found_after (λ k u. record_in h u.content.records ≡ None) s n.subs (records h is) (are.minted h (fresh h is)) g t (rw subs at there);
 }
@@ -211,17 +216,19 @@ taken_parts n s asker posts are member none order records =
           })
           are.posts;
       holds = member_may n.state (put_sub s n.subs) member;
+      asks = asks_member n.state asker member;
       taken = found_after (λ k u. IsSome (hop_in k m.seen)) s n.subs (hop_itself s n.seen) (λ g t there. some_seen s n.seen g (are.taken g t there));
       minted = λ h is. found_after (λ k u. record_in h u.content.records ≡ None) s n.subs (records h is) (are.minted h is);
     }
 
 -- a subcomputation goes
-pub gone_parts : (n : NodeOf) (g : Grant) (posts : List Post) → AreParts (record { node = n; posts = posts }) → IsMember n.state → AreParts (with_posts (record n { subs = without_sub g n.subs }) [] posts)
-gone_parts n g posts are member =
+pub gone_parts : (n : NodeOf) (g : Grant) (posts : List Post) → AreParts (record { node = n; posts = posts }) → IsJoined n.state → AreParts (with_posts (record n { subs = without_sub g n.subs }) [] posts)
+gone_parts n g posts are joined =
     let m : NodeOf = record n { subs = without_sub g n.subs } in
     record {
-      posts = after_going n m g posts (member_holds m member ∙ sym (ap (without_sub g) (member_holds n member))) are.posts;
-      holds = member_may n.state (without_sub g n.subs) member;
+      posts = after_going n m g posts (live_goes n g) are.posts;
+      holds = joined_may n.state (without_sub g n.subs) joined;
+      asks = are.asks;
       taken = λ h s there. are.taken h s (left_there h s there);
       minted = λ h is k s there. are.minted h is k s (left_there k s there);
     }
@@ -240,17 +247,17 @@ gone_parts n g posts are member =
 abbrev with_asker : PartsOf → AskerOf → PartsOf
 with_asker v a = record { node = record v.node { asker = a }; posts = v.posts }
 
-asker_kept : (w : PartsOf) (a : AskerOf) → AreParts w → with_asker w a ≡ with_posts (record w.node { asker = a }) [] w.posts
-asker_kept w a are = ap (λ posts. record { node = record w.node { asker = a }; posts = posts }) (sym (quiet_parts w.node a w.node.replies w.posts are).same)
+asker_kept : (w : PartsOf) (a : AskerOf) → AreParts w → AsksByState w.node.state a → with_asker w a ≡ with_posts (record w.node { asker = a }) [] w.posts
+asker_kept w a are asks = ap (λ posts. record { node = record w.node { asker = a }; posts = posts }) (sym (quiet_parts w.node a w.node.replies w.node.confirmed w.posts are asks).same)
 
-pub asker_view : (v w : PartsOf) (a b : AskerOf) → v ≡ w → a ≡ b → AreParts w → with_asker v a ≡ with_posts (record w.node { asker = b }) [] w.posts
-asker_view v w a b same equal are = rw same (rw equal (asker_kept w b are))
+pub asker_view : (v w : PartsOf) (a b : AskerOf) → v ≡ w → a ≡ b → AreParts w → AsksByState w.node.state b → with_asker v a ≡ with_posts (record w.node { asker = b }) [] w.posts
+asker_view v w a b same equal are asks = rw same (rw equal (asker_kept w b are asks))
 
 abbrev with_replies : PartsOf → List Reply → PartsOf
 with_replies v replies = record { node = record v.node { replies = replies }; posts = v.posts }
 
 replies_kept : (w : PartsOf) (replies : List Reply) → AreParts w → with_replies w replies ≡ with_posts (record w.node { replies = replies }) [] w.posts
-replies_kept w replies are = ap (λ posts. record { node = record w.node { replies = replies }; posts = posts }) (sym (quiet_parts w.node w.node.asker replies w.posts are).same)
+replies_kept w replies are = ap (λ posts. record { node = record w.node { replies = replies }; posts = posts }) (sym (quiet_parts w.node w.node.asker replies w.node.confirmed w.posts are are.asks).same)
 
 pub replies_view : (v w : PartsOf) (a b : List Reply) → v ≡ w → a ≡ b → AreParts w → with_replies v a ≡ with_posts (record w.node { replies = b }) [] w.posts
 replies_view v w a b same equal are = rw same (rw equal (replies_kept w b are))
@@ -283,11 +290,21 @@ change_view v w s told subs posted kept same member subs_is posted_is kept_is =
     let put : subs ≡ put_sub s w.node.subs = rw same at subs_is in
     rw same (rw put (posts_view (record w.node { subs = put_sub s w.node.subs }) (ready_of s.grant told) w.posts posted kept member (rw same at posted_is) (rw put at kept_is)))
 
-pub going_view : (v w : PartsOf) (g : Grant) (subs : List SubOf) (kept : List Post) → v ≡ w → IsMember w.node.state → subs ≡ without_sub g v.node.subs → kept ≡ filter (λ p. is_some (ready_of_sub p.frame (sub_in p.grant subs))) v.posts → with_subs v subs kept ≡ with_posts (record w.node { subs = without_sub g w.node.subs }) [] w.posts
-going_view v w g subs kept same member subs_is kept_is =
+-- the posts that are left where nothing may be posted, or all that is held is
+kept_by : (st : State) (n : NodeOf) (posts : List Post) → n.state ≡ st → IsJoined st → ArePosts n posts → (subs : List SubOf) → live_subs (record n { subs = subs }) ≡ by_state st [] (λ r. subs) (λ r heir. []) [] → filter (λ p. is_some (ready_of_sub p.frame (sub_in p.grant subs))) posts ≡ posts_after (record n { subs = subs }) [] posts
+unfolding by_state
+kept_by Joining n posts is joined are subs live = absurd joined
+kept_by (Member r) n posts is joined are subs live = sym (ap (λ xs. filter (λ p. is_some (ready_of_sub p.frame (sub_in p.grant xs))) posts) live)
+kept_by (Leaving r heir) n posts is joined are subs live =
+    let none : posts ≡ [] = no_posts n posts (all_frozen n (rw is tt)) are in
+    rw none refl
+kept_by Ended n posts is joined are subs live = absurd joined
+
+pub going_view : (v w : PartsOf) (g : Grant) (subs : List SubOf) (kept : List Post) → v ≡ w → IsJoined w.node.state → ArePosts w.node w.posts → subs ≡ without_sub g v.node.subs → kept ≡ filter (λ p. is_some (ready_of_sub p.frame (sub_in p.grant subs))) v.posts → with_subs v subs kept ≡ with_posts (record w.node { subs = without_sub g w.node.subs }) [] w.posts
+going_view v w g subs kept same joined are subs_is kept_is =
     let left : subs ≡ without_sub g w.node.subs = rw same at subs_is in
     let kept_of : kept ≡ filter (λ p. is_some (ready_of_sub p.frame (sub_in p.grant subs))) w.posts = rw same at kept_is in
-    rw same (rw left (posts_view (record w.node { subs = without_sub g w.node.subs }) [] w.posts w.posts kept member refl (rw left at kept_of)))
+    rw same (rw left (ap (record_of (record w.node { subs = without_sub g w.node.subs })) ((rw left at kept_of) ∙ kept_by w.node.state w.node w.posts refl joined are (without_sub g w.node.subs) refl)))
 
 abbrev with_gift : PartsOf → ℕ → List Reply → List SubOf → List Post → PartsOf
 with_gift v minted replies subs posts = record { node = record v.node { minted = minted; replies = replies; subs = subs }; posts = posts }
@@ -307,6 +324,40 @@ take_view v w s a b subs seen posted kept same member asker_is subs_is seen_is p
     let put : subs ≡ put_sub s w.node.subs = rw same at subs_is in
     let seen_as : seen ≡ put_seen s.grant s.hop w.node.seen = rw same at seen_is in
     rw same (rw put (rw seen_as (rw asker_is (posts_view (holding s (record w.node { asker = b })) (ready_frames s) w.posts posted kept member (rw same at posted_is) (rw put at kept_is)))))
+
+-- a thief has said that it has its grant
+abbrev with_confirmed : PartsOf → List Confirmed → PartsOf
+with_confirmed v confirmed = record { node = record v.node { confirmed = confirmed }; posts = v.posts }
+
+confirmed_kept : (w : PartsOf) (confirmed : List Confirmed) → AreParts w → with_confirmed w confirmed ≡ with_posts (record w.node { confirmed = confirmed }) [] w.posts
+confirmed_kept w confirmed are = ap (λ posts. record { node = record w.node { confirmed = confirmed }; posts = posts }) (sym (quiet_parts w.node w.node.asker w.node.replies confirmed w.posts are are.asks).same)
+
+pub confirmed_view : (v w : PartsOf) (a b : List Confirmed) → v ≡ w → a ≡ b → AreParts w → with_confirmed v a ≡ with_posts (record w.node { confirmed = b }) [] w.posts
+confirmed_view v w a b same equal are = rw same (rw equal (confirmed_kept w b are))
+
+-- a node leaves, or goes on leaving by another roster
+abbrev pub leaver : PartsOf → Roster → ℕ → List Post → PartsOf
+leaver v r heir posts = record { node = record v.node { state = Leaving r heir }; posts = posts }
+
+pub leaving_parts : (w : PartsOf) (r : Roster) (heir : ℕ) → AreParts w → w.node.asker.pending ≡ None → AreParts (leaver w r heir [])
+leaving_parts w r heir are silent =
+    record { posts = with_nothing (record w.node { state = Leaving r heir }) (left_frozen w.node r heir); holds = tt; asks = silent; taken = are.taken; minted = are.minted }
+
+pub leaving_view : (v w : PartsOf) (r : Roster) (heir : ℕ) → v ≡ w → leaver v r heir [] ≡ with_posts (record w.node { state = Leaving r heir }) [] w.posts
+leaving_view v w r heir same = rw same (ap (record_of (record w.node { state = Leaving r heir })) (sym (none_of (record w.node { state = Leaving r heir }) w.posts (left_frozen w.node r heir))))
+
+pub kept_leaving : (w : PartsOf) (r : Roster) (heir : ℕ) → AreParts w → IsLeaving w.node.state → AreParts (leaver w r heir w.posts)
+kept_leaving w r heir are leaving = record {
+  posts = with_the_same w.node (record w.node { state = Leaving r heir }) w.posts (left_frozen w.node r heir ∙ sym (all_frozen w.node leaving)) are.posts;
+  holds = tt;
+  asks = asks_nothing w.node.state w.node.asker leaving are.asks;
+  taken = are.taken;
+  minted = are.minted;
+}
+
+pub kept_leaving_view : (v w : PartsOf) (r : Roster) (heir : ℕ) → v ≡ w → AreParts w → IsLeaving w.node.state → leaver v r heir v.posts ≡ with_posts (record w.node { state = Leaving r heir }) [] w.posts
+kept_leaving_view v w r heir same are leaving =
+    rw same (ap (record_of (record w.node { state = Leaving r heir })) (sym (none_goes (record w.node { state = Leaving r heir }) w.posts (kept_leaving w r heir are leaving).posts)))
 
 pub ended_view : (v w : PartsOf) → v ≡ w → record_of (ended v.node) [] ≡ with_posts (ended w.node) [] w.posts
 ended_view v w same = rw same (ap (record_of (ended w.node)) (sym (ended_parts w.node w.posts).none))

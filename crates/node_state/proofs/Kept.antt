@@ -14,7 +14,8 @@ use Rattle.sub_rules.specs.Debts.{one_if}
 use Rattle.sub_rules.specs.Readiness.{times}
 use Rattle.sub_rules.specs.declared.change.Readied.{Readied}
 use Rattle.sub_rules.specs.declared.content.Content.{Content}
-use Rattle.subcomputation.specs.Subs.{SubOf, ReadyIn, name_of_sub, put_sub, sub_in, without_sub}
+use Rattle.subcomputation.specs.Subs.{SubOf, name_of_sub, put_sub, sub_in, without_sub}
+use Rattle.subcomputation.specs.declared.sub.ReadyIn.{ReadyIn}
 use Rattle.node_state.specs.Node.{NodeOf, by_state}
 use Rattle.node_state.specs.Parts.{ArePosts, IsMember, is_post_at, is_same_post, same_grant, times_posted, ready_of}
 use Rattle.node_state.specs.Posts.{ReadyFrame, live_subs, posted_all, posts_after, is_ready_post, ready_at, ready_of_sub}
@@ -45,12 +46,12 @@ at_stands : (p : Post) (s : SubOf) (o : Option Ready) → ready_in p.frame s.con
 at_stands p s None is = rw is refl
 at_stands p s (Some x) is = rw is refl
 
-at_times : (p : Post) (o : Option SubOf) → IsListedIn o → is_post_at p (ready_of_sub p.frame o) ≡ times_in (readied_of p) o
+pub at_times : (p : Post) (o : Option SubOf) → IsListedIn o → is_post_at p (ready_of_sub p.frame o) ≡ times_in (readied_of p) o
 at_times p None listed = refl
 at_times p (Some s) listed = at_stands p s (ready_in p.frame s.content) refl ∙ sym (listed (readied_of p))
 
 -- whether it is ready
-is_ready_there : (f : ℕ) (s : SubOf) → is_some (ready_of_sub f (Some s)) ≡ is_some (ready_in f s.content)
+pub is_ready_there : (f : ℕ) (s : SubOf) → is_some (ready_of_sub f (Some s)) ≡ is_some (ready_in f s.content)
 is_ready_there f s = by_ready (ready_in f s.content) refl
   where
     by_ready : (o : Option Ready) → ready_in f s.content ≡ o → is_some (ready_of_sub f (Some s)) ≡ is_some o
@@ -58,13 +59,13 @@ is_ready_there f s = by_ready (ready_in f s.content) refl
     by_ready (Some x) is = rw is refl
 
 -- how often a post stands after a step
-counted : (m : NodeOf) (became : List ReadyIn) (posts : List Post) (p : Post) → times_posted p (posts_after m became posts) ≡ cond (is_some (ready_at m p.grant p.frame)) (count_ready p became + times_posted p posts) 0
+pub counted : (m : NodeOf) (became : List ReadyIn) (posts : List Post) (p : Post) → times_posted p (posts_after m became posts) ≡ cond (is_some (ready_at m p.grant p.frame)) (count_ready p became + times_posted p posts) 0
 counted m became posts p =
     count_kept p (λ g f. is_some (ready_at m g f)) (posted_all became posts)
     ∙ ap (λ k. cond (is_some (ready_at m p.grant p.frame)) k 0) (count_all_posted p became posts)
 
 -- a post of a subcomputation that stays
-as_before : (p : Post) (o : Option ReadyFrame) → cond (is_some o) (0 + is_post_at p o) 0 ≡ is_post_at p o
+pub as_before : (p : Post) (o : Option ReadyFrame) → cond (is_some o) (0 + is_post_at p o) 0 ≡ is_post_at p o
 as_before p None = refl
 as_before p (Some f) = omega arith
 
@@ -145,7 +146,7 @@ pub with_nothing : (m : NodeOf) → live_subs m ≡ [] → ArePosts m []
 with_nothing m none = record { each = λ p. sym (ap (λ subs. is_post_at p (ready_of_sub p.frame (sub_in p.grant subs))) none) }
 
 -- posts that are those of ready frames all stay
-same_post : (q : Post) → is_same_post q q ≡ 1
+pub same_post : (q : Post) → is_same_post q q ≡ 1
 same_post q = rw (itself q.grant) (rw (eq-eqb q.frame q.frame refl) (rw (eq-eqb q.level q.level refl) refl))
   where
     itself : (g : Grant) → same_grant g g ≡ true

@@ -1,3 +1,6 @@
 pub mod Posting
 pub mod Kept
+pub mod Leaves
 pub mod Keeping
+pub mod Recovers
+pub mod Accepts

@@ -11,7 +11,7 @@ use Rattle.level_deques.specs.Posts.{posted}
 use Rattle.sub_rules.specs.Debts.{one_if}
 use Rattle.sub_rules.specs.Readiness.{is_readied, times}
 use Rattle.sub_rules.specs.declared.change.Readied.{Readied}
-use Rattle.subcomputation.specs.Subs.{ReadyIn}
+use Rattle.subcomputation.specs.declared.sub.ReadyIn.{ReadyIn}
 use Rattle.node_state.specs.Posts.{post_of, posted_all}
 use Rattle.node_state.specs.Parts.{same_grant, is_same_post, times_posted, ready_of}
 

@@ -7,7 +7,10 @@ use Rattle.victim_records.specs.Records.{record_in}
 use Rattle.sub_rules.specs.Debts.{one_if}
 use Rattle.sub_rules.specs.Readiness.{TellsReady}
 use Rattle.sub_rules.specs.declared.change.Readied.{Readied}
-use Rattle.subcomputation.specs.Subs.{SubOf, ReadyIn, sub_in}
+use Rattle.steal_protocol.specs.Requests.{AskerOf}
+use Rattle.subcomputation.specs.Subs.{SubOf, put_sub, sub_in}
+use Rattle.subcomputation.specs.declared.sub.ReadyIn.{ReadyIn}
+use Rattle.recovery.specs.Told.{ComesTold}
 use Rattle.node_state.specs.Node.{NodeOf, hop_in}
 use Rattle.node_state.specs.Posts.{ReadyFrame, ready_at, posts_after}
 use Rattle.node_state.specs.declared.parts.State.{State}
@@ -45,6 +48,13 @@ HoldsByState (Member r) subs = Unit {0}
 HoldsByState (Leaving r heir) subs = Unit {0}
 HoldsByState Ended subs = subs ≡ []
 
+-- a node that leaves has no request pending
+abbrev pub AsksByState : State → AskerOf → Type 0
+AsksByState Joining asker = Unit {0}
+AsksByState (Member r) asker = Unit {0}
+AsksByState (Leaving r heir) asker = asker.pending ≡ None
+AsksByState Ended asker = Unit {0}
+
 -- what a node holds was taken here
 abbrev pub AreTaken : NodeOf → Type 0
 AreTaken n = (g : Grant) (s : SubOf) → sub_in g n.subs ≡ Some s → IsSome (hop_in g n.seen)
@@ -60,6 +70,7 @@ AreMinted n = (h : Grant) → IsFresh n h → (g : Grant) (s : SubOf) → sub_in
 pub record AreParts (parts : PartsOf) : Type 0 where
   pub posts : ArePosts parts.node parts.posts
   pub holds : HoldsByState parts.node.state parts.node.subs
+  pub asks : AsksByState parts.node.state parts.node.asker
   pub taken : AreTaken parts.node
   pub minted : AreMinted parts.node
 
@@ -76,6 +87,19 @@ IsMember (Member r) = Unit {0}
 IsMember (Leaving r heir) = ⊥
 IsMember Ended = ⊥
 
+abbrev pub IsLeaving : State → Type 0
+IsLeaving Joining = ⊥
+IsLeaving (Member r) = ⊥
+IsLeaving (Leaving r heir) = Unit {0}
+IsLeaving Ended = ⊥
+
+-- a node that holds something: a member, or one that leaves
+abbrev pub IsJoined : State → Type 0
+IsJoined Joining = ⊥
+IsJoined (Member r) = Unit {0}
+IsJoined (Leaving r heir) = Unit {0}
+IsJoined Ended = ⊥
+
 -- a subcomputation in the place of one that a member holds, and the frames that became ready in it
 pub record IsNext (n : NodeOf) (s : SubOf) (told : List Readied) : Type 0 where
   pub member : IsMember n.state
@@ -86,6 +110,17 @@ pub record IsNext (n : NodeOf) (s : SubOf) (told : List Readied) : Type 0 where
 -- it has no record of a grant of which it had none
 abbrev pub HasNoNewRecord : NodeOf → SubOf → Type 0
 HasNoNewRecord n s = (h : Grant) → IsFresh n h → record_in h s.content.records ≡ None
+
+-- what comes of an Offer of a grant, which a recovery may have dropped: a subcomputation of that grant, with no record of a
+-- grant that is still to be minted here
+abbrev pub MayCome : NodeOf → Grant → List Readied → Option SubOf → Type 0
+MayCome n g told None = Unit {0}
+MayCome n g told (Some s) = (s.grant ≡ g) × ComesTold s told × HasNoNewRecord n s
+
+-- it is put in its place, if it is there
+abbrev pub put_some : Option SubOf → List SubOf → List SubOf
+put_some None subs = subs
+put_some (Some s) subs = put_sub s subs
 
 -- frames of a subcomputation, as ready frames of the node
 abbrev pub ready_of : Grant → List Readied → List ReadyIn

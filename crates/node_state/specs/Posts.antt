@@ -6,7 +6,8 @@ use Rattle.ids.specs.Options.{◌>>=◌}
 use Rattle.level_deques.specs.declared.posts.Post.{Post}
 use Rattle.level_deques.specs.Posts.{posted}
 use Rattle.sub_rules.specs.Content.{Ready, ready_in}
-use Rattle.subcomputation.specs.Subs.{SubOf, ReadyIn, sub_in}
+use Rattle.subcomputation.specs.Subs.{SubOf, sub_in}
+use Rattle.subcomputation.specs.declared.sub.ReadyIn.{ReadyIn}
 use Rattle.node_state.specs.Node.{NodeOf, by_state}
 
 -- the subcomputations of a node that aren't frozen

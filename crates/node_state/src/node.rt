@@ -1,30 +1,36 @@
-ghost use Rattle.std.specs.Prelude.{◌≡◌, ◌<◌, ◌+◌, ◌^◌, ℕ, OnOk, OnErr, IfOk, IfSome, IsSome, None, Some, option_copied, is_some, []};
+ghost use Rattle.std.specs.Prelude.{◌≡◌, ◌<◌, ◌+◌, ◌^◌, ℕ, ◌++◌, OnOk, OnErr, IfOk, IfSome, IsSome, None, Some, option_copied, is_some, [], ◌∷◌};
 ghost use Rattle.std.specs.List.{filter};
 ghost use Rattle.ids.specs.declared.member.Status as declared;
 ghost use Rattle.sub_rules.specs.declared.change.Readied as readied;
-ghost use Rattle.subcomputation.specs.Subs.{sub_in, host_in, put_sub, without_sub, ready_frames};
+ghost use Rattle.subcomputation.specs.Subs.{sub_in, host_in, put_sub, without_sub, ready_frames, grants_of};
 ghost use Rattle.steal_protocol.specs.Requests.{asked, IsAsked, without_request, settled};
 ghost use Rattle.steal_protocol.specs.Replies.{put_reply};
-ghost use Rattle.node_state.specs.Node.{starting, ended, hop_in, holding, put_seen, name_of_seen};
+ghost use Rattle.node_state.specs.Node.{starting, ended, is_confirmed, hop_in, holding, put_seen, name_of_seen};
 ghost use Rattle.node_state.specs.Posts.{posted_all, posts_after, ready_of_sub};
 ghost use Rattle.sub_rules.specs.Changes.{readied_in};
 ghost use Rattle.ids.specs.Naming.{name_of_frame, name_of_grant};
 ghost use Rattle.ids.specs.Names.{Grant};
 ghost use Rattle.ids.specs.Ordered.{AreInOrder};
 ghost use Rattle.subcomputation.specs.Subs.{SubOf};
-ghost use Rattle.node_state.specs.declared.parts.State.TheVariants.{Member};
-ghost use Rattle.node_state.specs.Parts.{ArePosts, MayBeMember, IsMember, IsNext, HasNoNewRecord, IsFresh, ready_of, with_posts};
+ghost use Rattle.node_state.specs.declared.parts.State.TheVariants.{Member, Leaving};
+ghost use Rattle.node_state.specs.Parts.{ArePosts, MayBeMember, MayCome, IsJoined, IsLeaving, IsMember, IsNext, HasNoNewRecord, IsFresh, put_some, ready_of, with_posts};
+ghost use Rattle.recovery.specs.Plans.{IsPlan};
+ghost use Rattle.recovery.specs.Told.{AreWhole, IsWhole};
+ghost use Rattle.subcomputation.specs.Recovering.{recovered};
+ghost use Rattle.subcomputation.specs.Fitting.{Fits};
+ghost use Rattle.task_syntax.specs.declared.tree.Program.{Program};
 
 use crate::parts::{Confirmed, Seen, State};
 use codec::Roster;
 use ids::{Actor, GrantId, Hop, Incarnation, Listed, Named, Status, Store};
 use level_deques::{Post, PostTest, Posts};
+use recovery::Plan;
 use std::alloc::{AllocError, Global};
 use std::collections::btree_map::Values;
 use std::marker::Model;
 use steal_protocol::{AskError, Asker, Replies, Reply, Request};
 use sub_rules::Readied;
-use subcomputation::Sub;
+use subcomputation::{ReadyIn, Sub};
 
 /// The name under which what a grant names is kept.
 fn name_of(grant: GrantId) -> (u64, u64)
@@ -132,6 +138,22 @@ impl Parts {
         &self.posts
     }
 
+    /// A node that leaves has no request pending. Does nothing.
+    pub fn waits_for_nothing(&self)
+        requires { IsLeaving self.now.node.state }
+        ensures { self.now.node.asker.pending ≡ None }
+    {
+        let _ = &self.asker;
+    }
+
+    /// Whether a thief has said that it has a grant.
+    pub fn is_confirmed(&self, thief: Incarnation, grant: GrantId) -> bool
+        ensures { result ≡ is_confirmed thief grant self.now.node.confirmed }
+    {
+        self.confirmed.as_slice().iter().any(|confirmed| confirmed.thief == thief
+            && confirmed.grant == grant)
+    }
+
     /// All posts stay while no subcomputation changes. Does nothing.
     pub fn nothing_goes(&self)
         ensures { posts_after self.now.node [] self.now.posts ≡ self.now.posts }
@@ -184,6 +206,90 @@ impl Parts {
         self.asker.settle(victim);
     }
 
+    /// Leaves to an heir, by the roster that it has: all that it holds is frozen.
+    pub fn leave(&mut self, heir: Incarnation)
+        requires member { IsMember self.old.node.state }
+        requires silent { self.old.node.asker.pending ≡ None }
+        ensures { (r : Roster) → self.old.node.state ≡ Member r → self.new ≡ with_posts (record self.old.node { state = Leaving r heir }) [] self.old.posts }
+    {
+        if let State::Member(roster) = std::mem::replace(&mut self.state, State::Joining) {
+            self.state = State::Leaving(roster, heir);
+            self.posts = Posts::new(self.alloc);
+        }
+    }
+
+    /// Keeps a roster, as a leaving node's.
+    pub fn keep_leaving(&mut self, roster: Roster, heir: Incarnation)
+        requires { IsLeaving self.old.node.state }
+        ensures { self.new ≡ with_posts (record self.old.node { state = Leaving roster heir }) [] self.old.posts }
+    {
+        self.state = State::Leaving(roster, heir);
+    }
+
+    /// Notes that a thief has its grant; refused for want of memory alone, which changes nothing.
+    pub fn confirm(&mut self, confirmed: Confirmed) -> Result<(), AllocError>
+        ensures ok { OnOk result (self.new ≡ with_posts (record self.old.node { confirmed = self.old.node.confirmed ++ confirmed ∷ [] }) [] self.old.posts) }
+        ensures err { OnErr result (self.new ≡ self.old) }
+    {
+        self.confirmed.push(confirmed)?;
+        Ok(())
+    }
+
+    /// The subcomputations, by their grants.
+    pub fn held(&self) -> &Store<Sub>
+        ensures { result.now ≡ self.now.node.subs }
+    {
+        &self.subs
+    }
+
+    /// Keeps a roster, as a member's, carries out the recovery by it that was planned, and forgets a pending request whose victim
+    /// isn't live by what is said of it; refused for want of memory alone, which changes nothing.
+    pub fn recover(
+        &mut self,
+        roster: Roster,
+        victim: Option<Status>,
+        plan: Plan,
+    ) -> Result<(), AllocError>
+        requires member { IsMember self.old.node.state }
+        requires plan { IsPlan roster.members self.old.node.subs plan }
+        ensures ok { OnOk result (self.new ≡ with_posts (record self.old.node { state = Member roster; subs = (recovered roster.members (grants_of self.old.node.subs) self.old.node.subs).subs; asker = settled victim self.old.node.asker }) (recovered roster.members (grants_of self.old.node.subs) self.old.node.subs).again self.old.posts) }
+        ensures fits { (p : Program) → ((g : Grant) (s : SubOf) → sub_in g self.old.node.subs ≡ Some s → Fits p s.content) → OnOk result ((g : Grant) (s : SubOf) → sub_in g self.new.node.subs ≡ Some s → Fits p s.content) }
+        ensures err { OnErr result (self.new ≡ self.old) }
+    {
+        let posts = posted_again(&self.posts, plan.again())?;
+        are_whole(&self.subs);
+        recovery::recoveries_are_told();
+        plan.carry_out(&mut self.subs);
+        self.state = State::Member(roster);
+        self.asker.settle(victim);
+        self.posts = posts;
+        withdraw_stale(&mut self.posts, &self.subs);
+        Ok(())
+    }
+
+    /// Takes what an Offer of a grant handed on at a hop, which is nothing where a recovery dropped it, and whose frames are
+    /// `ready`; refused for want of memory alone, which changes nothing.
+    pub fn accept(
+        &mut self,
+        grant: GrantId,
+        hop: Hop,
+        after: Option<Sub>,
+        ready: &[Readied],
+    ) -> Result<(), AllocError>
+        requires member { IsMember self.old.node.state }
+        requires absent { sub_in grant self.old.node.subs ≡ None }
+        requires comes { MayCome self.old.node grant ready.now after }
+        ensures ok { OnOk result (self.new ≡ with_posts (record self.old.node { subs = put_some after self.old.node.subs; seen = put_seen grant hop self.old.node.seen }) (ready_of grant ready.now) self.old.posts) }
+        ensures err { OnErr result (self.new ≡ self.old) }
+    {
+        let posts = posted(&self.posts, grant, ready)?;
+        note(&mut self.subs, &mut self.seen, grant, hop, after)?;
+        frames_stand_in_order(&self.subs, grant);
+        self.posts = posts;
+        withdraw_stale(&mut self.posts, &self.subs);
+        Ok(())
+    }
+
     /// Ends: it holds nothing any more.
     pub fn end(&mut self)
         ensures { self.new ≡ with_posts (ended self.old.node) [] self.old.posts }
@@ -197,8 +303,9 @@ impl Parts {
         self.posts = Posts::new(self.alloc);
     }
 
-    /// Makes a request of a victim: E61 where one waits for its answer, E62 where no count is left. A refusal changes nothing.
+    /// A member makes a request of a victim: E61 where one waits for its answer, E62 where no count is left. A refusal changes nothing.
     pub fn ask(&mut self, victim: Actor) -> Result<Request, AskError>
+        requires { IsMember self.old.node.state }
         ensures asked { IsAsked (asked victim self.old.node.asker) self.old.node.asker self.new.node.asker result }
         ensures rest { self.new ≡ with_posts (record self.old.node { asker = self.new.node.asker }) [] self.old.posts }
     {
@@ -275,9 +382,9 @@ impl Parts {
         Ok(())
     }
 
-    /// A member's subcomputation of a grant goes.
+    /// The subcomputation of a grant goes.
     pub fn remove(&mut self, grant: GrantId)
-        requires { IsMember self.old.node.state }
+        requires { IsJoined self.old.node.state }
         ensures { self.new ≡ with_posts (record self.old.node { subs = without_sub grant self.old.node.subs }) [] self.old.posts }
     {
         self.subs.take(name_of(grant));
@@ -328,6 +435,40 @@ fn posted(posts: &Posts, grant: GrantId, ready: &[Readied]) -> Result<Posts, All
     Ok(all)
 }
 
+/// The posts, and behind them those of frames that are ready again.
+fn posted_again(posts: &Posts, again: &[ReadyIn]) -> Result<Posts, AllocError>
+    ensures { IfOk result (λ p. p ≡ posted_all again.now posts.now) }
+{
+    let mut all = posts.clone()?;
+    for ready in again {
+        all.post(Post {
+            level: ready.frame.level,
+            grant: ready.grant,
+            frame: ready.frame.frame,
+        })?;
+    }
+    Ok(all)
+}
+
+/// Each subcomputation is sound, and its frames and records stand in order. Does nothing.
+fn are_whole(subs: &Store<Sub>)
+    ensures { AreWhole subs.now }
+{
+    subs.stand_in_order();
+    for sub in subs.values() {
+        is_whole(sub);
+    }
+}
+
+/// A subcomputation is sound, and its frames and records stand in order. Does nothing.
+fn is_whole(sub: &Sub)
+    ensures { IsWhole sub.now }
+{
+    let content = sub.content();
+    content.frames.stand_in_order();
+    content.records.stand_in_order();
+}
+
 /// Takes the posts away of what isn't ready any more.
 fn withdraw_stale(posts: &mut Posts, subs: &Store<Sub>)
     ensures { posts.new ≡ filter (λ p. is_some (ready_of_sub p.frame (sub_in p.grant subs.now))) posts.old }
@@ -350,6 +491,30 @@ fn hold(subs: &mut Store<Sub>, seen: &mut Store<Seen>, sub: Sub) -> Result<(), A
     })?;
     if let Err(refused) = subs.put(sub) {
         seen.take(name_of(grant));
+        return Err(refused);
+    }
+    Ok(())
+}
+
+/// Puts what comes of an Offer under its grant, and remembers with which hop it came; want of memory changes neither.
+fn note(
+    subs: &mut Store<Sub>,
+    seen: &mut Store<Seen>,
+    grant: GrantId,
+    hop: Hop,
+    after: Option<Sub>,
+) -> Result<(), AllocError>
+    requires absent { sub_in grant subs.old ≡ None }
+    requires named { IfSome after (λ s. s.grant ≡ grant) }
+    ensures subs { OnOk result (subs.new ≡ put_some after subs.old) }
+    ensures seen { OnOk result (seen.new ≡ put_seen grant hop seen.old) }
+    ensures err { OnErr result ((subs.new ≡ subs.old) × (seen.new ≡ seen.old)) }
+{
+    if let Some(sub) = after {
+        subs.put(sub)?;
+    }
+    if let Err(refused) = seen.put(Seen { grant, hop }) {
+        subs.take(name_of(grant));
         return Err(refused);
     }
     Ok(())

@@ -62,31 +62,31 @@ given_fit o numbers fits = as_many o (length numbers) (length (map Some numbers)
 
 -- a granted task
 pub begun_fits : (p : Program) (host : ℕ) (task : Task) → IsTrue (task_fits p task) → Fits p (granted_content host task)
-begun_fits p host task fits = record { frames = (given_fit (arity_of p task.thread) task.numbers fits, tt); records = tt }
+begun_fits p host task fits = record { task = fits; frames = (given_fit (arity_of p task.thread) task.numbers fits, tt); records = tt }
 
 -- another host, or another holder
 pub parent_fits : (p : Program) (host : ℕ) (c : Content) → Fits p c → Fits p (with_parent host c)
-parent_fits p host c fits = record { frames = fits.frames; records = fits.records }
+parent_fits p host c fits = record { task = fits.task; frames = fits.frames; records = fits.records }
 
 pub thief_fits : (p : Program) (g : Grant) (holder : ℕ) (c : Content) → Fits p c → Fits p (with_thief g holder c)
 thief_fits p g holder c fits = by_found (record_in g c.records) refl
   where
     by_found : (o : Option Record) → record_in g c.records ≡ o → Fits p (record c { records = changed_of name_of_record (with_holder holder) c.records o })
-    by_found None there = record { frames = fits.frames; records = fits.records }
+    by_found None there = record { task = fits.task; frames = fits.frames; records = fits.records }
     by_found (Some x) there =
         let here : RecordFits p x = all_found name_of_record (RecordFits p) (name_of_grant g) x c.records fits.records there in
-        record { frames = fits.frames; records = all_put name_of_record (RecordFits p) (with_holder holder x) c.records here fits.records }
+        record { task = fits.task; frames = fits.frames; records = all_put name_of_record (RecordFits p) (with_holder holder x) c.records here fits.records }
 
 -- a frame, or a record, leaves
 frame_left : (p : Program) (n : ℕ) (c : Content) → Fits p c → Fits p (record c { frames = without_frame n c.frames })
-frame_left p n c fits = record { frames = all_filtered (FrameFits p) _ c.frames fits.frames; records = fits.records }
+frame_left p n c fits = record { task = fits.task; frames = all_filtered (FrameFits p) _ c.frames fits.frames; records = fits.records }
 
 record_left : (p : Program) (g : Grant) (c : Content) → Fits p c → Fits p (record c { records = without_record g c.records })
-record_left p g c fits = record { frames = fits.frames; records = all_filtered (RecordFits p) _ c.records fits.records }
+record_left p g c fits = record { task = fits.task; frames = fits.frames; records = all_filtered (RecordFits p) _ c.records fits.records }
 
 -- a value comes
 arrives_fits : (p : Program) (r : Return) (v : ℤ) (c : Content) → Fits p c → Fits p (arrives r v c).after
-arrives_fits p Whole v c fits = record { frames = tt; records = tt }
+arrives_fits p Whole v c fits = record { task = fits.task; frames = tt; records = tt }
 arrives_fits p (Local n j) v c fits = by_frame (frame_in n c.frames) refl
   where
     by_frame : (o : Option Frame) → frame_in n c.frames ≡ o → Fits p (filled_in j v c o).after
@@ -94,7 +94,7 @@ arrives_fits p (Local n j) v c fits = by_frame (frame_in n c.frames) refl
     by_frame (Some f) there =
         let here : FrameFits p f = all_found name_of_frame (FrameFits p) (n, 0) f c.frames fits.frames there in
         let filled : FrameFits p (with_slot j v f) = as_many (arity_of p f.thread) (length f.slots) (length (slice_set f.slots j (Some v))) (sym (length-set f.slots j (Some v))) here in
-        record { frames = all_put name_of_frame (FrameFits p) (with_slot j v f) c.frames filled fits.frames; records = fits.records }
+        record { task = fits.task; frames = all_put name_of_frame (FrameFits p) (with_slot j v f) c.frames filled fits.frames; records = fits.records }
 
 -- a frame's turn
 kids_fit : (p : Program) (place : List ℕ) (n j m : ℕ) (slots : List Slot) → SlotsFit p slots → AllByRecursion (FrameFits p) (kids place n j m slots)
@@ -112,19 +112,21 @@ turned_fits p f (Joins t slots) c fits turn = by_length (nat_lt (length f.place)
 
     by_length : (b : Bool) → Fits p (cond b (replaced f.number (joined f t slots c.next) c) (ends TooDeep c)).after
     by_length true = record {
+      task = fits.task;
       frames = all_appended (FrameFits p) (without_frame f.number c.frames) (joined f t slots c.next) (frame_left p f.number c fits).frames made;
       records = fits.records;
     }
-    by_length false = record { frames = tt; records = tt }
+    by_length false = record { task = fits.task; frames = tt; records = tt }
 
 -- the outcome of a record's grant
 closed_fits : (p : Program) (r : Record) (o : Outcome) (c : Content) → Fits p c → Fits p (closed r o c).after
 closed_fits p r (Value v) c fits = arrives_fits p r.returns v (record c { records = without_record r.grant c.records }) (record_left p r.grant c fits)
-closed_fits p r TooDeep c fits = record { frames = tt; records = tt }
+closed_fits p r TooDeep c fits = record { task = fits.task; frames = tt; records = tt }
 
 -- a record's frame is there again
 redone_fits : (p : Program) (r : Record) (c : Content) → Fits p c → RecordFits p r → Fits p (redone r c)
 redone_fits p r c fits here = record {
+  task = fits.task;
   frames = all_put name_of_frame (FrameFits p) (frame_of r) c.frames (given_fit (arity_of p r.task.thread) r.task.numbers here) fits.frames;
   records = (record_left p r.grant c fits).records;
 }
@@ -156,6 +158,7 @@ ready_fits p n c r fits is = by_frame (frame_in n c.frames) refl is
 
 granted_fits : (p : Program) (g : Grant) (thief : ℕ) (r : Ready) (c : Content) → Fits p c → IsTrue (task_fits p (task_of r)) → Fits p (granted_out g thief r c)
 granted_fits p g thief r c fits here = record {
+  task = fits.task;
   frames = (frame_left p r.frame.number c fits).frames;
   records = all_put name_of_record (RecordFits p) (record_of g thief r) c.records here fits.records;
 }

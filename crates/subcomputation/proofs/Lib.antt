@@ -1,3 +1,4 @@
 pub mod Others
 pub mod Telling
 pub mod Fitting
+pub mod Begun

@@ -29,9 +29,10 @@ frame_fits p f = is_arity (arity_of p f.thread) (length f.slots)
 abbrev pub record_fits : Program → Record → Bool
 record_fits p r = task_fits p r.task
 
--- what a content holds fits a program: each frame has a thread that is there, and as many slots as it takes, and so has each
--- record's task
+-- what a content holds fits a program: its own task has a thread that is there, and as many numbers as it takes, and so have
+-- each frame, with its slots, and each record's task
 pub record Fits (p : Program) (c : Content) : Type 0 where
+  pub task : IsTrue (task_fits p c.task)
   pub frames : AllByRecursion (λ f. IsTrue (frame_fits p f)) c.frames
   pub records : AllByRecursion (λ r. IsTrue (record_fits p r)) c.records
 

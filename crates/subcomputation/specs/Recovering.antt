@@ -11,7 +11,8 @@ use Rattle.ids.specs.declared.member.Member.{Member}
 use Rattle.ids.specs.declared.work.Record.{Record}
 use Rattle.victim_records.specs.Records.{record_in}
 use Rattle.sub_rules.specs.Changes.{redone, with_parent, with_thief, frame_of, readied}
-use Rattle.subcomputation.specs.Subs.{SubOf, ReadyIn, sub_in, put_sub, without_sub, with_content, host_in}
+use Rattle.subcomputation.specs.Subs.{SubOf, sub_in, put_sub, without_sub, with_content, host_in}
+use Rattle.subcomputation.specs.declared.sub.ReadyIn.{ReadyIn}
 
 -- what a recovery leads to: the subcomputations after it, the records whose holders are told to stop, in the order of their
 -- Aborts, and the frames that are ready again, in their order

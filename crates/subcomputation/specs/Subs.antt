@@ -1,15 +1,21 @@
 -- The subcomputations that a node holds, by rising grant.
-use Rattle.std.specs.Prelude.{ℕ, Bool, List, Option, is_some, map}
+use Rattle.std.specs.Prelude.{ℕ, ◌<◌, Bool, List, Option, is_some, map}
 use Rattle.std.specs.List.{find}
 use Rattle.ids.specs.Names.{Grant}
 use Rattle.ids.specs.Named.{Name, item_in, put_in, without_in}
 use Rattle.ids.specs.Naming.{name_of_grant}
 use Rattle.ids.specs.declared.work.Task.{Task}
 use Rattle.victim_records.specs.Records.{record_in}
-use Rattle.sub_rules.specs.declared.change.Readied.{Readied}
 use Rattle.sub_rules.specs.declared.content.Content.{Content}
 use Rattle.sub_rules.specs.Content.{granted_content}
 use Rattle.sub_rules.specs.Changes.{readied_in}
+use Rattle.subcomputation.specs.declared.sub.ReadyIn.{ReadyIn}
+use Rattle.sub_rules.specs.Debts.{IsSound}
+
+-- what is kept of a content: it is sound, and the number of its first frame is given
+pub record IsBegun (c : Content) : Type 0 where
+  pub sound : IsSound c
+  pub begun : 0 < c.next
 
 -- a subcomputation: the grant under which its task came, how often it had moved when it came here, and its content
 pub record SubOf : Type 0 where
@@ -52,11 +58,6 @@ grants_of subs = map (λ s. s.grant) subs
 -- the subcomputation that a granted task begins, for the host that granted it
 abbrev pub granted_sub : Grant → Task → SubOf
 granted_sub g task = record { grant = g; hop = 0; content = granted_content g.minter task }
-
--- a ready frame, and the grant of its subcomputation
-pub record ReadyIn : Type 0 where
-  pub grant : Grant
-  pub frame : Readied
 
 -- the ready frames of a subcomputation, by rising number
 abbrev pub ready_frames : SubOf → List ReadyIn

@@ -7,4 +7,4 @@ mod sub;
 mod tests;
 
 pub use laws::{fitting_tasks_are_few, renaming_keeps_fitting};
-pub use sub::{Again, Changed, Given, Sub};
+pub use sub::{Again, Changed, Given, ReadyIn, Sub};

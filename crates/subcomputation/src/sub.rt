@@ -1,4 +1,4 @@
-ghost use Rattle.std.specs.Prelude.{◌≡◌, false, IsErrOf, IfOk, IfSome, IsTrue, Some, None, is_some, map, [], ◌∷◌};
+ghost use Rattle.std.specs.Prelude.{◌≡◌, ◌<◌, false, IsErrOf, IfOk, IfSome, IsTrue, Some, None, is_some, map, [], ◌∷◌};
 ghost use Rattle.ids.specs.Slots.{numbers_in};
 ghost use Rattle.task_syntax.specs.declared.tree.Program.{Program};
 ghost use Rattle.kind_check.specs.Total.{TurnFits};
@@ -9,7 +9,7 @@ ghost use Rattle.sub_rules.specs.declared.change.SubError.TheVariants.{Memory};
 ghost use Rattle.sub_rules.specs.Changes.{closed_in, given_away, done_again, with_parent, with_thief};
 ghost use Rattle.sub_rules.specs.Content.{first_frame, ready_in};
 ghost use Rattle.sub_rules.specs.Debts.{IsSound};
-ghost use Rattle.subcomputation.specs.Subs.{granted_sub, name_of_sub, with_content};
+ghost use Rattle.subcomputation.specs.Subs.{IsBegun, granted_sub, name_of_sub, with_content};
 ghost use Rattle.subcomputation.specs.Fitting.{Fits, task_fits};
 ghost use Rattle.sub_rules.specs.Readiness.{TellsReady};
 ghost use Rattle.subcomputation.specs.Told.{HasNoOthers, HasNoOthersBut, IsCarriedOut, changed, changed_by, given_by, again_by};
@@ -17,8 +17,8 @@ ghost use Rattle.subcomputation.specs.Told.{HasNoOthers, HasNoOthersBut, IsCarri
 use body_eval::Done;
 use frames::Frames;
 use ids::{
-    Actor, Frame, FrameNo, GrantId, Hop, Incarnation, Listed, Named, Outcome, Progress, Return,
-    Task,
+    Actor, Exact, Frame, FrameNo, GrantId, Hop, Incarnation, Listed, Named, Outcome, Progress,
+    Return, Task,
 };
 use std::alloc::{AllocError, Global};
 use std::marker::Model;
@@ -26,7 +26,8 @@ use sub_rules::{Change, Content, Filling, Readied, SubError};
 use victim_records::Records;
 
 /// A subcomputation: the grant under which its task came, how often it had moved when it came here, and its content, in
-/// which each number is used once and each value that is awaited has one debtor. Contracts see these three.
+/// which each number is used once, the first number is given, and each value that is awaited has one debtor. Contracts see
+/// these three.
 #[derive(Drop)]
 pub struct Sub {
     grant: GrantId,
@@ -35,14 +36,13 @@ pub struct Sub {
 }
 
 impl Model for Sub {
-    ghost use Rattle.subcomputation.specs.Subs.{SubOf};
-    ghost use Rattle.sub_rules.specs.Debts.{IsSound};
+    ghost use Rattle.subcomputation.specs.Subs.{SubOf, IsBegun};
 
     ghost Value = { SubOf };
 
     ghost view = { λ s. record { grant = s.grant; hop = s.hop; content = s.content } };
 
-    ghost invariant = { λ s. IsSound s.content };
+    ghost invariant = { λ s. IsBegun s.content };
 }
 
 /// A subcomputation's name is its grant's.
@@ -52,6 +52,26 @@ impl Named for Sub {
     fn name(&self) -> (u64, u64) {
         (self.grant.minter().word(), self.grant.number())
     }
+}
+
+/// The copy is equal.
+impl Clone for Sub {
+    ghost is_clone = { λ source copy. copy ≡ source };
+
+    fn clone(&self) -> Result<Sub, AllocError> {
+        Ok(self.with_content(self.content.clone()?))
+    }
+}
+
+impl Exact for Sub {
+    ghost exact = { λ source copy same. same };
+}
+
+/// A ready frame, and the grant of its subcomputation.
+#[derive(Clone, Copy, PartialEq, Eq, Debug)]
+pub struct ReadyIn {
+    pub grant: GrantId,
+    pub frame: Readied,
 }
 
 /// What a change leads to: the subcomputation after it, the value that it put into a slot, the frames that became ready, in
@@ -93,6 +113,19 @@ impl Sub {
         })
     }
 
+    /// The subcomputation of a grant that has moved so often, with a content that came with it.
+    pub fn of(grant: GrantId, hop: Hop, content: Content) -> Sub
+        requires sound { IsSound content }
+        requires begun { 0 < content.next }
+        ensures { result ≡ record { grant = grant; hop = hop; content = content } }
+    {
+        Sub {
+            grant,
+            hop,
+            content,
+        }
+    }
+
     /// The grant under which its task came.
     pub fn grant(&self) -> GrantId
         ensures { result ≡ self.now.grant }
@@ -111,6 +144,7 @@ impl Sub {
     pub fn content(&self) -> &Content
         ensures same { result.now ≡ self.now.content }
         ensures sound { IsSound self.now.content }
+        ensures begun { 0 < self.now.content.next }
     {
         &self.content
     }
@@ -207,12 +241,23 @@ impl Sub {
         if self.content.records.get(grant).is_none() {
             return Ok(None);
         }
+        self.clone()?.redone(alloc, grant)
+    }
+
+    /// The same of a subcomputation that isn't kept, with no copy of it.
+    pub fn redone(self, alloc: Global, grant: GrantId) -> Result<Option<Again>, AllocError>
+        ensures again { IfOk result (λ o. o ≡ again_by self (done_again self.content (record_in grant self.content.records))) }
+        ensures ready { IfOk result (λ o. IfSome o (λ a. TellsReady self.content a.after.content (a.ready ∷ []))) }
+        ensures records { IfOk result (λ o. IfSome o (λ a. HasNoOthers self.content.records a.after.content.records)) }
+        ensures fits { (p : Program) → Fits p self.content → IfOk result (λ o. IfSome o (λ a. Fits p a.after.content)) }
+    {
         sub_rules::frames_done_again_are_told();
         self.content.frames.stand_in_order();
         self.content.records.stand_in_order();
-        match sub_rules::redo(alloc, self.content.clone()?, grant)? {
+        let (name, hop) = (self.grant, self.hop);
+        match sub_rules::redo(alloc, self.content, grant)? {
             Some(again) => Ok(Some(Again {
-                after: self.with_content(again.after),
+                after: Sub::of(name, hop, again.after),
                 ready: again.ready,
             })),
             None => Ok(None),
@@ -238,7 +283,7 @@ impl Sub {
 
     /// This subcomputation with another content.
     fn with_content(&self, content: Content) -> Sub
-        requires { IsSound content }
+        requires { IsBegun content }
         ensures { result ≡ with_content self.now content }
     {
         Sub {
@@ -250,7 +295,7 @@ impl Sub {
 
     /// A change of the content, as one of this subcomputation.
     fn changed(&self, change: Change) -> Changed
-        requires { IsSound change.after }
+        requires { IsBegun change.after }
         ensures { result ≡ changed self.now change }
     {
         Changed {

@@ -117,6 +117,26 @@ fn again(alloc: Global) -> Result<(FrameNo, u16), Fail> {
     Ok((again.ready.frame, again.ready.level))
 }
 
+/// The same by value: which frame is ready, and how many frames and records there are.
+fn redone(alloc: Global, number: u64) -> Result<Option<(FrameNo, usize, usize)>, Fail> {
+    let copy = stolen(alloc)?.after.clone()?;
+    let Some(again) = copy.redone(alloc, grant(4, number)?)? else {
+        return Ok(None);
+    };
+    let content = again.after.content();
+    Ok(Some((
+        again.ready.frame,
+        content.frames.len(),
+        content.records.len(),
+    )))
+}
+
+/// The subcomputation as it stands where it came to after so many moves.
+fn moved(alloc: Global, hop: u32) -> Result<Sub, Fail> {
+    let sub = joined(alloc)?;
+    Ok(Sub::of(sub.grant(), Hop::of(hop), sub.content().clone()?))
+}
+
 /// How many frames there are, and the next number.
 fn numbers(sub: &Sub) -> (usize, FrameNo) {
     (sub.content().frames.len(), sub.content().next)
@@ -166,5 +186,15 @@ fn a_stolen_frame_comes_back(rt: HostRuntime) -> Result<(), Fail> {
     let deep = Progress::Finished(Outcome::TooDeep);
     assert_eq!(rt; returned(alloc, 8, Outcome::TooDeep)?, Some((0, 0, deep)));
     assert_eq!(rt; again(alloc)?, (FrameNo::of(2), 1));
+    assert_eq!(rt; redone(alloc, 8)?, Some((FrameNo::of(2), 2, 0)));
+    assert_eq!(rt; redone(alloc, 9)?, None);
+    Ok(())
+}
+
+#[test]
+fn a_subcomputation_moves_as_it_is(rt: HostRuntime) -> Result<(), Fail> {
+    let sub = moved(rt.alloc(), 2)?;
+    assert_eq!(rt; (sub.grant(), sub.hop()), (grant(3, 1)?, Hop::of(2)));
+    assert_eq!(rt; numbers(&sub), (2, FrameNo::of(3)));
     Ok(())
 }

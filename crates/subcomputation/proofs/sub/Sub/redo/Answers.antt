@@ -1,33 +1,7 @@
-use Rattle.std.proofs.Common.{◌≡◌, Some, sym, ◌∙◌, rules}
-use Rattle.ids.specs.Naming.{name_of_frame, name_of_record}
-use Rattle.ids.specs.Ordered.{AreInOrder}
-use Rattle.victim_records.specs.Records.{record_in}
-use Rattle.sub_rules.specs.Debts.{IsSound}
-use Rattle.sub_rules.specs.Changes.{done_again}
-use Rattle.subcomputation.proofs.Fitting.{redo_fits}
-use Rattle.subcomputation.proofs.Telling.{redo_tells}
+use Rattle.std.proofs.Common.{◌≡◌, rules}
 use Rattle.subcomputation.proofs.sub.Sub.redo.Goals as goal
 
-pub returns-in-Some-clause-ready : goal.returns-in-Some-clause-ready
-returns-in-Some-clause-ready c =
-    let same : c.in_ok-clone.field-0 ≡ c.args.self.now.content = search rules in
-    let frames : AreInOrder name_of_frame c.args.self.now.content.frames = search rules in
-    let records : AreInOrder name_of_record c.args.self.now.content.records = search rules in
-    let sound : IsSound c.args.self.now.content = search rules in
-    let is : Some c.in-Some.again ≡ done_again c.in_ok-clone.field-0 (record_in c.args.grant c.in_ok-clone.field-0.records) = sym c.in-Some.is ∙ c.in_ok-again.ensures.again in
-    rw c.with_content.ensures (redo_tells c.args.self.now.content c.in_ok-clone.field-0 c.args.grant c.in-Some.again same sound frames records is).ready
-
-pub returns-in-Some-clause-records : goal.returns-in-Some-clause-records
-returns-in-Some-clause-records c =
-    let same : c.in_ok-clone.field-0 ≡ c.args.self.now.content = search rules in
-    let frames : AreInOrder name_of_frame c.args.self.now.content.frames = search rules in
-    let records : AreInOrder name_of_record c.args.self.now.content.records = search rules in
-    let sound : IsSound c.args.self.now.content = search rules in
-    let is : Some c.in-Some.again ≡ done_again c.in_ok-clone.field-0 (record_in c.args.grant c.in_ok-clone.field-0.records) = sym c.in-Some.is ∙ c.in_ok-again.ensures.again in
-    rw c.with_content.ensures (redo_tells c.args.self.now.content c.in_ok-clone.field-0 c.args.grant c.in-Some.again same sound frames records is).records
-
-pub returns-in-Some-clause-fits : goal.returns-in-Some-clause-fits
-returns-in-Some-clause-fits c = λ p fits.
-    let same : c.in_ok-clone.field-0 ≡ c.args.self.now.content = search rules in
-    let is : Some c.in-Some.again ≡ done_again c.in_ok-clone.field-0 (record_in c.args.grant c.in_ok-clone.field-0.records) = sym c.in-Some.is ∙ c.in_ok-again.ensures.again in
-    rw c.with_content.ensures (redo_fits p c.args.self.now.content c.in_ok-clone.field-0 c.args.grant c.in-Some.again same is fits)
+pub returns-clause-fits : goal.returns-clause-fits
+returns-clause-fits c = λ p fits.
+    let same : c.in_ok-clone.field-0 ≡ c.args.self.now = search rules in
+    c.redone.ensures.fits p (rw same fits)

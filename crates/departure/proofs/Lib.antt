@@ -1,0 +1,13 @@
+pub mod OfferingCounts
+pub mod OfferingReturns
+pub mod OfferingFields
+pub mod Offering
+pub mod OfferingLists
+pub mod OfferingRefusals
+pub mod LinkedCounts
+pub mod LinkedNames
+pub mod LinkedStores
+pub mod LinkedLists
+pub mod LinkedSound
+pub mod LinkedOffers
+pub mod LinkedAccepted

@@ -1,0 +1,5 @@
+pub mod Offers
+pub mod Freezing
+pub mod Typed
+pub mod Errors
+pub mod Links

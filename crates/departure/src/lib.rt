@@ -1,0 +1,10 @@
+//! Departure: a node that leaves offers what it holds to its heir, which accepts what fits.
+#![tactic(auto)]
+
+mod accepting;
+mod freezing;
+#[cfg(test)]
+mod tests;
+
+pub use accepting::accept_offer;
+pub use freezing::{FreezeError, Move};

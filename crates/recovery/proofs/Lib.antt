@@ -1,0 +1,13 @@
+pub mod NamedLists
+pub mod Growing
+pub mod Following
+pub mod Beside
+pub mod OneAlone
+pub mod Orders
+pub mod Standing
+pub mod Settling
+pub mod Hosting
+pub mod Recording
+pub mod Workers
+pub mod Carrying
+pub mod Planning

@@ -1,0 +1,10 @@
+//! Recovery: what a newer roster does to the subcomputations of a node.
+#![tactic(auto)]
+
+mod alone;
+mod laws;
+mod plan;
+
+pub use alone::{Alone, recover_alone};
+pub use laws::{recoveries_are_told, recovery_alone_is_recovery_beside};
+pub use plan::{Plan, Settled, Stopped, make_plan};
