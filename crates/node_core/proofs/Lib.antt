@@ -3,8 +3,11 @@ mod Rows
 mod Moving
 mod Recovering
 pub mod Keeping
+mod Finding
 pub mod Serving
 pub mod Returning
 mod Viewing
 pub mod Carrying
-mod Stopping
+pub mod Stopping
+mod Arriving
+mod Offering

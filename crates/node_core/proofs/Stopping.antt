@@ -20,7 +20,7 @@ use Rattle.node_core.specs.Meeting.{NodeOn, spelled}
 use Rattle.node_core.specs.Moves.{aborts, status_of, stops}
 
 -- the holders that are told to stop are those of the records
-all_stops : (job : JobOf) (records : List Record) → map (stops job) (map stop_of records) ≡ aborts job records
+pub all_stops : (job : JobOf) (records : List Record) → map (stops job) (map stop_of records) ≡ aborts job records
 all_stops job [] = refl
 all_stops job (r ∷ rs) = ap (λ sent. stops job (stop_of r) ∷ sent) (all_stops job rs)
 

@@ -22,7 +22,10 @@ use Rattle.subcomputation.specs.Subs.{SubOf, sub_in}
 use Rattle.node_state.specs.Node.{NodeOf, by_state, starting}
 use Rattle.node_state.specs.declared.parts.State.TheVariants.{Leaving}
 use Rattle.node_state.specs.Posts.{ready_at}
+use Rattle.departure.specs.Freezing.{refusal, offers as offers_of}
+use Rattle.departure.specs.declared.freezing.FreezeError.{FreezeError}
 use Rattle.node_core.specs.Cases.{by_option}
+use Rattle.node_core.specs.Errors.{of_freezing}
 use Rattle.node_core.specs.declared.error.NodeError.TheVariants as error
 use Rattle.node_core.specs.declared.parts.Victim.{Victim}
 use Rattle.node_core.specs.declared.parts.Victim.TheVariants.{Worker, House}
@@ -99,25 +102,17 @@ module _ (job : JobOf) where
 
   -- it leaves to an heir: all that it holds is frozen, and offered by rising grant
   abbrev pub offers : ℕ → NodeOf → List PacketOf
-  offers heir n = map (Moves.offer job n.incarnation heir) n.subs
+  offers heir n = offers_of (Moves.move_to job heir n) n.subs
 
   abbrev pub departs : Roster → ℕ → NodeOf → StepOf
   departs r heir n = let gone : NodeOf = record n { state = Leaving r heir } in sends (offers heir n ++ Moves.leaves job r heir gone) gone
 
-  -- a subcomputation that has moved as often as is counted, and an Offer of too many bytes
-  abbrev pub is_last_hop : SubOf → Bool
-  is_last_hop s = not (nat_lt (s.hop + 1) (2 ^ 32))
-
-  abbrev pub is_too_big : PacketOf → Bool
-  is_too_big p = nat_lt 1048576 (length (spelling.write p))
+  abbrev pub frozen : Option FreezeError → StepOf → Answer
+  frozen None s = Does s
+  frozen (Some e) s = Refused (of_freezing e)
 
   abbrev pub member_depart : ℕ → NodeOf → Roster → Answer
-  member_depart heir n r =
-      if is_some n.asker.pending then Refused error.Pending
-      else if nat_eq heir n.incarnation || not (is_live heir r.members) then Refused error.NoHeir
-      else if list_any is_last_hop n.subs then Refused error.HopSpent
-      else if list_any is_too_big (offers heir n) then Refused error.TooBig
-      else Does (departs r heir n)
+  member_depart heir n r = frozen (refusal (Moves.move_to job heir n) (is_some n.asker.pending) r.members n.subs) (departs r heir n)
 
   unfoldable pub depart : ℕ → NodeOf → Answer
   depart heir n = if_joined n (member_depart heir n) (λ r _. Refused error.Busy)

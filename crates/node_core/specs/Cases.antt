@@ -1,5 +1,5 @@
 -- What a packet does at a node, by its kind and by where the node stands.
-use Rattle.std.specs.Prelude.{ℕ, ◌+◌, ◌^◌, ◌&&◌, Bool, true, false, not, nat_eq, nat_lt, if◌then◌else◌, List, [], ◌∷◌, Option, None, Some, is_some, Result, Ok, Err}
+use Rattle.std.specs.Prelude.{ℕ, ◌+◌, ◌^◌, ◌&&◌, Bool, true, false, not, nat_eq, nat_lt, if◌then◌else◌, List, [], ◌∷◌, ◌++◌, Option, None, Some, is_some, Result, Ok, Err}
 use Rattle.std.specs.List.{list_any}
 use Rattle.std.specs.Ordering.{nat_cmp, eq_by_cmp}
 use Rattle.ids.specs.Members.{is_live, status_in}
@@ -18,6 +18,7 @@ use Rattle.codec.specs.declared.body.OfferAck.{OfferAck}
 use Rattle.codec.specs.declared.body.Roster.{Roster}
 use Rattle.codec.specs.declared.body.Steal.{Steal}
 use Rattle.codec.specs.declared.body.TaskResult.{TaskResult}
+use Rattle.departure.specs.Offers.{offered}
 use Rattle.serial_meaning.specs.Job.{JobOf}
 use Rattle.steal_protocol.specs.Replies.{by_order, by_reply, reply_in}
 use Rattle.steal_protocol.specs.Requests.{is_answered_by, is_pending, without_request}
@@ -77,6 +78,19 @@ abbrev pub is_above : ℕ → Option ℕ → Bool
 is_above hop None = true
 is_above hop (Some greatest) = nat_lt greatest hop
 
+-- whether an OfferAck says that the heir has a subcomputation at the hop with which it was offered
+abbrev pub is_released : ℕ → OfferAck → Option SubOf → Bool
+is_released heir b None = false
+is_released heir b (Some s) = nat_eq b.hop (s.hop + 1) && nat_eq b.from heir
+
+-- whether an OfferAck names the thief and the grant of an answer
+abbrev pub is_given : Grant → Option Grant → Bool
+is_given g None = false
+is_given g (Some h) = eq_by_cmp grant_cmp h g
+
+abbrev pub confirms : OfferAck → Reply → Bool
+confirms b reply = nat_eq reply.thief b.from && is_given b.grant (Moves.given_by reply.packet.body)
+
 module _ (job : JobOf) where
   -- Roster, to a member: it is kept, and what the node holds is recovered by it; then a pending request is forgotten whose
   -- victim isn't live any more
@@ -109,15 +123,19 @@ module _ (job : JobOf) where
       then by_reply (reply_in b.from n.replies) b.seq Ignored (λ reply. Does (sends (reply ∷ []) n)) (served b frame n)
       else Ignored
 
-  -- Grant: it is taken if it answers the pending request, was never taken here and fits. Else, where a worker minted it and it
-  -- was taken here, that one is told so
+  -- where a grant was taken here that a worker minted, that one is told so, at hop 0
+  abbrev pub acknowledged_again : Grant → NodeOf → Answer
+  acknowledged_again g n =
+      if is_worker g.minter && is_some (hop_in g n.seen)
+      then Does (sends (Moves.offer_ack job n.incarnation g.minter g 0 ∷ []) n)
+      else Ignored
+
+  -- Grant: it is taken if it answers the pending request, was never taken here and fits; else it is acknowledged again
   abbrev pub granted : GrantBody → NodeOf → Answer
   granted b n =
       if is_answered_by b.seq b.grant n.asker.pending && not (is_some (hop_in b.grant n.seen)) && task_fits job.program b.task
       then Does (Moves.takes job b n)
-      else if is_worker b.grant.minter && is_some (hop_in b.grant n.seen)
-      then Does (sends (Moves.offer_ack job n.incarnation b.grant.minter b.grant 0 ∷ []) n)
-      else Ignored
+      else acknowledged_again b.grant n
 
   -- Refuse: the request that it answers is forgotten
   abbrev pub refused : ℕ → NodeOf → Answer
@@ -138,39 +156,26 @@ module _ (job : JobOf) where
   abbrev pub member_offered : Roster → Offer → NodeOf → Answer
   member_offered r o n =
       if is_above o.hop (hop_in o.grant n.seen) then
-      if not (is_some (sub_in o.grant n.subs)) && content_fits job.program n.incarnation n.subs (Moves.offered o).content then
+      if not (is_some (sub_in o.grant n.subs)) && content_fits job.program n.incarnation n.subs (offered o).content then
       Does (Moves.accepts job o n then Moves.recovers job r.members (o.grant ∷ []))
       else Ignored
-      else Does (sends (Moves.offer_ack job n.incarnation o.from o.grant o.hop ∷ []) n)
+      else Does (sends (Moves.acknowledges job o n ∷ []) n)
 
   -- Offer, to a leaving node: none is accepted any more
   abbrev pub leaving_offered : Offer → NodeOf → Answer
   leaving_offered o n =
-      if is_above o.hop (hop_in o.grant n.seen) then Ignored
-      else Does (sends (Moves.offer_ack job n.incarnation o.from o.grant o.hop ∷ []) n)
-
-  -- OfferAck, to a leaving node: the heir has a subcomputation at the hop with which it was offered, or an awaited thief has its
-  -- grant, which is hop 0
-  abbrev pub is_released : ℕ → OfferAck → Option SubOf → Bool
-  is_released heir b None = false
-  is_released heir b (Some s) = nat_eq b.hop (s.hop + 1) && nat_eq b.from heir
-
-  abbrev pub is_given : Grant → Option Grant → Bool
-  is_given g None = false
-  is_given g (Some h) = eq_by_cmp grant_cmp g h
-
-  abbrev pub confirms : OfferAck → Reply → Bool
-  confirms b reply = nat_eq reply.thief b.from && is_given b.grant (Moves.given_by reply.packet.body)
+      if is_above o.hop (hop_in o.grant n.seen) then Ignored else Does (sends (Moves.acknowledges job o n ∷ []) n)
 
   abbrev pub left_behind : Roster → ℕ → NodeOf → Answer
   left_behind r heir n = Does (sends (Moves.leaves job r heir n) n)
 
+  -- OfferAck, to a leaving node: the heir has a subcomputation that was offered, or an awaited thief has its grant, which is hop 0
   abbrev pub taken : Roster → ℕ → OfferAck → NodeOf → Answer
   taken r heir b n =
       if is_released heir b (sub_in b.grant n.subs)
       then left_behind r heir (record n { subs = without_sub b.grant n.subs })
       else if nat_eq b.hop 0 && list_any (confirms b) (Moves.awaited r n)
-      then left_behind r heir (record n { confirmed = record { thief = b.from; grant = b.grant } ∷ n.confirmed })
+      then left_behind r heir (record n { confirmed = n.confirmed ++ record { thief = b.from; grant = b.grant } ∷ [] })
       else Ignored
 
   -- Abort: the subcomputation is dropped

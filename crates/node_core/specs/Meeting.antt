@@ -1,13 +1,16 @@
 -- What a call of a node answers, and what it leaves.
-use Rattle.std.specs.Prelude.{◌≡◌, ℕ, ◌+◌, ◌++◌, true, false, List, [], map, Some, Result, Ok, Err, IsTrue}
+use Rattle.std.specs.Prelude.{◌≡◌, ℕ, ◌+◌, ◌++◌, true, false, List, [], ◌∷◌, nat_eq, map, Some, Result, Ok, Err, IsTrue}
 use Rattle.std.specs.List.{AllByRecursion}
 use Rattle.ids.specs.Names.{Grant}
 use Rattle.codec.specs.Table.{PacketOf, is_short, packet as spelling}
 use Rattle.codec.specs.declared.body.Body.TheVariants as body
+use Rattle.codec.specs.declared.body.Roster.{Roster}
 use Rattle.codec.specs.declared.body.Steal.{Steal}
 use Rattle.level_deques.specs.declared.posts.Post.{Post}
 use Rattle.serial_meaning.specs.Job.{JobOf}
-use Rattle.node_state.specs.Node.{NodeOf, ended}
+use Rattle.departure.specs.Freezing.{AreMovable}
+use Rattle.departure.specs.declared.freezing.Move.{Move}
+use Rattle.node_state.specs.Node.{NodeOf, ended, holding}
 use Rattle.node_state.specs.Posts.{posts_after}
 use Rattle.node_state.specs.declared.parts.State.{State}
 use Rattle.node_state.specs.declared.parts.State.TheVariants.{Joining, Member, Leaving, Ended}
@@ -15,14 +18,14 @@ use Rattle.node_core.specs.declared.error.NodeError.{NodeError}
 use Rattle.node_core.specs.declared.error.NodeError.TheVariants as error
 use Rattle.node_core.specs.declared.parts.Step.{Step}
 use Rattle.subcomputation.specs.Fitting.{Fits}
-use Rattle.subcomputation.specs.Subs.{SubOf, put_sub, sub_in}
+use Rattle.subcomputation.specs.Subs.{SubOf, put_sub, ready_frames, sub_in}
 use Rattle.subcomputation.specs.declared.sub.Changed.{Changed}
 use Rattle.subcomputation.specs.declared.sub.Given.{Given}
 use Rattle.node_state.specs.Parts.{ready_of}
 use Rattle.node_core.specs.Moves
 use Rattle.node_core.specs.declared.rosters.News.{News}
 use Rattle.node_core.specs.declared.rosters.News.TheVariants as news
-use Rattle.node_core.specs.Steps.{Answer, Ignored, Refused, Does, StepOf, fills_of, quiet}
+use Rattle.node_core.specs.Steps.{Answer, Ignored, Refused, Does, StepOf, fills_of, quiet, ◌then◌}
 
 -- a node of a job, and the posts of its ready frames
 pub record NodeOn : Type 0 where
@@ -60,7 +63,7 @@ by_news news.Old n kept = Ignored
 by_news news.Over n kept = Does (quiet (ended n))
 by_news news.Newer n kept = kept
 
--- want of memory comes behind the other refusals of a call but that of a spent count
+-- want of memory comes behind the other refusals of a call but those of a spent count and of an Offer of too many bytes
 abbrev pub MayStarve : Answer → Type 0
 MayStarve Ignored = ⊥
 MayStarve (Refused error.Spent) = Unit {0}
@@ -68,24 +71,28 @@ MayStarve (Refused error.Memory) = Unit {0}
 MayStarve (Refused (error.Bytes fault)) = ⊥
 MayStarve (Refused error.Stale) = ⊥
 MayStarve (Refused error.Pending) = ⊥
-MayStarve (Refused error.TooBig) = ⊥
+MayStarve (Refused error.TooBig) = Unit {0}
 MayStarve (Refused error.HopSpent) = ⊥
 MayStarve (Refused error.NoHeir) = ⊥
 MayStarve (Refused error.NotJoined) = ⊥
 MayStarve (Refused error.Busy) = ⊥
 MayStarve (Does s) = Unit {0}
 
--- no node leaves yet
-abbrev pub IsStaying : State → Type 0
-IsStaying Joining = Unit {0}
-IsStaying (Member r) = Unit {0}
-IsStaying (Leaving r heir) = ⊥
-IsStaying Ended = Unit {0}
+-- what holds of a node that leaves: its heir is another worker, and what it holds can be offered to that one
+pub record CanOffer (m : Move) (subs : List SubOf) : Type 0 where
+  pub other : nat_eq m.heir m.from ≡ false
+  pub movable : AreMovable m subs
 
--- what holds of a node between its calls: it doesn't leave, its last answers are Grants and Refuses, which are never too big,
--- and what it holds fits the program
+abbrev pub CanLeave : JobOf → NodeOf → State → Type 0
+CanLeave job n Joining = Unit {0}
+CanLeave job n (Member r) = Unit {0}
+CanLeave job n (Leaving r heir) = CanOffer (Moves.move_to job heir n) n.subs
+CanLeave job n Ended = Unit {0}
+
+-- what holds of a node between its calls: where it leaves it can offer what it holds, its last answers are Grants and Refuses,
+-- which are never too big, and what it holds fits the program
 pub record IsNode (n : NodeOn) : Type 0 where
-  pub staying : IsStaying n.node.state
+  pub leaving : CanLeave n.job n.node n.node.state
   pub short : AllByRecursion (λ r. IsTrue (is_short r.packet.body)) n.node.replies
   pub fits : (g : Grant) (s : SubOf) → sub_in g n.node.subs ≡ Some s → Fits n.job.program s.content
 
@@ -109,3 +116,8 @@ MeetsBehind before s (Err e) old new = (e ≡ error.Memory) × (new ≡ old)
 abbrev pub gives : JobOf → Steal → Grant → Given → NodeOf → StepOf
 gives job b name given n =
     Moves.answers job b.from b.seq (body.Grant (record { seq = b.seq; grant = name; task = given.task })) (record n { minted = n.minted + 1; subs = put_sub given.after n.subs })
+
+-- a subcomputation comes, and is recovered by a roster
+abbrev pub comes : JobOf → Roster → SubOf → NodeOf → StepOf
+comes job r s n =
+    record { after = holding s n; sent = []; fills = []; ready = ready_frames s } then Moves.recovers job r.members (s.grant ∷ [])

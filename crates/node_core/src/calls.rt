@@ -21,15 +21,22 @@ use std::alloc::{AllocError, Global};
 
 impl<'a> Node<'a> {
     /// Asks a victim for work, which is another worker that the roster shows live, or the clearinghouse. E60 where the node isn't
-    /// joined or has ended, or the victim isn't such a one; E61 where a request is pending; E62 where no count of requests is
+    /// joined or has ended, or the victim isn't such a one; E61 where a request is pending, or the node leaves; E62 where no count of requests is
     /// left; E63 where there is no memory. A refusal changes nothing.
     #[tactic(auto, unfolding(crate::specs::Calls::ask, node_state::specs::Node::by_state))]
     pub fn ask(&mut self, alloc: Global, victim: Victim) -> Result<Step, NodeError>
         ensures answer { Meets (calls.ask self.old.job victim self.old.node) result self.old self.new }
         ensures starved { IsErrOf result Memory → MayStarve (calls.ask self.old.job victim self.old.node) }
     {
-        let State::Member(roster) = self.parts.state() else {
-            return Err(NodeError::NotJoined);
+        let roster = match self.parts.state() {
+            State::Member(roster) => roster,
+            State::Leaving(roster, _) => {
+                return match address_of(roster, self.parts.incarnation(), victim) {
+                    None => Err(NodeError::NotJoined),
+                    Some(_) => Err(NodeError::Busy),
+                };
+            }
+            State::Joining | State::Ended => return Err(NodeError::NotJoined),
         };
         let Some(to) = address_of(roster, self.parts.incarnation(), victim) else {
             return Err(NodeError::NotJoined);
@@ -58,7 +65,8 @@ impl<'a> Node<'a> {
     }
 
     /// Carries out a ready frame of a grant's subcomputation by a turn that was evaluated, of this job's program. E60 where the
-    /// node isn't joined or has ended; E40 where the frame isn't ready here with that thread and those numbers; E62 where no
+    /// node isn't joined or has ended; E40 where the frame isn't ready here with that thread and those numbers, as none is at a
+    /// leaving node; E62 where no
     /// frame numbers are left; E63 where there is no memory. A refusal changes nothing.
     #[tactic(auto, unfolding(crate::specs::Calls::exec, crate::specs::Cases::by_option, node_state::specs::Node::by_state))]
     pub fn exec(
@@ -72,9 +80,11 @@ impl<'a> Node<'a> {
         ensures answer { Meets (calls.exec self.old.job done.now grant frame self.old.node) result self.old self.new }
         ensures starved { IsErrOf result Memory → MayStarve (calls.exec self.old.job done.now grant frame self.old.node) }
     {
-        let State::Member(_) = self.parts.state() else {
-            return Err(NodeError::NotJoined);
-        };
+        match self.parts.state() {
+            State::Member(_) => {}
+            State::Leaving(_, _) => return Err(NodeError::Stale),
+            State::Joining | State::Ended => return Err(NodeError::NotJoined),
+        }
         let Some(sub) = self.parts.sub(grant) else {
             return Err(NodeError::Stale);
         };
@@ -84,7 +94,8 @@ impl<'a> Node<'a> {
     }
 
     /// Sends again what isn't answered yet: a joining node its Join, a member its Beat, its pending Steal, and the Result of each
-    /// finished subcomputation, by rising grant. E60 where the node has ended, E63 where there is no memory. It changes nothing.
+    /// finished subcomputation, by rising grant; a leaving node its Beat, the Offers of what it holds and the Grants of the
+    /// thieves that it awaits, each by rising grant, and, where there are neither, its Leave. E60 where the node has ended, E63 where there is no memory. It changes nothing.
     #[tactic(auto, unfolding(crate::specs::Calls::resend, node_state::specs::Node::by_state))]
     pub fn resend(&self, alloc: Global) -> Result<Step, NodeError>
         ensures answer { Meets (calls.resend self.now.job self.now.node) result self.now self.now }
@@ -103,7 +114,11 @@ impl<'a> Node<'a> {
                 let sent = self.unanswered(alloc, roster)?;
                 Ok(sends(alloc, sent))
             }
-            State::Leaving(_, _) | State::Ended => Err(NodeError::NotJoined),
+            State::Leaving(roster, heir) => {
+                let sent = self.unacknowledged(alloc, roster, *heir)?;
+                Ok(sends(alloc, sent))
+            }
+            State::Ended => Err(NodeError::NotJoined),
         }
     }
 

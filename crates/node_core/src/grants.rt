@@ -1,7 +1,7 @@
 //! Grants: what a victim gives away, and what a thief takes.
 ghost use Rattle.std.specs.Prelude.{◌≡◌, ◌<◌, ◌≤◌, ◌+◌, ◌^◌, nat_lt, if◌then◌else◌, length, Ok, Some, None, [], ◌∷◌, IsTrue, IsSome};
 ghost use Rattle.codec.specs.declared.body.Body.TheVariants as body;
-ghost use Rattle.node_state.specs.Parts.{IsMember, IsNext, HasNoNewRecord};
+ghost use Rattle.node_state.specs.Parts.{IsJoined, IsMember, IsNext, HasNoNewRecord};
 ghost use Rattle.subcomputation.specs.Fitting.{Fits, task_fits};
 ghost use Rattle.subcomputation.specs.Subs.{sub_in};
 ghost use Rattle.node_core.specs.Cases as cases;
@@ -72,8 +72,8 @@ impl<'a> Node<'a> {
     }
 
     /// A request is refused.
-    fn refuse(&mut self, alloc: Global, steal: Steal) -> Result<Step, NodeError>
-        requires { IsMember self.old.node.state }
+    pub(crate) fn refuse(&mut self, alloc: Global, steal: Steal) -> Result<Step, NodeError>
+        requires { IsJoined self.old.node.state }
         ensures { Meets (Does (moves.refuses self.old.job steal.from steal.seq self.old.node)) result self.old self.new }
     {
         let packet = Packet::refuse(self.job.number(), steal.from, Refuse { seq: steal.seq });
@@ -152,12 +152,24 @@ impl<'a> Node<'a> {
         {
             return self.take(alloc, grant);
         }
+        self.acknowledge_grant(alloc, grant.grant)
+    }
+
+    /// A grant that was taken here already, and was minted by a worker, is acknowledged again, at hop 0.
+    pub(crate) fn acknowledge_grant(
+        &mut self,
+        alloc: Global,
+        grant: GrantId,
+    ) -> Result<Step, NodeError>
+        ensures { Meets (cases.acknowledged_again self.old.job grant self.old.node) result self.old self.new }
+    {
+        let is_seen = self.parts.hop(grant).is_some();
         self.parts.nothing_goes();
-        match grant.grant.minter().incarnation() {
+        match grant.minter().incarnation() {
             Some(minter) if is_seen => {
                 let ack = OfferAck {
                     from: self.parts.incarnation(),
-                    grant: grant.grant,
+                    grant,
                     hop: Hop::of(0),
                 };
                 let packet = Packet::offer_ack(self.job.number(), minter, ack);

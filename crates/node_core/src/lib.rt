@@ -3,9 +3,11 @@
 
 mod calls;
 mod changes;
+mod departing;
 mod error;
 mod grants;
 mod node;
+mod offers;
 mod parts;
 mod requests;
 mod rosters;

@@ -1,5 +1,6 @@
 ghost use Rattle.std.specs.Prelude.{◌≡◌, Some, None, OnOk, IfOk, IfErr, option_copied, IsTrue, true, false, [], ◌∷◌, nat_eq, ◌&&◌};
 ghost use Rattle.ids.specs.Members.{status_in, is_live};
+ghost use Rattle.codec.specs.Table.{fits_body};
 ghost use Rattle.serial_meaning.specs.Job.{meaning_of};
 ghost use Rattle.steal_protocol.specs.declared.asker.Request as asking;
 ghost use Rattle.node_core.specs.Calls as calls;
@@ -8,7 +9,6 @@ ghost use Rattle.node_core.specs.Choosing.{own_choice};
 ghost use Rattle.node_core.specs.Meeting.{Meets, spelled};
 ghost use Rattle.node_core.specs.declared.error.NodeError.TheVariants.{Memory};
 ghost use Rattle.node_core.specs.Moves as moves;
-ghost use Rattle.node_core.specs.Staying as staying;
 ghost use Rattle.node_core.specs.Steps.{Does, quiet};
 
 use crate::error::NodeError;
@@ -22,14 +22,15 @@ use serial_meaning::Job;
 use std::alloc::{AllocError, Global};
 use std::marker::Model;
 
-/// The case of a body, by where the node stands. No node leaves yet.
+/// The case of a body, by where the node stands.
 macro_rules! on_case {
-    ($node:ident, $alloc:ident, $body:ident; $($kind:ident: $joining:ident, $member:ident, $ended:ident;)*) => {
+    ($node:ident, $alloc:ident, $body:ident; $($kind:ident: $joining:ident, $member:ident, $leaving:ident, $ended:ident;)*) => {
         match $body {
             $(Body::$kind(packet) => match $node.parts.state() {
                 State::Joining => case!($joining, $node, $alloc, packet),
                 State::Member(_) => case!($member, $node, $alloc, packet),
-                State::Leaving(_, _) | State::Ended => case!($ended, $node, $alloc, packet),
+                State::Leaving(_, _) => case!($leaving, $node, $alloc, packet),
+                State::Ended => case!($ended, $node, $alloc, packet),
             },)*
         }
     };
@@ -99,9 +100,9 @@ impl<'a> Node<'a> {
     /// What comes in a packet's bytes is done, by the kind of the packet and by where the node stands. Bytes that are no packet
     /// are refused (E30 to E36), also by a node that has ended; a packet of another job, or to somebody else, is ignored. E62
     /// where a request would be granted and no grant is left to mint, E63 where there is no memory. A refusal changes nothing.
-    #[tactic(auto, unfolding(crate::specs::Staying::on_packet_staying))]
+    #[tactic(auto, unfolding(crate::specs::Cases::on_packet))]
     pub fn on_bytes(&mut self, alloc: Global, bytes: &[u8]) -> Result<Step, NodeError>
-        ensures { Meets (staying.on_bytes_staying self.old.job (own_choice self.old.posts) bytes.now self.old.node) result self.old self.new }
+        ensures { Meets (cases.on_bytes self.old.job (own_choice self.old.posts) bytes.now self.old.node) result self.old self.new }
     {
         let packet = match decode(alloc, bytes) {
             Ok(packet) => packet,
@@ -116,24 +117,25 @@ impl<'a> Node<'a> {
         self.on_body(alloc, packet.into_body())
     }
 
-    /// The table: a row for each kind, and a column for a joining node, a member and an ended one.
-    #[tactic(auto, unfolding(crate::specs::Staying::on_body_staying, crate::specs::Cases::on_body, node_state::specs::Node::by_state))]
+    /// The table: a row for each kind, and a column for a joining node, a member, a leaving node and an ended one.
+    #[tactic(auto, unfolding(crate::specs::Cases::on_body, node_state::specs::Node::by_state))]
     fn on_body(&mut self, alloc: Global, body: Body) -> Result<Step, NodeError>
-        ensures { Meets (staying.on_body_staying self.old.job (own_choice self.old.posts) body self.old.node) result self.old self.new }
+        requires { IsTrue (fits_body body) }
+        ensures { Meets (cases.on_body self.old.job (own_choice self.old.posts) body self.old.node) result self.old self.new }
     {
         on_case! { self, alloc, body;
-            Join: ignored, ignored, ignored;
-            Roster: joining_roster, member_roster, ignored;
-            Steal: ignored, member_steal, ignored;
-            Grant: ignored, member_grant, ignored;
-            Refuse: ignored, member_refuse, ignored;
-            Result: ignored, member_result, ignored;
-            ResultAck: ignored, member_result_ack, ignored;
-            Offer: ignored, ignored, ignored;
-            OfferAck: ignored, ignored, ignored;
-            Leave: ignored, ignored, ignored;
-            Abort: ignored, member_abort, ignored;
-            Beat: ignored, ignored, ignored;
+            Join: ignored, ignored, ignored, ignored;
+            Roster: joining_roster, member_roster, leaving_roster, ignored;
+            Steal: ignored, member_steal, leaving_steal, ignored;
+            Grant: ignored, member_grant, leaving_grant, ignored;
+            Refuse: ignored, member_refuse, ignored, ignored;
+            Result: ignored, member_result, ignored, ignored;
+            ResultAck: ignored, member_result_ack, ignored, ignored;
+            Offer: ignored, member_offer, leaving_offer, ignored;
+            OfferAck: ignored, ignored, leaving_offer_ack, ignored;
+            Leave: ignored, ignored, ignored, ignored;
+            Abort: ignored, member_abort, ignored, ignored;
+            Beat: ignored, ignored, ignored, ignored;
         }
     }
 }

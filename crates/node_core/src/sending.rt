@@ -23,6 +23,16 @@ pub fn send(alloc: Global, sent: &mut Listed<Listed<u8>>, packet: &Packet) -> Re
     sent.push(Listed::from_vec(encode_short(alloc, packet)?))
 }
 
+/// Adds packets that are made already, in their order.
+pub fn send_on(sent: &mut Listed<Listed<u8>>, more: Listed<Listed<u8>>) -> Result<(), AllocError>
+    ensures { OnOk result (sent.new ≡ sent.old ++ more) }
+{
+    for bytes in more.into_vec() {
+        sent.push(bytes)?;
+    }
+    Ok(())
+}
+
 /// A packet alone.
 pub fn alone(alloc: Global, packet: &Packet) -> Result<Listed<Listed<u8>>, AllocError>
     requires { IsTrue (is_short packet.now.body) }

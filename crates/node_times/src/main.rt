@@ -1,5 +1,5 @@
 //! A call of a node, again and again, for `bench/node`, which takes the time:
-//! `node_times build|leaf|join|steal|result FRAMES ROUNDS` makes ROUNDS nodes, one after the other. Each holds a subcomputation
+//! `node_times build|leaf|join|steal|result|roster|depart FRAMES ROUNDS` makes ROUNDS nodes, one after the other. Each holds a subcomputation
 //! of 8 times FRAMES / 8 frames and one, which takes FRAMES / 8 joins of 8 kids to build, and is called as often for what is
 //! timed. It prints how many of those calls were made in all.
 #![tactic(auto)]
@@ -8,7 +8,7 @@ mod packets;
 
 ghost use Rattle.std.specs.Prelude.{◌≡◌, IfOk, OnOk};
 
-use crate::packets::{both, granted, outcome_of, root_grant, steal, worker};
+use crate::packets::{both, chain, granted, outcome_of, root_grant, steal, worker};
 use anyhow::{Context, Result, bail};
 use body_eval::Done;
 use ids::{FrameNo, GrantId};
@@ -45,8 +45,9 @@ thread sum(k, a, b, c, d, e, f, g, h) { send_argument(k, a + b + c + d + e + f +
 thread same(k, a) { send_argument(k, a); }
 ";
 
-/// What is timed: nothing but the building, a turn that sends, a turn that joins with one kid, a frame that is given away, or
-/// the value of one that comes back, for which as many were given away before.
+/// What is timed: nothing but the building, a turn that sends, a turn that joins with one kid, a frame that is given away, the
+/// value of one that comes back, for which as many were given away before, one roster by which the holder of as many records has
+/// left to the end of a chain of heirs, or one departure.
 #[derive(Clone, Copy)]
 enum Kind {
     Build,
@@ -54,6 +55,8 @@ enum Kind {
     Join,
     Steal,
     Result,
+    Roster,
+    Depart,
 }
 
 /// Turns to run: how many, which of the ready frames is the first one, from the deepest level on, how many further on each
@@ -182,6 +185,16 @@ fn bring(alloc: Global, node: &mut Node<'_>, grants: &[GrantId]) -> Result<()> {
     Ok(())
 }
 
+/// A roster comes by which the holder has left to the end of a chain of heirs, four for each frame that was given away.
+fn leave_to_heirs(alloc: Global, node: &mut Node<'_>, count: u32) -> Result<()> {
+    let told = chain(alloc, u64::from(count).wrapping_mul(4))?;
+    let heard = node.on_bytes(alloc, &told)?;
+    if heard.ignored || heard.sent.len() != 0 {
+        bail!("a newer roster is wanted");
+    }
+    Ok(())
+}
+
 /// Makes a node and does what is timed.
 fn work(alloc: Global, job: &Job, kind: Kind, count: u32) -> Result<()> {
     let mut node = built(alloc, job, count, kind)?;
@@ -212,6 +225,16 @@ fn work(alloc: Global, job: &Job, kind: Kind, count: u32) -> Result<()> {
             let grants = give(alloc, &mut node, count)?;
             bring(alloc, &mut node, &grants)?;
         }
+        Kind::Roster => {
+            let _ = give(alloc, &mut node, count)?;
+            leave_to_heirs(alloc, &mut node, count)?;
+        }
+        Kind::Depart => {
+            let left = node.depart(alloc, worker(4)?)?;
+            if left.sent.len() != 1 {
+                bail!("one Offer is wanted");
+            }
+        }
     }
     Ok(())
 }
@@ -236,7 +259,9 @@ fn kind_of(word: &str) -> Result<Kind> {
         "join" => Ok(Kind::Join),
         "steal" => Ok(Kind::Steal),
         "result" => Ok(Kind::Result),
-        _ => bail!("build, leaf, join, steal or result is wanted"),
+        "roster" => Ok(Kind::Roster),
+        "depart" => Ok(Kind::Depart),
+        _ => bail!("build, leaf, join, steal, result, roster or depart is wanted"),
     }
 }
 

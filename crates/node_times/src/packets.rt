@@ -46,6 +46,32 @@ pub fn both(alloc: Global) -> Result<Vec<u8>> {
     packet(alloc, Body::Roster(roster))
 }
 
+/// The roster of the next version, by which worker 4 has left to the next one, that one to the next, and so on over so many more,
+/// of which the last lives.
+pub fn chain(alloc: Global, more: u64) -> Result<Vec<u8>> {
+    let mut members = Listed::new(alloc);
+    members.push(Member {
+        incarnation: worker(3)?,
+        status: Status::Live,
+    })?;
+    for before in 0..more {
+        members.push(Member {
+            incarnation: worker(before.wrapping_add(4))?,
+            status: Status::Left(worker(before.wrapping_add(5))?),
+        })?;
+    }
+    members.push(Member {
+        incarnation: worker(more.wrapping_add(4))?,
+        status: Status::Live,
+    })?;
+    let roster = Roster {
+        epoch: epoch()?,
+        version: count(2)?,
+        members,
+    };
+    packet(alloc, Body::Roster(roster))
+}
+
 /// The clearinghouse's grant of the root task on numbers, as the answer to the first request.
 pub fn root_grant(alloc: Global, numbers: &[i64]) -> Result<Vec<u8>> {
     let grant = GrantId::of(epoch()?.house(), 1).context("a grant is wanted")?;

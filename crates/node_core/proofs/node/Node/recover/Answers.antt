@@ -10,7 +10,7 @@ use Rattle.node_core.proofs.node.Node.recover.Goals as goal
 
 pub invariant_of-self-2 : goal.invariant_of-self-2
 invariant_of-self-2 c = record {
-  staying = rw (ap (λ (v : PartsOf). v.node.state) c.in_ok-recover.ensures.ok) tt;
+  leaving = rw (ap (λ (v : PartsOf). v.node.state) c.in_ok-recover.ensures.ok) tt;
   short = rw (ap (λ (v : PartsOf). v.node.replies) c.in_ok-recover.ensures.ok) c.self.invariant.short;
   fits = c.in_ok-recover.ensures.fits c.self.inside.job.now.program c.self.invariant.fits;
 }
