@@ -1,5 +1,5 @@
 -- What an Offer that comes to a member leads to.
-use Rattle.std.proofs.Common.{◌≡◌, ℕ, Bool, true, false, not, ◌&&◌, nat_eq, List, [], ◌∷◌, ◌++◌, map, cond, Option, Some, None, IfSome, is_some, IsTrue, if◌then◌else◌, Ordering, Less, Equal, Greater, refl, sym, ap, ◌∙◌}
+use Rattle.std.proofs.Common.{◌≡◌, ℕ, Bool, true, false, not, ◌&&◌, nat_eq, List, [], ◌∷◌, ◌++◌, map, cond, Option, Some, None, IfSome, is_some, if◌then◌else◌, Ordering, Less, Equal, Greater, refl, sym, ap, ◌∙◌}
 use Rattle.std.proofs.lemmas.Bool.{eq-eqb}
 use Rattle.std.specs.List.{list_all}
 use Rattle.std.specs.Ordering.{is_eq}
@@ -9,14 +9,12 @@ use Rattle.ids.specs.Naming.{name_of_grant, name_of_record}
 use Rattle.ids.specs.declared.member.Member.{Member as MemberOf}
 use Rattle.ids.specs.declared.outcome.Progress.{Progress}
 use Rattle.ids.specs.declared.outcome.Progress.TheVariants.{Active, Finished}
-use Rattle.ids.specs.declared.work.Frame.{Frame}
 use Rattle.ids.specs.declared.work.Record.{Record}
 use Rattle.ids.proofs.NameOrder.{exact_names}
 use Rattle.codec.specs.declared.body.Body.TheVariants as body
 use Rattle.codec.specs.declared.body.Offer.{Offer}
 use Rattle.codec.specs.declared.body.Roster.{Roster}
 use Rattle.departure.specs.Offers.{accepted, offered}
-use Rattle.level_deques.specs.declared.posts.Post.{Post}
 use Rattle.task_syntax.specs.declared.tree.Program.{Program}
 use Rattle.victim_records.specs.Records.{record_in}
 use Rattle.recovery.specs.Told.{AreForeign, ComesTold, all_in, all_put, beside, those}
@@ -30,9 +28,9 @@ use Rattle.subcomputation.specs.Fitting.{Fits, content_fits, frame_fits, is_fore
 use Rattle.subcomputation.specs.Recovering.{Recovery, recovered}
 use Rattle.subcomputation.specs.Subs.{SubOf, host_in, put_sub, ready_frames, sub_in}
 use Rattle.subcomputation.specs.Told.{HasNoOthers}
-use Rattle.node_state.specs.Node.{NodeOf, by_state, holding, hop_in, put_seen}
+use Rattle.node_state.specs.Node.{NodeOf, by_state, hop_in, put_seen}
 use Rattle.node_state.specs.declared.parts.State.TheVariants.{Member}
-use Rattle.node_state.specs.Parts.{HasNoNewRecord, IsFresh, MayCome, PartsOf, put_some, ready_of, with_posts}
+use Rattle.node_state.specs.Parts.{HasNoNewRecord, MayCome, PartsOf, put_some, ready_of, with_posts}
 use Rattle.node_state.specs.Posts.{posts_after}
 use Rattle.node_core.proofs.Keeping.{FitsIf}
 use Rattle.node_core.proofs.Stopping.{all_stops}

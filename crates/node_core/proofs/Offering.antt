@@ -1,5 +1,5 @@
 -- What a departure sends, and why one is refused.
-use Rattle.std.proofs.Common.{◌≡◌, ℕ, Bool, true, false, ◌&&◌, nat_eq, List, [], ◌∷◌, ◌++◌, map, Option, Some, None, is_some, Ok, Err, if◌then◌else◌, refl, sym, ap, ◌∙◌}
+use Rattle.std.proofs.Common.{◌≡◌, ℕ, Bool, true, false, ◌&&◌, nat_eq, List, [], ◌∷◌, ◌++◌, Option, Some, None, is_some, Err, if◌then◌else◌, refl, sym, ap, ◌∙◌}
 use Rattle.std.proofs.lemmas.List.{append-nil, map-append}
 use Rattle.std.specs.List.{list_any}
 use Rattle.ids.specs.declared.member.Member.{Member}
@@ -7,7 +7,7 @@ use Rattle.codec.specs.Table.{PacketOf, packet as spelling}
 use Rattle.codec.specs.declared.body.Body.TheVariants as body
 use Rattle.codec.specs.declared.body.OfferAck.{OfferAck}
 use Rattle.codec.specs.declared.body.Roster.{Roster}
-use Rattle.departure.specs.Freezing.{Freezes, lacks_heir, refusal, offers as offers_of}
+use Rattle.departure.specs.Freezing.{Freezes, refusal, offers as offers_of}
 use Rattle.departure.specs.Offers.{is_last_hop, is_too_big}
 use Rattle.departure.specs.declared.freezing.FreezeError.{FreezeError}
 use Rattle.departure.specs.declared.freezing.FreezeError.TheVariants as error

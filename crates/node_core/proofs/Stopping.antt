@@ -1,10 +1,9 @@
 -- What a recovery by a roster sends, and what becomes of the node.
-use Rattle.std.proofs.Common.{◌≡◌, ℕ, List, [], ◌∷◌, ◌++◌, map, Option, refl, sym, ap, ◌∙◌}
+use Rattle.std.proofs.Common.{◌≡◌, List, [], ◌∷◌, ◌++◌, map, Option, refl, sym, ap, ◌∙◌}
 use Rattle.std.proofs.lemmas.List.{append-nil}
 use Rattle.codec.specs.declared.body.Roster.{Roster}
 use Rattle.ids.specs.declared.member.Status.{Status}
 use Rattle.ids.specs.declared.work.Record.{Record}
-use Rattle.level_deques.specs.declared.posts.Post.{Post}
 use Rattle.recovery.specs.Plans.{stop_of}
 use Rattle.recovery.specs.declared.plan.Stopped.{Stopped}
 use Rattle.serial_meaning.specs.Job.{JobOf}

@@ -4,9 +4,8 @@ use Rattle.recovery.specs.Told.{AreForeign, all_in, those}
 use Rattle.subcomputation.specs.Fitting.{Fits}
 use Rattle.subcomputation.specs.Recovering.{recovered}
 use Rattle.subcomputation.specs.Subs.{ready_frames}
-use Rattle.node_state.specs.Node.{NodeOf}
 use Rattle.node_state.specs.Parts.{IsMember, ready_of, with_posts}
-use Rattle.node_core.specs.Meeting.{comes, spelled}
+use Rattle.node_core.specs.Meeting.{spelled}
 use Rattle.node_core.specs.Moves.{stops}
 use Rattle.node_core.proofs.Arriving.{Beside, came_to, came_view, fits_if, sent_of}
 use Rattle.node_core.proofs.Keeping.{FitsIf, came}

@@ -1,7 +1,7 @@
-use Rattle.std.proofs.Common.{◌≡◌, Some, rules}
+use Rattle.std.proofs.Common.{rules}
 use Rattle.ids.specs.Ordered.{AreInOrder}
 use Rattle.subcomputation.specs.Fitting.{Fits}
-use Rattle.subcomputation.specs.Subs.{SubOf, name_of_sub, sub_in}
+use Rattle.subcomputation.specs.Subs.{name_of_sub}
 use Rattle.node_core.specs.Meeting.{IsNode}
 use Rattle.node_core.proofs.Finding.{all_by_name}
 use Rattle.node_core.proofs.node.Node.all_fit.Goals as goal

@@ -7,7 +7,6 @@ use Rattle.node_core.specs.Cases.{confirms, is_released}
 use Rattle.node_core.specs.Choosing.{own_choice}
 use Rattle.node_core.specs.Meeting.{spelled}
 use Rattle.node_core.specs.Moves.{awaited, leave, leaves}
-use Rattle.node_core.specs.declared.parts.Step.{Step}
 use Rattle.node_core.proofs.Keeping.{gone, kept, same_leaving}
 use Rattle.node_core.proofs.Offering.{behind_view, confirmed, released}
 use Rattle.node_core.proofs.node.Node.leaving_offer_ack.Goals as goal

@@ -7,7 +7,7 @@ use Rattle.node_core.specs.Cases.{is_above}
 use Rattle.node_core.specs.Choosing.{own_choice}
 use Rattle.node_core.specs.Meeting.{MeetsBehind, comes}
 use Rattle.node_core.specs.Moves.{acknowledges}
-use Rattle.node_core.proofs.Arriving.{fits_here, none_there, offer_taken, taken_by}
+use Rattle.node_core.proofs.Arriving.{fits_here, offer_taken, taken_by}
 use Rattle.node_core.proofs.Offering.{has_roster}
 use Rattle.node_core.proofs.Returning.{meets_behind}
 use Rattle.node_core.proofs.node.Node.member_offer.Goals as goal

@@ -3,7 +3,7 @@ use Rattle.recovery.specs.Plans.{IsPlan, stop_of}
 use Rattle.subcomputation.specs.Recovering.{recovered}
 use Rattle.subcomputation.specs.Subs.{grants_of}
 use Rattle.node_state.specs.Parts.{PartsOf}
-use Rattle.node_core.specs.Meeting.{NodeOn, spelled}
+use Rattle.node_core.specs.Meeting.{spelled}
 use Rattle.node_core.specs.Moves.{stops}
 use Rattle.node_core.proofs.Stopping.{recovered_view, stops_sent}
 use Rattle.node_core.proofs.node.Node.recover.Goals as goal
