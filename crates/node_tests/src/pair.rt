@@ -176,21 +176,48 @@ fn stolen_runs(
     first(alloc, &ran)
 }
 
-/// How many values the host puts into slots, where a Result comes twice, and what the thief makes of the acknowledgement: how
-/// many subcomputations it holds behind it.
+/// A Result comes to a host: how many values it puts into slots, and the acknowledgement.
+fn comes_back(
+    alloc: Global,
+    host: &mut Node<'_>,
+    returned: &[u8],
+) -> Result<(usize, Vec<u8>), Fail> {
+    let step = host.on_bytes(alloc, returned)?;
+    Ok((step.fills.len(), first(alloc, &step)?))
+}
+
+/// How many subcomputations a thief holds behind an acknowledgement.
+fn held_behind(alloc: Global, thief: &mut Node<'_>, ack: &[u8]) -> Result<usize, Fail> {
+    let _ = thief.on_bytes(alloc, ack)?;
+    Ok(thief.subs(alloc)?.len())
+}
+
+/// A Result comes twice: how many values the host puts into slots, each time, and how many subcomputations the thief holds
+/// behind the second acknowledgement.
+fn comes_back_twice(
+    alloc: Global,
+    host: &mut Node<'_>,
+    thief: &mut Node<'_>,
+    returned: &[u8],
+) -> Result<[usize; 3], Fail> {
+    let (once, _) = comes_back(alloc, host, returned)?;
+    let (twice, ack) = comes_back(alloc, host, returned)?;
+    let held = held_behind(alloc, thief, &ack)?;
+    Ok([once, twice, held])
+}
+
+/// A thief of a host runs a stolen frame, whose Result comes back twice.
+fn thief_returns(alloc: Global, job: &Job, host: &mut Node<'_>) -> Result<[usize; 3], Fail> {
+    let mut thief = member(alloc, job, 4)?;
+    let returned = stolen_runs(alloc, job, host, &mut thief)?;
+    comes_back_twice(alloc, host, &mut thief, &returned)
+}
+
+/// What comes of the Result of a stolen frame, twice.
 fn result_fills_once(alloc: Global) -> Result<[usize; 3], Fail> {
     let job = fib(alloc, 2)?;
     let mut host = host(alloc, &job, 2)?;
-    let mut thief = member(alloc, &job, 4)?;
-    let returned = stolen_runs(alloc, &job, &mut host, &mut thief)?;
-    let once = host.on_bytes(alloc, &returned)?;
-    let twice = host.on_bytes(alloc, &returned)?;
-    let _ = thief.on_bytes(alloc, &first(alloc, &twice)?)?;
-    Ok([
-        once.fills.len(),
-        twice.fills.len(),
-        thief.subs(alloc)?.len(),
-    ])
+    thief_returns(alloc, &job, &mut host)
 }
 
 /// The outcome of the Fibonacci number of 2, where one frame is stolen.
