@@ -1,0 +1,14 @@
+pub mod Begun
+pub mod Chains
+pub mod Committed
+pub mod Kept
+pub mod Laid
+pub mod Looked
+pub mod Moved
+pub mod Opened
+pub mod Pairs
+pub mod Passing
+pub mod Publishing
+pub mod Reopened
+pub mod Results
+pub mod Splices

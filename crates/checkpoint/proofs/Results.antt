@@ -1,0 +1,22 @@
+-- What an answer tells, where it is passed on.
+use Rattle.std.proofs.Common.{Result, Ok, Err, OnOk, OnErr, IsOk}
+
+pub ok_holds : {T E P : Type 0} (r : Result T E) → P → OnOk r P
+ok_holds (Ok x) p = p
+ok_holds (Err e) p = tt
+
+pub err_holds : {T E P : Type 0} (r : Result T E) → P → OnErr r P
+err_holds (Ok x) p = tt
+err_holds (Err e) p = p
+
+pub ok_both : {T E P Q R : Type 0} (r : Result T E) → (P → Q → R) → OnOk r P → OnOk r Q → OnOk r R
+ok_both (Ok x) f p q = f p q
+ok_both (Err e) f p q = tt
+
+pub err_both : {T E P Q R : Type 0} (r : Result T E) → (P → Q → R) → OnErr r P → OnErr r Q → OnErr r R
+err_both (Ok x) f p q = tt
+err_both (Err e) f p q = f p q
+
+pub ok_told : {T E P : Type 0} (r : Result T E) → IsOk r → OnOk r P → P
+ok_told (Ok x) is p = p
+ok_told (Err e) is p = let no : ⊥ = cc in absurd no

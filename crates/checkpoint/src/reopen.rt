@@ -1,0 +1,32 @@
+ghost use Rattle.std.specs.Prelude.{◌≡◌, ◌⊎◌, IsTrue, IsOk, IfOk, IfErr};
+ghost use Rattle.checkpoint.specs.Commit.{next_of};
+ghost use Rattle.checkpoint.specs.Store.{Keeps};
+
+use crate::{LastEpoch, Store, StoreError};
+use disk::Disk;
+use ids::Outcome;
+use std::alloc::Global;
+
+/// Commits, whatever comes of it; then a crash; then opens. Answers what the commit answered, and what was opened: the record
+/// before or the new one, and the new one where the commit answered `Ok`. Only the device refuses it.
+pub fn commit_and_reopen<D: Disk>(
+    alloc: Global,
+    store: Store<D>,
+    epoch: LastEpoch,
+    outcome: Option<Outcome>,
+) -> (Result<(), StoreError>, Result<Store<D>, (StoreError, D)>)
+    ensures found { Keeps (D.device store.disk).file store.sequence store.record →
+        IfOk result.1 (λ s. (s.record ≡ store.record) ⊎ (s.record ≡ next_of store.record epoch outcome)) }
+    ensures committed { Keeps (D.device store.disk).file store.sequence store.record → IsOk result.0 →
+        IfOk result.1 (λ s. s.record ≡ next_of store.record epoch outcome) }
+    ensures kept { Keeps (D.device store.disk).file store.sequence store.record → IsTrue (D.device store.disk).can_cut →
+        IfOk result.1 (λ s. Keeps (D.device s.disk).file s.sequence s.record) }
+    ensures refused { Keeps (D.device store.disk).file store.sequence store.record → IfErr result.1 (λ e. e.0 ≡ StoreError.Device) }
+{
+    let mut store = store;
+    let job = store.record().job;
+    let answer = store.commit(epoch, outcome);
+    let mut disk = store.into_disk();
+    disk.crash();
+    (answer, Store::open(alloc, disk, job))
+}

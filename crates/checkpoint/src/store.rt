@@ -1,0 +1,173 @@
+ghost use Rattle.std.specs.Prelude.{◌≡◌, ◌≢◌, ◌⊎◌, ◌↔◌, ◌+◌, true, false, if◌then◌else◌, List, ℕ, length, IsTrue, IsErrOf, OnOk, OnErr, IfOk, IfErr};
+ghost use Rattle.disk.specs.Device.{armed};
+ghost use Rattle.disk.specs.File.{bytes_of};
+ghost use Rattle.checkpoint.specs.Calls.{Call, Passed, Stopped};
+ghost use Rattle.checkpoint.specs.Commit.{IsCommit, next_of, opening};
+ghost use Rattle.checkpoint.specs.Moments.{KeepsEither};
+ghost use Rattle.checkpoint.specs.Store.{IsRefused, IsSpent, Keeps, Reads};
+ghost use Rattle.checkpoint.specs.declared.record.Record.{Record as StoredRecord};
+
+use crate::body::spell;
+use crate::look::{SIZE, look};
+use crate::publish::publish;
+use crate::{LastEpoch, Record, StoreError};
+use disk::Disk;
+use ids::Outcome;
+use std::alloc::Global;
+use std::marker::Model;
+
+/// An open store. Contracts see its disk, the current record and its sequence, and whether it has ended: a call of the device
+/// failed, and each commit from then on answers E72.
+#[derive(Drop)]
+pub struct Store<D: Disk> {
+    disk: D,
+    current: Record,
+    sequence: u64,
+    // Whether the record stands in the second slot.
+    second: bool,
+    // Whether the gate of the other slot reads as open.
+    gate: bool,
+    ended: bool,
+}
+
+impl<D: Disk> Model for Store<D> {
+    ghost use Rattle.std.specs.Prelude.{◌≡◌, false};
+    ghost use Rattle.disk.specs.File.{bytes_of};
+    ghost use Rattle.checkpoint.specs.Store.{IsHeld, Opened};
+
+    ghost Value = { Opened D };
+
+    ghost view = { λ s. record { disk = s.disk; «record» = s.current; sequence = s.sequence; ended = s.ended } };
+
+    ghost invariant = { λ s. s.ended ≡ false → IsHeld (bytes_of (D.device s.disk).file) s.second s.sequence s.current s.gate };
+}
+
+// Where a slot begins.
+fn place(second: bool) -> usize
+    ensures { result ≡ (if second then 72 else 8) }
+{
+    if second { 72 } else { 8 }
+}
+
+impl<D: Disk> Store<D> {
+    /// Opens the store of a job, by one read. Refused, it gives the disk back, in this order: E72; E71 for a file that doesn't
+    /// begin as a store; E73 for another version; E71 for one that is no store; E70 for another job.
+    pub fn open(alloc: Global, disk: D, job: u64) -> Result<Store<D>, (StoreError, D)>
+        ensures opened { IfOk result (λ s. (s.ended ≡ false) × Reads (bytes_of (D.device s.disk).file) s.sequence s.record × (s.record.job ≡ job)) }
+        ensures calls { IfOk result (λ s. Passed opening (D.planned disk) (D.device disk) (D.device s.disk)) }
+        ensures plan { IfOk result (λ s. (i : ℕ) → D.planned s.disk i ≡ D.planned disk (i + length opening)) }
+
+        // Where whatever a crash leaves has one current record, that is the store's, and it stays so.
+        ensures kept { IfOk result (λ s. (n : ℕ) (r : StoredRecord) → Keeps (D.device disk).file n r → Keeps (D.device s.disk).file s.sequence s.record × (s.record ≡ r)) }
+        ensures kept_back { IfErr result (λ e. (n : ℕ) (r : StoredRecord) → Keeps (D.device disk).file n r → Keeps (D.device e.1).file n r) }
+        ensures alone { IfErr result (λ e. (n : ℕ) (r : StoredRecord) → Reads (bytes_of (D.device disk).file) n r → r.job ≡ job → e.0 ≡ StoreError.Device) }
+        ensures refused { IfErr result (λ e. e.0 ≢ StoreError.Device → IsRefused e.0 (bytes_of (D.device disk).file) job × Passed opening (D.planned disk) (D.device disk) (D.device e.1)) }
+        ensures stopped { IfErr result (λ e. e.0 ≡ StoreError.Device → Stopped opening (D.planned disk) (D.device disk) (D.device e.1)) }
+    {
+        let mut disk = disk;
+        let bytes = match disk.read(alloc, SIZE + 1) {
+            Ok(bytes) => bytes,
+            Err(_) => return Err((StoreError::Device, disk)),
+        };
+        match look(&bytes) {
+            Ok(found) if found.record.job != job => Err((StoreError::JobMismatch, disk)),
+            Ok(found) => Ok(Store {
+                disk,
+                current: found.record,
+                sequence: found.sequence,
+                second: found.second,
+                gate: found.gate,
+                ended: false,
+            }),
+            Err(fault) => Err((fault, disk)),
+        }
+    }
+
+    /// Commits a record of the job, by six device calls. E72 where one of them fails, which ends the store, and in a store that
+    /// has ended; E62 where the sequence is spent.
+    pub fn commit(&mut self, epoch: LastEpoch, outcome: Option<Outcome>) -> Result<(), StoreError>
+        ensures ok { OnOk result (let next = next_of self.old.record epoch outcome in self.new ≡ record { disk = self.new.disk; «record» = next; sequence = self.old.sequence + 1; ended = false }) }
+        ensures calls { OnOk result (let next = next_of self.old.record epoch outcome in (calls : List Call)
+            × IsCommit (bytes_of (D.device self.old.disk).file) self.old.sequence self.old.record next calls
+            × Passed calls (D.planned self.old.disk) (D.device self.old.disk) (D.device self.new.disk)) }
+        ensures plan { OnOk result ((i : ℕ) → D.planned self.new.disk i ≡ D.planned self.old.disk (i + 6)) }
+        ensures refused { OnErr result (IsErrOf result StoreError.Spent ⊎ IsErrOf result StoreError.Device) }
+        ensures spent { IsErrOf result StoreError.Spent ↔ IsSpent self.old }
+        ensures unchanged { IsErrOf result StoreError.Spent → self.new ≡ self.old }
+        ensures ended { self.old.ended ≡ true → IsErrOf result StoreError.Device × (self.new ≡ self.old) }
+        ensures ends { IsErrOf result StoreError.Device → self.new ≡ record self.old { disk = self.new.disk; ended = true } }
+        ensures can_cut { (D.device self.new.disk).can_cut ≡ (D.device self.old.disk).can_cut }
+        ensures stopped { IsErrOf result StoreError.Device → self.old.ended ≡ false → (let next = next_of self.old.record epoch outcome in (calls : List Call)
+            × IsCommit (bytes_of (D.device self.old.disk).file) self.old.sequence self.old.record next calls
+            × Stopped calls (D.planned self.old.disk) (D.device self.old.disk) (D.device self.new.disk)) }
+
+        // Where whatever a crash leaves has the current record: then it has the new one, or at any moment that one or the new one.
+        ensures kept { Keeps (D.device self.old.disk).file self.old.sequence self.old.record → OnOk result (Keeps (D.device self.new.disk).file self.new.sequence self.new.record) }
+        ensures either { Keeps (D.device self.old.disk).file self.old.sequence self.old.record
+            → KeepsEither (D.device self.new.disk).file self.old.sequence self.old.record (next_of self.old.record epoch outcome) }
+    {
+        if self.ended {
+            return Err(StoreError::Device);
+        }
+        if self.sequence == u64::MAX {
+            return Err(StoreError::Spent);
+        }
+        let next = Record {
+            job: self.current.job,
+            epoch,
+            outcome,
+        };
+        let body = spell(self.sequence + 1, &next);
+        match publish(&mut self.disk, place(!self.second), self.gate, &body) {
+            Ok(()) => {
+                self.current = next;
+                self.sequence += 1;
+                self.second = !self.second;
+                self.gate = true;
+                Ok(())
+            }
+            Err(_) => {
+                self.ended = true;
+                Err(StoreError::Device)
+            }
+        }
+    }
+
+    /// The current record. Up to the end of the store it is what a read gives.
+    pub fn record(&self) -> Record
+        ensures same { result ≡ self.now.record }
+        ensures reads { self.now.ended ≡ false → Reads (bytes_of (D.device self.now.disk).file) self.now.sequence self.now.record }
+    {
+        self.current
+    }
+
+    /// Arms the disk.
+    pub fn arm(&mut self, calls: u64, bytes: Vec<u8>)
+        ensures disk { self.new ≡ record self.old { disk = self.new.disk } }
+        ensures armed { IsTrue (D.device self.old.disk).can_cut → D.device self.new.disk ≡ armed (D.device self.old.disk) calls bytes.items }
+        ensures unmoved { (D.device self.old.disk).can_cut ≡ false → self.new ≡ self.old }
+    {
+        self.disk.arm(calls, bytes);
+    }
+
+    /// The number of device calls that failed, modulo 2^64.
+    pub fn failures(&self) -> u64
+        ensures { result ≡ (D.device self.now.disk).failures }
+    {
+        self.disk.failures()
+    }
+
+    /// Whether the disk can be armed and crashed.
+    pub fn can_cut(&self) -> bool
+        ensures { result ≡ (D.device self.now.disk).can_cut }
+    {
+        self.disk.can_cut()
+    }
+
+    /// Gives the disk back.
+    pub fn into_disk(self) -> D
+        ensures { result ≡ self.disk }
+    {
+        self.disk
+    }
+}
