@@ -87,6 +87,7 @@ module _ (d : Device) (second : Bool) (sequence : ℕ) (before next : Record) (b
   publishes = record {
     early = λ k h. record { second = second; each = λ c left. early c (moment.early d at gate bytes room k h c left) };
     early_stop = λ plan new stop. record { second = second; each = λ c left. early c (moment.early_stop d at gate bytes room plan new stop c left) };
+    fifth_stop = λ can plan new stop. record { second = second; each = λ c left. early c (moment.fifth_stop d at gate bytes room can plan new stop c left) };
     fifth = λ c left. late c (moment.fifth d at gate bytes room c left);
     stop = λ plan new stop c left. elim (moment.stop d at gate bytes room plan new stop c left) [ inl is ↦ inl (second, early c is) | inr is ↦ late c is ];
     done = record { second = not second; each = λ c left. done c (moment.done d at gate bytes room c left) };

@@ -1,12 +1,12 @@
 -- What a crash leaves at each moment of the six calls by which a slot gets a body.
-use Rattle.std.proofs.Common.{◌≡◌, ℕ, zero, suc, ◌+◌, ◌≤◌, ◌⊎◌, inl, inr, Bool, List, [], ◌∷◌, length, take, Option, ◌∙◌, arith}
+use Rattle.std.proofs.Common.{◌≡◌, ℕ, zero, suc, ◌+◌, ◌≤◌, ◌⊎◌, inl, inr, IsTrue, Bool, List, [], ◌∷◌, length, take, Option, ◌∙◌, subst, arith}
 use Rattle.std.proofs.lemmas.List.{length-map}
 use Rattle.std.specs.List.{splice}
 use Rattle.disk.specs.declared.cells.Cell.{Cell}
 use Rattle.disk.specs.Crash.{Follows, Torn}
 use Rattle.disk.specs.Device.{Device}
 use Rattle.disk.specs.File.{CrashLeaves, bytes_of, synced, written}
-use Rattle.disk.proofs.Crashes.{bytes_of-synced, synced-only, synced-shrinks, written-follows}
+use Rattle.disk.proofs.Crashes.{bytes_of-synced, settled-shrinks, synced-only, synced-shrinks, written-follows}
 use Rattle.disk.proofs.Writes.{bytes_of-written}
 use Rattle.checkpoint.specs.Calls.{Call, Stopped, after}
 use Rattle.checkpoint.specs.Commit.{closing, publishing}
@@ -104,6 +104,16 @@ module _ (d : Device) (at : ℕ) (gate : Bool) (bytes : List ℕ) (room : at + 1
   early_stop plan new (inr (_, inr (_, inl three))) c left = at_three d.file at gate bytes room (CrashLeaves new.file) three.torn c left
   early_stop plan new (inr (_, inr (_, inr (_, inl four)))) c left = after_three d.file at gate bytes room c (four.torn c left)
   early_stop plan new (inr (_, inr (_, inr (_, inr rest)))) c left = absurd rest.1
+
+  pub fifth_stop : IsTrue d.can_cut → (plan : ℕ → Option (List ℕ)) (new : Device) → Stopped (take 5 calls) plan d new → (c : List ℕ) → CrashLeaves new.file c → Early at gate bytes (bytes_of d.file) (CrashLeaves d.file) c
+  unfolding Stopped
+  fifth_stop can plan new (inl one) c left = at_one d.file at gate bytes room (CrashLeaves new.file) one.torn c left
+  fifth_stop can plan new (inr (_, inl two)) c left = after_one d.file at gate bytes room c (two.torn c left)
+  fifth_stop can plan new (inr (_, inr (_, inl three))) c left = at_three d.file at gate bytes room (CrashLeaves new.file) three.torn c left
+  fifth_stop can plan new (inr (_, inr (_, inr (_, inl four)))) c left = after_three d.file at gate bytes room c (four.torn c left)
+  fifth_stop can plan new (inr (_, inr (_, inr (_, inr (_, inl five))))) c left =
+      after_three d.file at gate bytes room c (synced-shrinks _ c (settled-shrinks _ _ c (subst (λ (f : List Cell). CrashLeaves f c) (five.failed.settles can) left)))
+  fifth_stop can plan new (inr (_, inr (_, inr (_, inr (_, inr rest))))) c left = absurd rest.1
 
   pub stop : (plan : ℕ → Option (List ℕ)) (new : Device) → Stopped calls plan d new → (c : List ℕ) → CrashLeaves new.file c → Early at gate bytes (bytes_of d.file) (CrashLeaves d.file) c ⊎ Late at bytes (bytes_of d.file) c
   unfolding Stopped

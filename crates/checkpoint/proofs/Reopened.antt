@@ -1,5 +1,5 @@
 -- An opening of what a commit left.
-use Rattle.std.proofs.Common.{◌≡◌, ◌≢◌, ◌⊎◌, inl, inr, ℕ, ◌+◌, true, false, IsTrue, List, Option, Result, Ok, Err, IfOk, IfErr, refl, sym, ◌∙◌, ap, subst}
+use Rattle.std.proofs.Common.{◌≡◌, ◌≢◌, ◌⊎◌, inl, inr, ℕ, ◌+◌, true, false, IsTrue, List, Option, Result, Ok, Err, IfOk, IfErr, refl, sym, subst}
 use Rattle.disk.specs.Crash.{Only}
 use Rattle.disk.specs.Device.{Device, armed_bytes, crashed}
 use Rattle.disk.specs.File.{CrashLeaves, bytes_of}
@@ -12,7 +12,7 @@ use Rattle.checkpoint.specs.Moments.{KeepsEither}
 use Rattle.checkpoint.specs.Store.{IsRefused, Keeps, Opened, Reads}
 use Rattle.checkpoint.specs.declared.record.Record.{Record}
 use Rattle.checkpoint.specs.declared.record.StoreError.{StoreError}
-use Rattle.checkpoint.specs.declared.record.StoreError.TheVariants.{Spent, JobMismatch, Damaged, Device as DeviceError, Version}
+use Rattle.checkpoint.specs.declared.record.StoreError.TheVariants.{Device as DeviceError}
 use Rattle.checkpoint.proofs.Opened.{device_alone, one_reading}
 
 -- after a crash a read gives what it left

@@ -1,5 +1,5 @@
 -- A commit at any moment.
-use Rattle.std.specs.Prelude.{◌+◌, ◌≤◌, ◌⊎◌, ℕ, List, take, Option}
+use Rattle.std.specs.Prelude.{◌+◌, ◌≤◌, ◌⊎◌, ℕ, IsTrue, List, take, Option}
 use Rattle.disk.specs.declared.cells.Cell.{Cell}
 use Rattle.disk.specs.Device.{Device}
 use Rattle.disk.specs.File.{CrashLeaves, bytes_of}
@@ -17,6 +17,8 @@ pub record Moments (d : Device) (sequence : ℕ) (before next : Record) (calls :
   -- while at most four calls passed, it keeps that record
   pub early : (k : ℕ) → k ≤ 4 → Keeps (after d (take k calls)).file sequence before
   pub early_stop : (plan : ℕ → Option (List ℕ)) (new : Device) → Stopped (take 4 calls) plan d new → Keeps new.file sequence before
+  -- a device that can be cut doesn't carry out a call that fails, so there it is the same with the fifth
+  pub fifth_stop : IsTrue d.can_cut → (plan : ℕ → Option (List ℕ)) (new : Device) → Stopped (take 5 calls) plan d new → Keeps new.file sequence before
   -- after the fifth, or where any of them failed, it keeps that one or the next
   pub fifth : KeepsEither (after d (take 5 calls)).file sequence before next
   pub stop : (plan : ℕ → Option (List ℕ)) (new : Device) → Stopped calls plan d new → KeepsEither new.file sequence before next

@@ -60,6 +60,7 @@ impl<D: Disk> Store<D> {
         // Where whatever a crash leaves has one current record, that is the store's, and it stays so.
         ensures kept { IfOk result (λ s. (n : ℕ) (r : StoredRecord) → Keeps (D.device disk).file n r → Keeps (D.device s.disk).file s.sequence s.record × (s.record ≡ r)) }
         ensures kept_back { IfErr result (λ e. (n : ℕ) (r : StoredRecord) → Keeps (D.device disk).file n r → Keeps (D.device e.1).file n r) }
+        ensures plan_back { IfErr result (λ e. (i : ℕ) → D.planned e.1 i ≡ D.planned disk (i + length opening)) }
         ensures alone { IfErr result (λ e. (n : ℕ) (r : StoredRecord) → Reads (bytes_of (D.device disk).file) n r → r.job ≡ job → e.0 ≡ StoreError.Device) }
         ensures refused { IfErr result (λ e. e.0 ≢ StoreError.Device → IsRefused e.0 (bytes_of (D.device disk).file) job × Passed opening (D.planned disk) (D.device disk) (D.device e.1)) }
         ensures stopped { IfErr result (λ e. e.0 ≡ StoreError.Device → Stopped opening (D.planned disk) (D.device disk) (D.device e.1)) }

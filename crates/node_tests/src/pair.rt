@@ -138,26 +138,47 @@ fn root_is_taken_once(alloc: Global) -> Result<[u8; 5], Fail> {
     Ok([early, asked, busy, taken, again])
 }
 
+/// What a worker answers to the same bytes, twice.
+fn answers_twice(alloc: Global, node: &mut Node<'_>, bytes: &[u8]) -> [u8; 2] {
+    let once = told(node.on_bytes(alloc, bytes));
+    let twice = told(node.on_bytes(alloc, bytes));
+    [once, twice]
+}
+
+/// What a thief of a host answers to its Grant, twice.
+fn thief_takes(alloc: Global, job: &Job, host: &mut Node<'_>) -> Result<[u8; 2], Fail> {
+    let mut thief = member(alloc, job, 4)?;
+    let grant = granted(alloc, host, &mut thief)?;
+    Ok(answers_twice(alloc, &mut thief, &grant))
+}
+
 /// What a worker answers to a grant of another worker, twice.
 fn work_is_taken_once(alloc: Global) -> Result<[u8; 2], Fail> {
     let job = fib(alloc, 2)?;
     let mut host = host(alloc, &job, 2)?;
-    let mut thief = member(alloc, &job, 4)?;
-    let grant = granted(alloc, &mut host, &mut thief)?;
-    let taken = told(thief.on_bytes(alloc, &grant));
-    let again = told(thief.on_bytes(alloc, &grant));
-    Ok([taken, again])
+    thief_takes(alloc, &job, &mut host)
 }
 
-/// What the host shows before and after a frame was stolen from it.
+/// A frame is stolen from a host.
+fn is_stolen_from(alloc: Global, job: &Job, host: &mut Node<'_>) -> Result<(), Fail> {
+    let mut thief = member(alloc, job, 4)?;
+    let _ = granted(alloc, host, &mut thief)?;
+    Ok(())
+}
+
+/// What a host shows before and after a frame is stolen from it.
+fn shown_around(alloc: Global, job: &Job, host: &mut Node<'_>) -> Result<[[usize; 3]; 2], Fail> {
+    let before = shown(alloc, host)?;
+    is_stolen_from(alloc, job, host)?;
+    let after = shown(alloc, host)?;
+    Ok([before, after])
+}
+
+/// What a new host shows before and after a frame is stolen from it.
 fn theft_is_shown(alloc: Global) -> Result<[[usize; 3]; 2], Fail> {
     let job = fib(alloc, 2)?;
     let mut host = host(alloc, &job, 2)?;
-    let before = shown(alloc, &host)?;
-    let mut thief = member(alloc, &job, 4)?;
-    let _ = granted(alloc, &mut host, &mut thief)?;
-    let after = shown(alloc, &host)?;
-    Ok([before, after])
+    shown_around(alloc, &job, &mut host)
 }
 
 /// A stolen frame runs at the thief: the Result's bytes.
@@ -220,16 +241,30 @@ fn result_fills_once(alloc: Global) -> Result<[usize; 3], Fail> {
     thief_returns(alloc, &job, &mut host)
 }
 
+/// A thief of a host runs a stolen frame: the Result's bytes.
+fn thief_runs(alloc: Global, job: &Job, host: &mut Node<'_>) -> Result<Vec<u8>, Fail>
+    ensures { host.new.job ≡ host.old.job }
+{
+    let mut thief = member(alloc, job, 4)?;
+    stolen_runs(alloc, job, host, &mut thief)
+}
+
+/// A Result comes to a host, and its last two frames run: the outcome of all.
+fn rest_runs(alloc: Global, job: &Job, host: &mut Node<'_>, returned: &[u8]) -> Result<i64, Fail>
+    requires { host.old.job ≡ job.now }
+{
+    let _ = hears(alloc, host, returned)?;
+    let _ = runs(alloc, job, host)?;
+    let last = runs(alloc, job, host)?;
+    value_in(alloc, &first(alloc, &last)?)
+}
+
 /// The outcome of the Fibonacci number of 2, where one frame is stolen.
 fn shared_outcome(alloc: Global) -> Result<i64, Fail> {
     let job = fib(alloc, 2)?;
     let mut host = host(alloc, &job, 2)?;
-    let mut thief = member(alloc, &job, 4)?;
-    let returned = stolen_runs(alloc, &job, &mut host, &mut thief)?;
-    let _ = hears(alloc, &mut host, &returned)?;
-    let _ = runs(alloc, &job, &mut host)?;
-    let last = runs(alloc, &job, &mut host)?;
-    value_in(alloc, &first(alloc, &last)?)
+    let returned = thief_runs(alloc, &job, &mut host)?;
+    rest_runs(alloc, &job, &mut host, &returned)
 }
 
 #[test]
