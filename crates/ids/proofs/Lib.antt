@@ -3,3 +3,4 @@ pub mod KeyedLaws
 pub mod NameOrder
 pub mod Replacing
 pub mod RisingLaws
+pub mod Halving

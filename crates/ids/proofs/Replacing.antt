@@ -1,8 +1,9 @@
 -- An item in the place of another is one of the list.
-use Rattle.std.proofs.Common.{◌≡◌, Option, Some, None, ap, ◌∙◌, sym, Bor, List}
+use Rattle.std.proofs.Common.{◌≡◌, Option, Some, None, ap, ◌∙◌, sym, refl, Bor, List, [], ◌∷◌, map}
 use Rattle.std.specs.Option.{IfSome, IsSome, IsSomeAnd, option_copied}
 use Rattle.std.specs.Map.{lookup, values_of, set_value}
-use Rattle.std.specs.BTreeMap.{BTreeMap, WritesThrough, is_at}
+use Rattle.std.specs.BTreeMap.{BTreeMap, IsOrdered, WritesThrough, is_at}
+use Rattle.std.specs.List.{AllByRecursion}
 use Rattle.ids.specs.Named.{Name, name_cmp, put_in, item_in, changed_of}
 use Rattle.ids.specs.Stored.{IsStored}
 use Rattle.ids.proofs.NameOrder.{exact_names, names_total}
@@ -45,6 +46,26 @@ after_change name change fits keeps k m n (Some x) there some stored h =
         ordered = h.4;
       };
       list = ap values_of set ∙ values_set name name_cmp names_total (change x) x m.entries stored.ordered stored.tied here;
+    }
+
+-- all items of a tree map changed
+each_changed : {X : Type 0} (name : X → Name) (change : X → X) → ((x : X) → name (change x) ≡ name x) → (es : List (Name × X)) → AllByRecursion (λ (e : Name × X). e.0 ≡ name e.1) es → AllByRecursion (λ (e : Name × X). e.0 ≡ name e.1) (map (λ e. (e.0, change e.1)) es)
+each_changed name change keeps [] h = h
+each_changed name change keeps (e ∷ es) h = (h.0 ∙ sym (keeps e.1), each_changed name change keeps es h.1)
+
+values_changed : {X : Type 0} (change : X → X) (es : List (Name × X)) → values_of (map (λ e. (e.0, change e.1)) es) ≡ map change (values_of es)
+values_changed change [] = refl
+values_changed change (e ∷ es) = ap (λ xs. change e.1 ∷ xs) (values_changed change es)
+
+pub record ChangesAll {X : Type 0} (name : X → Name) (change : X → X) (m n : BTreeMap Name X) : Type 0 where
+  pub stored : IsStored name n
+  pub list : values_of n.entries ≡ map change (values_of m.entries)
+
+pub after_change_all : {X : Type 0} (name : X → Name) (change : X → X) → ((x : X) → name (change x) ≡ name x) → (m n : BTreeMap Name X) → IsStored name m → n.entries ≡ map (λ e. (e.0, change e.1)) m.entries → IsOrdered name_cmp n → ChangesAll name change m n
+after_change_all name change keeps m n stored entries ordered =
+    record {
+      stored = record { tied = rw entries (each_changed name change keeps m.entries stored.tied); ordered = ordered };
+      list = ap values_of entries ∙ values_changed change m.entries;
     }
 
 -- an item that was put is found

@@ -1,4 +1,4 @@
-ghost use Rattle.std.specs.Prelude.{◌≡◌, OnOk, OnErr, IfSome, IsSome, IsSomeAnd, option_copied, length, []};
+ghost use Rattle.std.specs.Prelude.{◌≡◌, OnOk, OnErr, IfSome, IsSome, IsSomeAnd, option_copied, length, map, []};
 ghost use Rattle.std.specs.BTreeMap as tree;
 ghost use Rattle.ids.specs.Named.{Name, name_cmp, item_in, put_in, without_in, changed_in};
 ghost use Rattle.ids.specs.Ordered.{AreInOrder};
@@ -122,6 +122,17 @@ impl<X: Named + Drop> Store<X> {
         put_there(&mut self.items, item.name(), item)
     }
 
+    /// Changes all items, by a change that may be made on any; takes no memory.
+    pub fn change_all<C: Change<X>>(&mut self, change: &C)
+        requires { (item : X) → C.fits change.now item }
+        ensures { self.new ≡ map (C.changed change.now) self.old }
+    {
+        self.items.retain(|_, item| {
+            change.apply(item);
+            true
+        });
+    }
+
     /// Takes an item away.
     pub fn take(&mut self, name: (u64, u64)) -> Option<X>
         ensures same { result ≡ item_in X.name_of name self.old }
@@ -140,6 +151,17 @@ impl<X: Named + Exact> Clone for Store<X> {
             items.put(item.clone()?)?;
         }
         Ok(items)
+    }
+}
+
+/// The item of a name among items that stand by rising name, found by halves; takes no memory.
+pub fn item_of<X: Named>(items: &[X], name: (u64, u64)) -> Option<&X>
+    requires { AreInOrder X.name_of items.now }
+    ensures { option_copied result ≡ item_in X.name_of name items.now }
+{
+    match items.binary_search_by_key(&name, |item| item.name()) {
+        Ok(at) => Some(&items[at]),
+        Err(_) => None,
     }
 }
 
