@@ -1,4 +1,4 @@
--- How many bytes a format writes at most, of what can be written. A packet that is neither a roster nor an offer takes fewer than are allowed.
+-- How many bytes a format writes at most, of what can be written. A packet that is no offer takes fewer than are allowed.
 use Rattle.std.proofs.Common.{◌≡◌, ℕ, zero, suc, ◌+◌, ◌*◌, ◌^◌, ◌≤◌, Bool, true, false, not, eqb, leb, ltb, List, [], ◌∷◌, ◌++◌, length, reverse, Option, Some, None, ap, ◌∙◌, arith}
 use Rattle.std.specs.Prelude.{◌&&◌}
 use Rattle.std.proofs.lemmas.Bool.{and_parts, leb-true}
@@ -7,15 +7,16 @@ use Rattle.std.proofs.Math.Nat.{mul-le-mul_left, mul-suc}
 use Rattle.std.specs.Int.{w64, cast_unsigned}
 use Rattle.byteorder.specs.Endian.{big_bytes}
 use Rattle.byteorder.specs.Numbers.{length-bytes_high_first}
-use Rattle.ids.specs.Names.{is_actor, is_counted, is_worker}
+use Rattle.ids.specs.Names.{is_actor, is_counted, is_epoch, is_worker}
 use Rattle.ids.specs.declared.outcome.Outcome.TheVariants.{Value, TooDeep}
+use Rattle.ids.specs.declared.member.Status.TheVariants.{Live, Dead, Left}
 use Rattle.packet_fields.specs.declared.fault.Fault.{Fault}
 use Rattle.packet_fields.specs.declared.fault.Fault.TheVariants as fault
-use Rattle.packet_fields.specs.Format.{Format, at_most, chosen, followed, listed, made, never, nothing, number, of_part, plain, tested, variant}
+use Rattle.packet_fields.specs.Format.{Format, at_most, chosen, followed, items, listed, made, never, nothing, number, of_part, plain, tested, variant}
 use Rattle.packet_fields.specs.Fields as field
 use Rattle.codec.specs.declared.body.Body.{Body}
 use Rattle.codec.specs.declared.body.Body.TheVariants as body
-use Rattle.codec.specs.Table.{PacketOf, Spells, abort, beat, fields, fits_body, granted, is_packet, is_short, join, kind_of, leave, offer_ack, packet, refuse, result_ack, steal, suits, task_result, write_body}
+use Rattle.codec.specs.Table.{PacketOf, Spells, abort, beat, fields, fits_body, granted, is_packet, is_short, join, kind_of, leave, offer_ack, packet, refuse, result_ack, roster, steal, suits, task_result, write_body}
 use Rattle.codec.proofs.TableLaws.{is_written}
 
 -- of what can be written, at most so many bytes are
@@ -67,13 +68,22 @@ plain_bytes each F bound (suc count) (x ∷ xs) f =
     let h = and_parts (F.fits x) ((plain F count).fits xs) f in
     omega (arith, mul-suc each count, length-append (F.write x) ((plain F count).write xs), bound.bytes x h.0, plain_bytes each F bound count xs h.1)
 
-listed_bytes : {X : Type 0} (n most each : ℕ) (F : Format X) → AtMost each F → AtMost (n + each * most) (listed n (at_most most) (plain F))
-listed_bytes n most each F bound = record {
+items_bytes : {K X : Type 0} (each : ℕ) (key : X → K) (F : Option K → Format X) → ((last : Option K) → AtMost each (F last)) → (last : Option K) (count : ℕ) (xs : List X) → (items key F last count).fits xs ≡ true → length ((items key F last count).write xs) ≤ each * count
+items_bytes each key F bound last zero xs f = omega arith
+items_bytes each key F bound last (suc count) [] f = omega arith
+items_bytes each key F bound last (suc count) (x ∷ xs) f =
+    let rest = items key F (Some (key x)) count in
+    let h = and_parts ((F last).fits x) (rest.fits xs) f in
+    omega (arith, mul-suc each count, length-append ((F last).write x) (rest.write xs), (bound last).bytes x h.0, items_bytes each key F bound (Some (key x)) count xs h.1)
+
+-- a list is as long as its count and so many items
+listed_bytes : {X : Type 0} (n most each : ℕ) (G : ℕ → Format (List X)) → ((count : ℕ) (xs : List X) → (G count).fits xs ≡ true → length ((G count).write xs) ≤ each * count) → AtMost (n + each * most) (listed n (at_most most) G)
+listed_bytes n most each G bound = record {
   bytes = λ xs f.
       let count : ℕ = length xs in
-      let h = and_parts (ltb count (256 ^ n) && leb count most) ((plain F count).fits xs) f in
+      let h = and_parts (ltb count (256 ^ n) && leb count most) ((G count).fits xs) f in
       let few : count ≤ most = leb-true count most (and_parts (ltb count (256 ^ n)) (leb count most) h.0).1 in
-      omega (arith, length-append (big_bytes n count) ((plain F count).write xs), length-bytes_high_first n count, plain_bytes each F bound count xs h.1, mul-le-mul_left each few);
+      omega (arith, length-append (big_bytes n count) ((G count).write xs), length-bytes_high_first n count, bound count xs h.1, mul-le-mul_left each few);
 }
 
 -- ---- fields
@@ -81,6 +91,9 @@ listed_bytes n most each F bound = record {
 worker_bytes : AtMost 8 field.worker
 unfolding field.worker
 worker_bytes = tested_bytes 8 fault.Field (number 8) is_worker (number_bytes 8)
+
+other_worker_bytes : (own : ℕ) → AtMost 8 (field.other_worker own)
+other_worker_bytes own = tested_bytes 8 fault.Field field.worker (λ heir. not (eqb heir own)) worker_bytes
 
 actor_bytes : AtMost 8 field.actor
 unfolding field.actor
@@ -107,7 +120,7 @@ step_bytes = tested_bytes 1 fault.Field (number 1) (λ s. ltb s 9) (number_bytes
 -- a place of 1,024 steps
 place_bytes : AtMost 1026 field.place
 unfolding field.place field.steps
-place_bytes = made_bytes 1026 field.steps reverse reverse (listed_bytes 2 1024 1 field.step step_bytes)
+place_bytes = made_bytes 1026 field.steps reverse reverse (listed_bytes 2 1024 1 (plain field.step) (plain_bytes 1 field.step step_bytes))
 
 thread_bytes : AtMost 1 field.thread
 unfolding field.thread
@@ -120,7 +133,7 @@ signed_bytes = record { bytes = λ z f. omega (arith, length-bytes_high_first 8 
 -- eight numbers
 numbers_bytes : AtMost 65 field.numbers
 unfolding field.numbers
-numbers_bytes = listed_bytes 1 8 8 field.signed signed_bytes
+numbers_bytes = listed_bytes 1 8 8 (plain field.signed) (plain_bytes 8 field.signed signed_bytes)
 
 task_bytes : AtMost 1092 field.task
 unfolding field.task
@@ -138,11 +151,42 @@ outcome_bytes : AtMost 9 field.outcome
 unfolding field.outcome
 outcome_bytes = chosen_bytes 1 8 (number 1) field.outcome_arm field.tag_of_outcome (number_bytes 1) arm_bytes
 
+epoch_bytes : AtMost 8 field.epoch
+unfolding field.epoch
+epoch_bytes = tested_bytes 8 fault.Field (number 8) is_epoch (number_bytes 8)
+
+status_arm_bytes : (own tag : ℕ) → AtMost 8 (field.status_arm own tag)
+status_arm_bytes own zero = nothing_bytes 8 Live field.is_live
+status_arm_bytes own (suc zero) = nothing_bytes 8 Dead field.is_dead
+status_arm_bytes own (suc (suc zero)) = variant_bytes 8 (field.other_worker own) Left field.heir_in (other_worker_bytes own)
+status_arm_bytes own (suc (suc (suc n))) = never_bytes 8 fault.Field
+
+status_bytes : (own : ℕ) → AtMost 9 (field.status own)
+unfolding field.status
+status_bytes own = chosen_bytes 1 8 (number 1) (field.status_arm own) field.tag_of_status (number_bytes 1) (status_arm_bytes own)
+
+member_bytes : (last : Option ℕ) → AtMost 17 (field.member last)
+unfolding field.member
+member_bytes last =
+    made_bytes 17 (followed (tested fault.Field field.worker (field.is_above last)) field.status) (λ x. record { incarnation = x.0; status = x.1 }) (λ m. (m.incarnation, m.status))
+    (followed_bytes 8 9 (tested fault.Field field.worker (field.is_above last)) field.status (tested_bytes 8 fault.Field field.worker (field.is_above last) worker_bytes) status_bytes)
+
+-- 4,096 members
+members_bytes : AtMost 69634 field.members
+unfolding field.members
+members_bytes = listed_bytes 2 4096 17 (items field.name_of_member field.member None) (items_bytes 17 field.name_of_member field.member member_bytes None)
+
 -- ---- kinds
 
 join_bytes : AtMost 8 join
 unfolding join
 join_bytes = made_bytes 8 field.worker (λ x. record { from = x }) (λ b. b.from) worker_bytes
+
+roster_bytes : AtMost 69650 roster
+unfolding roster
+roster_bytes =
+    made_bytes 69650 (followed field.epoch (λ _. followed field.counted (λ _. field.members))) (λ x. record { epoch = x.0; version = x.1.0; members = x.1.1 }) (λ b. (b.epoch, (b.version, b.members)))
+    (followed_bytes 8 69642 field.epoch (λ _. followed field.counted (λ _. field.members)) epoch_bytes (λ _. followed_bytes 8 69634 field.counted (λ _. field.members) counted_bytes (λ _. members_bytes)))
 
 steal_bytes : AtMost 16 steal
 unfolding steal
@@ -180,7 +224,7 @@ leave_bytes : AtMost 16 leave
 unfolding leave
 leave_bytes =
     made_bytes 16 (followed field.worker (λ own. field.other_worker own)) (λ x. record { from = x.0; heir = x.1 }) (λ b. (b.from, b.heir))
-    (followed_bytes 8 8 field.worker (λ own. field.other_worker own) worker_bytes (λ own. tested_bytes 8 fault.Field field.worker (λ heir. not (eqb heir own)) worker_bytes))
+    (followed_bytes 8 8 field.worker (λ own. field.other_worker own) worker_bytes other_worker_bytes)
 
 abort_bytes : AtMost 16 abort
 unfolding abort
@@ -192,12 +236,12 @@ beat_bytes =
     made_bytes 16 (followed field.worker (λ _. field.counted)) (λ x. record { from = x.0; version = x.1 }) (λ b. (b.from, b.version))
     (followed_bytes 8 8 field.worker (λ _. field.counted) worker_bytes (λ _. counted_bytes))
 
--- the fields of a short body: a grant's are the most
-body_bytes : (b : Body) → is_short b ≡ true → fits_body b ≡ true → length (write_body b) ≤ 1116
+-- the fields of a short body: a roster's are the most
+body_bytes : (b : Body) → is_short b ≡ true → fits_body b ≡ true → length (write_body b) ≤ 69650
 body_bytes (body.Join b) short f = omega (arith, join_bytes.bytes b f)
-body_bytes (body.Roster b) short f = absurd cc
+body_bytes (body.Roster b) short f = roster_bytes.bytes b f
 body_bytes (body.Steal b) short f = omega (arith, steal_bytes.bytes b f)
-body_bytes (body.Grant b) short f = granted_bytes.bytes b f
+body_bytes (body.Grant b) short f = omega (arith, granted_bytes.bytes b f)
 body_bytes (body.Refuse b) short f = omega (arith, refuse_bytes.bytes b f)
 body_bytes (body.Result b) short f = omega (arith, result_bytes.bytes b f)
 body_bytes (body.ResultAck b) short f = omega (arith, result_ack_bytes.bytes b f)
@@ -212,8 +256,8 @@ body_bytes (body.Beat b) short f = omega (arith, beat_bytes.bytes b f)
 pieces : (a b c d e f : List ℕ) → length (a ++ (b ++ (c ++ (d ++ (e ++ f))))) ≡ length a + (length b + (length c + (length d + (length e + length f))))
 pieces a b c d e f = simp length-append
 
--- a short packet has at most 1,136 bytes
-packet_bytes : (p : PacketOf) → is_packet p ≡ true → is_short p.body ≡ true → length (packet.write p) ≤ 1136
+-- a short packet has at most 69,670 bytes
+packet_bytes : (p : PacketOf) → is_packet p ≡ true → is_short p.body ≡ true → length (packet.write p) ≤ 69670
 unfolding packet fields
 packet_bytes p whole short =
     let kind : ℕ = kind_of p.body in

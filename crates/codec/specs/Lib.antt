@@ -1,4 +1,5 @@
 pub mod Table
+pub mod Rosters
 pub mod Errors
 pub use Rattle.packet_fields.specs.Format
 pub use Rattle.packet_fields.specs.Fields

@@ -163,9 +163,8 @@ fits_body (body.Leave b) = leave.fits b
 fits_body (body.Abort b) = abort.fits b
 fits_body (body.Beat b) = beat.fits b
 
--- whether the body is neither a roster nor an offer: no packet that says it is too big
+-- whether the body is no offer: such a packet is never too big
 abbrev pub is_short : Body → Bool
-is_short (body.Roster b) = false
 is_short (body.Offer b) = false
 is_short other = true
 

@@ -1,5 +1,9 @@
 ghost use Rattle.std.specs.Prelude.{◌≡◌, ℕ, IsTrue, List};
-ghost use Rattle.codec.specs.Table.{IsSpelled, PacketOf, Spelling, is_packet};
+ghost use Rattle.ids.specs.Naming.{name_of_member};
+ghost use Rattle.ids.specs.Ordered.{AreInOrder};
+ghost use Rattle.codec.specs.Table.{IsSpelled, PacketOf, Spelling, fits_body, is_packet};
+ghost use Rattle.codec.specs.declared.body.Body.TheVariants as body;
+ghost use Rattle.codec.specs.declared.body.Roster.{Roster};
 
 /// A packet has one spelling, and a spelling one packet; and the packets that have one are those that can be made.
 pub fn one_to_one()
@@ -7,4 +11,9 @@ pub fn one_to_one()
     ensures packet { (a : List ℕ) → (p q : PacketOf) → Spelling a p → Spelling a q → p ≡ q }
     ensures made { (a : List ℕ) → (p : PacketOf) → Spelling a p → IsTrue (is_packet p) }
     ensures spelled { (p : PacketOf) → IsTrue (is_packet p) → IsSpelled p }
+{}
+
+/// The members of a roster that can be written stand by rising incarnation.
+pub fn rosters_rise()
+    ensures { (r : Roster) → IsTrue (fits_body (body.Roster r)) → AreInOrder name_of_member r.members }
 {}

@@ -15,6 +15,6 @@ pub use body::{
 };
 pub use decoding::decode;
 pub use encoding::{EncodeError, encode, encode_short};
-pub use laws::one_to_one;
+pub use laws::{one_to_one, rosters_rise};
 pub use packet::Packet;
 pub use packet_fields::{Fault, ReadError};

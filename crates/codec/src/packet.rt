@@ -1,12 +1,17 @@
 ghost use Rattle.std.specs.Prelude.{◌≡◌, ◌^◌, ◌<◌, ◌≤◌, length, false, nat_eq, IsTrue, Some, None, if◌then◌else◌};
+ghost use Rattle.std.specs.List.{AllByRecursion, list_all};
 ghost use Rattle.ids.specs.Names.{house_of};
+ghost use Rattle.ids.specs.Naming.{name_of_member};
+ghost use Rattle.ids.specs.Ordered.{AreInOrder};
+ghost use Rattle.codec.specs.Rosters.{has_another, names_workers};
 ghost use Rattle.codec.specs.Table as table;
 
 use crate::body::{
-    Abort, Beat, Body, Grant, Join, Kind, Leave, OfferAck, Refuse, ResultAck, Steal, TaskResult,
+    Abort, Beat, Body, Grant, Join, Kind, Leave, OfferAck, Refuse, ResultAck, Roster, Steal,
+    TaskResult,
 };
 use crate::fields::{fields_fit, kind_of};
-use ids::{Actor, Address, Epoch, Incarnation};
+use ids::{Actor, Address, Epoch, Incarnation, Member, Status};
 use packet_fields::fits;
 use std::marker::Model;
 
@@ -54,6 +59,22 @@ impl Packet {
             job,
             to: Address::any_house(),
             body: Body::Join(join),
+        }
+    }
+
+    /// A worker is told who is listed: at most 4,096 members, by rising incarnation, none of which is its own heir.
+    #[tactic(auto, using(crate::proofs::Rosters::members_fit), unfolding(crate::specs::Table::roster, packet_fields::specs::Fields::epoch, packet_fields::specs::Fields::counted))]
+    pub fn roster(job: u64, to: Incarnation, roster: Roster) -> Packet
+        requires few { length roster.members ≤ 4096 }
+        requires rising { AreInOrder name_of_member roster.members }
+        requires heirs { AllByRecursion (λ m. IsTrue (has_another m.incarnation m.status)) roster.members }
+        ensures { result ≡ record { job = job; to = to; body = Body.Roster roster } }
+    {
+        see_workers(roster.members.as_slice());
+        Packet {
+            job,
+            to: Address::actor(Actor::worker(to)),
+            body: Body::Roster(roster),
         }
     }
 
@@ -199,6 +220,19 @@ impl Packet {
         ensures packet { IsTrue (table.is_packet self) }
     {
         self.body
+    }
+}
+
+/// The words of members and of their heirs are those of workers, as their types see to it: the prover then has what the
+/// types keep. It has no effect, and an optimised build leaves nothing of it.
+fn see_workers(members: &[Member])
+    ensures { IsTrue (list_all names_workers members.now) }
+{
+    for member in members {
+        let _word = fits::worker(&member.incarnation);
+        if let Status::Left(heir) = member.status {
+            let _word = fits::worker(&heir);
+        }
     }
 }
 

@@ -3,10 +3,12 @@ ghost use Rattle.std.specs.Prelude.{◌≡◌, ◌<◌, ◌≤◌, length, IfOk}
 
 use super::example;
 use codec::{
-    Abort, Beat, Body, Grant, Join, OfferAck, Packet, Refuse, ResultAck, Steal, TaskResult, decode,
-    encode,
+    Abort, Beat, Body, Grant, Join, OfferAck, Packet, Refuse, ResultAck, Roster, Steal, TaskResult,
+    decode, encode,
 };
-use ids::{Actor, Count, Epoch, GrantId, Hop, Incarnation, Listed, Outcome, Place, Task};
+use ids::{
+    Actor, Count, Epoch, GrantId, Hop, Incarnation, Listed, Member, Outcome, Place, Status, Task,
+};
 use std::alloc::Global;
 use std::test::Fail;
 
@@ -28,7 +30,9 @@ fn sent(
     Ok(packet)
 }
 
-fn worker(word: u64) -> Result<Incarnation, Fail> {
+fn worker(word: u64) -> Result<Incarnation, Fail>
+    ensures { IfOk result (λ i. i ≡ word) }
+{
     Ok(Incarnation::worker(word).ok_or("a worker")?)
 }
 
@@ -70,6 +74,35 @@ fn refuse() -> Result<Packet, Fail> {
     Ok(Packet::refuse(7, worker(3)?, Refuse { seq }))
 }
 
+/// 3 lives, 4 is dead, 9 left to 3, and 16 to 4.
+fn roster(alloc: Global) -> Result<Packet, Fail> {
+    let (third, fourth, ninth, last) = (worker(3)?, worker(4)?, worker(9)?, worker(16)?);
+    let members = vec![in alloc;
+        Member {
+            incarnation: third,
+            status: Status::Live
+        },
+        Member {
+            incarnation: fourth,
+            status: Status::Dead
+        },
+        Member {
+            incarnation: ninth,
+            status: Status::Left(third)
+        },
+        Member {
+            incarnation: last,
+            status: Status::Left(fourth)
+        },
+    ]?;
+    let roster = Roster {
+        epoch: Epoch::of(2).ok_or("an epoch")?,
+        version: count(5)?,
+        members: Listed::from_vec(members),
+    };
+    Ok(Packet::roster(7, third, roster))
+}
+
 fn beat() -> Result<Packet, Fail> {
     let (from, version) = (worker(3)?, count(5)?);
     Ok(Packet::beat(7, house()?, Beat { from, version }))
@@ -82,6 +115,7 @@ fn questions_are_made(rt: HostRuntime) -> Result<(), Fail> {
     assert!(rt; is_spelled(alloc, steal()?, "STEAL")?);
     assert!(rt; is_spelled(alloc, refuse()?, "REFUSE")?);
     assert!(rt; is_spelled(alloc, beat()?, "BEAT")?);
+    assert!(rt; is_spelled(alloc, roster(alloc)?, "ROSTER")?);
     Ok(())
 }
 
