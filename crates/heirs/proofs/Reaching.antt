@@ -5,6 +5,7 @@ use Rattle.std.specs.Option.{option_map}
 use Rattle.std.specs.Ordering.{is_eq}
 use Rattle.ids.specs.Named.{Name, name_cmp, item_in}
 use Rattle.ids.specs.Naming.{name_of_member}
+use Rattle.ids.specs.Ordered.{AreInOrder}
 use Rattle.ids.specs.Options.{◌>>=◌}
 use Rattle.ids.specs.Members.{status_in, follow, bearer}
 use Rattle.ids.specs.declared.member.Member.{Member}
@@ -17,7 +18,7 @@ use Rattle.heirs.specs.declared.bearers.chains.Reach.{Reach}
 use Rattle.heirs.specs.declared.bearers.chains.Reach.TheVariants.{Ended, At}
 use Rattle.heirs.specs.Bearers.{name_of_bearing, bearer_in, said_of}
 use Rattle.heirs.specs.Chains.{name_of_chain, first_of, chain_of, then_on, reach_of, reach_in, reach, gone_on, goes_on, end_of, bearing_of}
-use Rattle.heirs.proofs.Tables.{item_of_map, IsMadeFrom}
+use Rattle.heirs.proofs.Tables.{item_of_map, names_of_map, IsMadeFrom}
 
 -- going on by two tables that say the same
 then_same : (f g : ℕ → Reach) → ((j : ℕ) → f j ≡ g j) → (r : Reach) → then_on f r ≡ then_on g r
@@ -61,6 +62,10 @@ joined_steps step table next m k steps sum first rest longer is i =
     ∙ ap (then_on (reach_in next)) (first i)
     ∙ then_same (reach_in next) (reach k step) rest (reach m step i)
     ∙ sym (more_steps step m k steps sum i)
+
+-- and stands in the same order
+pub joined_order : (table next longer : List Chain) → longer ≡ map (gone_on next) table → AreInOrder name_of_chain table → AreInOrder name_of_chain longer
+joined_order table next longer is order = rw (ap (map name_of_chain) is ∙ names_of_map name_of_chain name_of_chain (gone_on next) (λ c. refl) table) order
 
 -- where no chain goes on, the one found doesn't
 none_goes_on : (n : Name) (table : List Chain) → list_any (λ c. goes_on c.reach) table ≡ false → (c : Chain) → item_in name_of_chain n table ≡ Some c → goes_on c.reach ≡ false

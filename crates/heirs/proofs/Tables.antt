@@ -18,7 +18,7 @@ apart n m other = by_order (name_cmp n m) refl
     by_order Greater is = refl
 
 -- a name is equal to itself
-equal_to_itself : (n : Name) → name_cmp n n ≡ Equal
+pub equal_to_itself : (n : Name) → name_cmp n n ≡ Equal
 equal_to_itself n = by_order (name_cmp n n) (names_total.antisymm n n)
   where
     by_order : (r : Ordering) → r ≡ ordering_reverse r → r ≡ Equal
@@ -62,7 +62,7 @@ module _ {X Y : Type 0} (a : X → Name) (b : Y → Name) (f : X → Y) (keeps :
       by_test rest false = rest
 
   -- they stand under the same names
-  names_of_map : (xs : List X) → map b (map f xs) ≡ map a xs
+  pub names_of_map : (xs : List X) → map b (map f xs) ≡ map a xs
   names_of_map [] = refl
   names_of_map (x ∷ xs) = ap (λ n. n ∷ map b (map f xs)) (keeps x) ∙ ap (λ ns. a x ∷ ns) (names_of_map xs)
 

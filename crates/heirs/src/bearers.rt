@@ -1,13 +1,14 @@
 ghost use Rattle.std.specs.Prelude.{◌≡◌, ℕ, IfOk, map};
 ghost use Rattle.ids.specs.Members.{resolve};
 ghost use Rattle.heirs.specs.Bearers.{name_of_bearing, bearer_in};
-ghost use Rattle.heirs.specs.Chains.{bearing_of};
+ghost use Rattle.heirs.specs.Chains.{name_of_chain, bearing_of};
+ghost use Rattle.ids.specs.Ordered.{AreInOrder};
 
 mod chains;
 #[cfg(test)]
 mod tests;
 
-use chains::{Chain, after_steps, first_step};
+use chains::{Chain, after_steps, first_step, guessed, listed};
 use ids::{Actor, Incarnation, Member, Named, Store};
 use std::alloc::{AllocError, Global};
 use std::marker::Model;
@@ -44,15 +45,18 @@ impl Model for Bearers {
 }
 
 impl Bearers {
-    /// Looks through a roster's members once: time about their number, times the square of its logarithm, however long
-    /// the chains of heirs are. Refused for want of memory alone.
+    /// Looks through a roster's members once: time about their number, times its logarithm, however long the chains of
+    /// heirs are. Refused for want of memory alone.
     pub fn of(alloc: Global, members: &[Member]) -> Result<Bearers, AllocError>
         ensures { IfOk result (λ b. (i : ℕ) → bearer_in i b ≡ resolve members.now i) }
     {
-        let step = first_step(alloc, members)?;
+        let table = first_step(alloc, members)?;
+        table.stand_in_order();
+        let chains = listed(alloc, &table)?;
+        let step = guessed(alloc, chains.as_slice())?;
         let chains = after_steps(alloc, &step, members.len() + 1)?;
         Ok(Bearers {
-            table: ends(alloc, &chains)?,
+            table: ends(alloc, chains.as_slice())?,
         })
     }
 
@@ -68,13 +72,13 @@ impl Bearers {
     }
 }
 
-/// Who has the work at the end of each chain.
-fn ends(alloc: Global, chains: &Store<Chain>) -> Result<Store<Bearing>, AllocError>
+/// Who has the work at the end of each chain, of chains by rising worker.
+fn ends(alloc: Global, chains: &[Chain]) -> Result<Store<Bearing>, AllocError>
+    requires { AreInOrder name_of_chain chains.now }
     ensures { IfOk result (λ table. table ≡ map bearing_of chains.now) }
 {
-    chains.stand_in_order();
     let mut table = Store::new(alloc);
-    for chain in chains.values() {
+    for chain in chains {
         table.put(Bearing {
             worker: chain.worker,
             bearer: chain.reach.end(),

@@ -2,10 +2,12 @@ ghost use Rattle.std.specs.Prelude.{◌≡◌, ℕ, ◌<◌, IfOk, map, option_m
 ghost use Rattle.std.specs.List.{list_any};
 ghost use Rattle.ids.specs.Named.{Name, item_in};
 ghost use Rattle.ids.specs.Naming.{name_of_member};
+ghost use Rattle.ids.specs.Ordered.{AreInOrder};
 ghost use Rattle.heirs.specs.Chains.{name_of_chain, chain_of, reach_in, reach, then_on, gone_on, goes_on, end_of, first_of};
 
-use ids::{Actor, Exact, Incarnation, Member, Named, Status, Store};
+use ids::{Actor, Exact, Incarnation, Listed, Member, Named, Status, Store, item_of};
 use std::alloc::{AllocError, Global};
+use std::marker::Model;
 
 /// Where a chain of heirs is after some steps.
 #[derive(Clone, Copy, PartialEq, Eq, Debug)]
@@ -25,19 +27,6 @@ impl Reach {
             Status::Live => Reach::Ended(Some(Actor::worker(worker))),
             Status::Dead => Reach::Ended(None),
             Status::Left(heir) => Reach::At(heir),
-        }
-    }
-
-    /// Where the chain is when it goes on as a table says.
-    fn then(self, table: &Store<Chain>) -> Reach
-        ensures { result ≡ then_on (reach_in table.now) self }
-    {
-        match self {
-            Reach::Ended(bearer) => Reach::Ended(bearer),
-            Reach::At(worker) => match table.get((worker.word(), 0)) {
-                Some(chain) => chain.reach,
-                None => Reach::Ended(Some(Actor::worker(worker))),
-            },
         }
     }
 
@@ -88,25 +77,124 @@ pub fn first_step(alloc: Global, members: &[Member]) -> Result<Store<Chain>, All
     Ok(table)
 }
 
-/// The chains after so many steps, each as the table of one step says. Where none goes on any more, all longer tables are
+/// Chains by rising worker. Beside each stands a guess of the place in the list of the worker that it goes on at: a wrong
+/// one costs a search. Contracts see the chains.
+#[derive(Drop)]
+pub struct Chains {
+    chains: Listed<Chain>,
+    guesses: Listed<Option<usize>>,
+}
+
+impl Model for Chains {
+    ghost use Rattle.std.specs.Prelude.{List};
+    ghost use Rattle.heirs.specs.declared.bearers.chains.Chain.{Chain};
+
+    ghost Value = { List Chain };
+
+    ghost view = { λ c. c.chains };
+}
+
+impl Chains {
+    /// The chains, one after another.
+    pub fn as_slice(&self) -> &[Chain]
+        ensures { result.now ≡ self.now }
+    {
+        self.chains.as_slice()
+    }
+
+    /// The guess for the chain at a place.
+    fn guess(&self, place: usize) -> Option<usize> {
+        match self.guesses.get(place) {
+            Some(guess) => *guess,
+            None => None,
+        }
+    }
+
+    /// Where a worker's chain is, looked for at the guess first.
+    fn reach(&self, worker: Incarnation, guess: Option<usize>) -> Reach
+        requires { AreInOrder name_of_chain self.now }
+        ensures { result ≡ reach_in self.now worker }
+    {
+        let chains = self.chains.as_slice();
+        let place = guess.unwrap_or(0);
+        if place < chains.len() && chains[place].worker == worker {
+            return chains[place].reach;
+        }
+        match item_of(chains, (worker.word(), 0)) {
+            Some(chain) => chain.reach,
+            None => Reach::Ended(Some(Actor::worker(worker))),
+        }
+    }
+
+    /// Where a chain is when it goes on as these say, and the guess for it.
+    fn then(&self, reach: Reach, guess: Option<usize>) -> (Reach, Option<usize>)
+        requires { AreInOrder name_of_chain self.now }
+        ensures { result.0 ≡ then_on (reach_in self.now) reach }
+    {
+        match reach {
+            Reach::Ended(bearer) => (Reach::Ended(bearer), guess),
+            Reach::At(worker) => {
+                let next = self.guess(guess.unwrap_or(0));
+                (self.reach(worker, guess), next)
+            }
+        }
+    }
+}
+
+/// The chains of a table, by rising worker.
+pub fn listed(alloc: Global, table: &Store<Chain>) -> Result<Listed<Chain>, AllocError>
+    ensures { IfOk result (λ chains. chains ≡ table.now) }
+{
+    let mut chains = Listed::new(alloc);
+    for chain in table.values() {
+        chains.push(*chain)?;
+    }
+    Ok(chains)
+}
+
+/// Chains with guesses that are right.
+pub fn guessed(alloc: Global, chains: &[Chain]) -> Result<Chains, AllocError>
+    ensures { IfOk result (λ all. all ≡ chains.now) }
+{
+    let mut copies = Listed::new(alloc);
+    let mut guesses = Listed::new(alloc);
+    for chain in chains {
+        copies.push(*chain)?;
+        guesses.push(place_of(chains, chain.reach))?;
+    }
+    Ok(Chains {
+        chains: copies,
+        guesses,
+    })
+}
+
+/// The place of the worker that a chain goes on at, in a list by rising worker.
+fn place_of(chains: &[Chain], reach: Reach) -> Option<usize> {
+    match reach {
+        Reach::Ended(_) => None,
+        Reach::At(worker) => chains
+            .binary_search_by_key(&worker.word(), |chain| chain.worker.word())
+            .ok(),
+    }
+}
+
+/// The chains after so many steps, each as the list of one step says. Where none goes on any more, all longer ones are
 /// the same.
-pub fn after_steps(
-    alloc: Global,
-    step: &Store<Chain>,
-    steps: usize,
-) -> Result<Store<Chain>, AllocError>
-    requires { 0 < steps }
-    ensures { IfOk result (λ table. (i : ℕ) → reach_in table i ≡ reach steps step.now i) }
+pub fn after_steps(alloc: Global, step: &Chains, steps: usize) -> Result<Chains, AllocError>
+    requires some { 0 < steps }
+    requires order { AreInOrder name_of_chain step.now }
+    ensures says { IfOk result (λ chains. (i : ℕ) → reach_in chains i ≡ reach steps step.now i) }
+    ensures order { IfOk result (AreInOrder name_of_chain) }
 {
     let half = steps / 2;
     if half == 0 {
-        return step.clone();
+        return guessed(alloc, step.as_slice());
     }
-    let table = after_steps(alloc, step, half)?;
-    if !any_goes_on(&table) {
-        return Ok(table);
+    let chains = after_steps(alloc, step, half)?;
+    if !any_goes_on(&chains) {
+        return Ok(chains);
     }
-    let twice = joined(alloc, &table, &table)?;
+    let twice = joined(alloc, &chains, &chains)?;
     if steps % 2 == 0 {
         Ok(twice)
     } else {
@@ -115,29 +203,32 @@ pub fn after_steps(
 }
 
 /// Whether a chain goes on.
-fn any_goes_on(table: &Store<Chain>) -> bool
-    ensures { result ≡ list_any (λ c. goes_on c.reach) table.now }
+fn any_goes_on(chains: &Chains) -> bool
+    ensures { result ≡ list_any (λ c. goes_on c.reach) chains.now }
 {
-    table
-        .values()
+    chains
+        .as_slice()
+        .iter()
         .any(|chain| matches!(chain.reach, Reach::At(_)))
 }
 
-/// The chains of one table, gone on as another says.
-fn joined(
-    alloc: Global,
-    table: &Store<Chain>,
-    next: &Store<Chain>,
-) -> Result<Store<Chain>, AllocError>
-    ensures { IfOk result (λ longer. longer ≡ map (gone_on next.now) table.now) }
+/// The chains of one list, gone on as another says; a chain's place in both is the same.
+fn joined(alloc: Global, chains: &Chains, next: &Chains) -> Result<Chains, AllocError>
+    requires { AreInOrder name_of_chain next.now }
+    ensures { IfOk result (λ longer. longer ≡ map (gone_on next.now) chains.now) }
 {
-    table.stand_in_order();
-    let mut longer = Store::new(alloc);
-    for chain in table.values() {
-        longer.put(Chain {
+    let mut longer = Listed::new(alloc);
+    let mut guesses = Listed::new(alloc);
+    for chain in chains.as_slice() {
+        let (reach, guess) = next.then(chain.reach, chains.guess(longer.len()));
+        longer.push(Chain {
             worker: chain.worker,
-            reach: chain.reach.then(next),
+            reach,
         })?;
+        guesses.push(guess)?;
     }
-    Ok(longer)
+    Ok(Chains {
+        chains: longer,
+        guesses,
+    })
 }
