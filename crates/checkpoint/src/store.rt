@@ -142,6 +142,13 @@ impl<D: Disk> Store<D> {
         self.current
     }
 
+    /// The sequence of the current record: how many were committed since the store was made.
+    pub fn sequence(&self) -> u64
+        ensures { result ≡ self.now.sequence }
+    {
+        self.sequence
+    }
+
     /// Arms the disk.
     pub fn arm(&mut self, calls: u64, bytes: Vec<u8>)
         ensures disk { self.new ≡ record self.old { disk = self.new.disk } }
