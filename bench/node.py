@@ -1,56 +1,57 @@
-"""Times of calls of a node, by how many frames its subcomputation holds; see bench/node. Each round of the program makes a node
-anew and calls it for an eighth as many times as it holds frames, or, for a Roster and a departure, once, with an eighth as many
-records and four members for each of these, and with all frames; a run that only does what comes before those calls is
-compared, so that the making and the start of the program fall out."""
+"""Times of calls of a node, by how many frames its subcomputation holds, and by how many records; see bench/node. Each round of
+the program makes a node anew and calls it for an eighth as many times as it holds frames, or, by records, some times; a run
+that only does what comes before those calls is compared, so that the making and the start of the program fall out."""
 import os
 import resource
 import subprocess
 import sys
 
-FRAMES = (10, 100, 1_000, 8_000)
-# How many nodes are made for each count of frames, and how often that is tried.
-ROUNDS = {10: 20_000, 100: 1_000, 1_000: 20, 8_000: 1}
-TRIES = {10: 9, 100: 7, 1_000: 5, 8_000: 3}
-# What is called, and the run that does what comes before.
-KINDS = [
+# What is called, the run that does what comes before, and how the line is named.
+FRAME_KINDS = [
     ("leaf", "build", "a turn that sends"),
     ("join", "build", "a turn that joins with one kid"),
     ("steal", "build", "a Steal answered by a Grant"),
     ("result", "steal", "a Result that fills a slot"),
-    ("roster", "steal", "a Roster, for each record"),
-    ("depart", "build", "depart, for each 8 frames"),
 ]
+RECORD_KINDS = [
+    ("roster", "give", "a Roster"),
+    ("resend", "depart", "resend of one that leaves"),
+]
+# For each size how many nodes are made, and how often that is tried.
+FRAMES = {10: (20_000, 9), 100: (1_000, 7), 1_000: (20, 5), 8_000: (1, 3)}
+RECORDS = {10: (200, 9), 100: (20, 9), 1_000: (2, 9)}
 
 
-def run_seconds(program, kind, frames):
-    """The processor time of one run."""
+def run(program, kind, size, rounds):
+    """The processor time of one run, and how many calls it timed."""
     before = resource.getrusage(resource.RUSAGE_CHILDREN)
-    rounds = ROUNDS[frames]
-    run = subprocess.run([program, kind, str(frames), str(rounds)], stdout=subprocess.PIPE, check=True, text=True)
+    ran = subprocess.run([program, kind, str(size), str(rounds)], stdout=subprocess.PIPE, check=True, text=True)
     after = resource.getrusage(resource.RUSAGE_CHILDREN)
-    if int(run.stdout) != frames // 8 * rounds:
-        sys.exit(f"{kind} in {frames} frames, {rounds} rounds: {run.stdout.strip()}")
-    return after.ru_utime + after.ru_stime - before.ru_utime - before.ru_stime
+    return after.ru_utime + after.ru_stime - before.ru_utime - before.ru_stime, int(ran.stdout)
 
 
-def least_seconds(program, frames):
-    """The least processor time of each kind in some tries, which go through the kinds in turns."""
+def microseconds(program, kinds, size, rounds, tries):
+    """The microseconds of a call of each kind, by the least times in some tries, which go through the kinds in turns."""
     least = {}
-    for _ in range(TRIES[frames]):
-        for kind in ("build", "leaf", "join", "steal", "result", "roster", "depart"):
-            least[kind] = min(least.get(kind, float("inf")), run_seconds(program, kind, frames))
-    return least
+    for _ in range(tries):
+        for kind in dict.fromkeys(name for called, before, _ in kinds for name in (before, called)):
+            least[kind] = min(least.get(kind, (float("inf"), 0)), run(program, kind, size, rounds))
+    return [(least[kind][0] - least[before][0]) / least[kind][1] * 1e6 for kind, before, _ in kinds]
+
+
+def table(program, kinds, sizes, of_what):
+    columns = [microseconds(program, kinds, size, *often) for size, often in sizes.items()]
+    print(f"{of_what:32}" + "".join(f"{size:>10,}" for size in sizes))
+    for (_, _, name), cells in zip(kinds, zip(*columns)):
+        print(f"{name:32}" + "".join(f"{cell:10.2f}" for cell in cells))
 
 
 def main():
     program = sys.argv[1]
-    least = {frames: least_seconds(program, frames) for frames in FRAMES}
-    print(f"{os.cpu_count()} processors; microseconds a call, by the frames of the subcomputation")
-    print(f"{'':32}" + "".join(f"{frames:>10,}" for frames in FRAMES))
-    for kind, before, name in KINDS:
-        calls = {frames: frames // 8 * ROUNDS[frames] for frames in FRAMES}
-        cells = [(least[n][kind] - least[n][before]) / calls[n] * 1e6 for n in FRAMES]
-        print(f"{name:32}" + "".join(f"{cell:10.2f}" for cell in cells))
+    print(f"{os.cpu_count()} processors; microseconds a call")
+    if sys.argv[2:] != ["records"]:
+        table(program, FRAME_KINDS, FRAMES, "frames")
+    table(program, RECORD_KINDS, RECORDS, "records, by four times the members")
 
 
 main()

@@ -67,14 +67,16 @@ answered job n m r posts after is name state subs replies short = record {
   leaving = same_leaving job n m name state subs is.leaving;
   short = rw replies (all_put name_of_reply (λ x. IsTrue (is_short x.packet.body)) r n.replies short is.short);
   fits = λ g s there. is.fits g s (rw subs at there);
+  rising = rw state is.rising;
 }
 
 -- nothing that is held changes, and no answer
-pub kept : (job : JobOf) (n m : NodeOf) (posts after : List Post) → IsNode (on job n posts) → CanLeave job m m.state → m.subs ≡ n.subs → m.replies ≡ n.replies → IsNode (on job m after)
-kept job n m posts after is leaving subs replies = record {
+pub kept : (job : JobOf) (n m : NodeOf) (posts after : List Post) → IsNode (on job n posts) → CanLeave job m m.state → m.state ≡ n.state → m.subs ≡ n.subs → m.replies ≡ n.replies → IsNode (on job m after)
+kept job n m posts after is leaving state subs replies = record {
   leaving = leaving;
   short = rw replies is.short;
   fits = λ g s there. is.fits g s (rw subs at there);
+  rising = rw state is.rising;
 }
 
 -- a subcomputation comes to a member, or changes there
@@ -83,6 +85,7 @@ held job n m s posts after is member state subs replies fits = record {
   leaving = member_leaving job n m state member;
   short = rw replies is.short;
   fits = λ g t there. found_after (λ k u. Fits job.program u.content) s n.subs fits is.fits g t (rw subs at there);
+  rising = rw state is.rising;
 }
 
 pub given : (job : JobOf) (n m : NodeOf) (s : SubOf) (r : Reply) (posts after : List Post) → IsNode (on job n posts) → IsMember n.state → m.state ≡ n.state → m.subs ≡ put_sub s n.subs → m.replies ≡ put_reply r n.replies → Fits job.program s.content → IsTrue (is_short r.packet.body) → IsNode (on job m after)
@@ -90,6 +93,7 @@ given job n m s r posts after is member state subs replies fits short = record {
   leaving = member_leaving job n m state member;
   short = rw replies (all_put name_of_reply (λ x. IsTrue (is_short x.packet.body)) r n.replies short is.short);
   fits = λ g t there. found_after (λ k u. Fits job.program u.content) s n.subs fits is.fits g t (rw subs at there);
+  rising = rw state is.rising;
 }
 
 -- what an Offer handed on comes to a member, unless a recovery dropped it
@@ -98,7 +102,7 @@ FitsIf p None = Unit {0}
 FitsIf p (Some s) = Fits p s.content
 
 pub came : (job : JobOf) (n m : NodeOf) (o : Option SubOf) (posts after : List Post) → IsNode (on job n posts) → IsMember n.state → m.state ≡ n.state → m.subs ≡ put_some o n.subs → m.replies ≡ n.replies → FitsIf job.program o → IsNode (on job m after)
-came job n m None posts after is member state subs replies fits = kept job n m posts after is (member_leaving job n m state member) subs replies
+came job n m None posts after is member state subs replies fits = kept job n m posts after is (member_leaving job n m state member) state subs replies
 came job n m (Some s) posts after is member state subs replies fits = held job n m s posts after is member state subs replies fits
 
 -- a subcomputation goes
@@ -117,6 +121,7 @@ gone job n m g posts after is name state subs replies = record {
   leaving = rw state (less_at job n m g n.state name subs is.leaving);
   short = rw replies is.short;
   fits = λ h s there. is.fits h s (left_there g h s n.subs (rw subs at there));
+  rising = rw state is.rising;
 }
 
 -- the answer that a thief had is short

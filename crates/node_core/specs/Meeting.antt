@@ -2,6 +2,8 @@
 use Rattle.std.specs.Prelude.{◌≡◌, ℕ, ◌+◌, ◌++◌, true, false, List, [], ◌∷◌, nat_eq, map, Some, Result, Ok, Err, IsTrue}
 use Rattle.std.specs.List.{AllByRecursion}
 use Rattle.ids.specs.Names.{Grant}
+use Rattle.ids.specs.Naming.{name_of_member}
+use Rattle.ids.specs.Ordered.{AreInOrder}
 use Rattle.codec.specs.Table.{PacketOf, is_short, packet as spelling}
 use Rattle.codec.specs.declared.body.Body.TheVariants as body
 use Rattle.codec.specs.declared.body.Roster.{Roster}
@@ -89,12 +91,20 @@ CanLeave job n (Member r) = Unit {0}
 CanLeave job n (Leaving r heir) = CanOffer (Moves.move_to job heir n) n.subs
 CanLeave job n Ended = Unit {0}
 
+-- the members of the roster that a node has stand by rising incarnation
+abbrev pub RosterRises : State → Type 0
+RosterRises Joining = Unit {0}
+RosterRises (Member r) = AreInOrder name_of_member r.members
+RosterRises (Leaving r heir) = AreInOrder name_of_member r.members
+RosterRises Ended = Unit {0}
+
 -- what holds of a node between its calls: where it leaves it can offer what it holds, its last answers are Grants and Refuses,
--- which are never too big, and what it holds fits the program
+-- which are never too big, what it holds fits the program, and its roster's members stand in order
 pub record IsNode (n : NodeOn) : Type 0 where
   pub leaving : CanLeave n.job n.node n.node.state
   pub short : AllByRecursion (λ r. IsTrue (is_short r.packet.body)) n.node.replies
   pub fits : (g : Grant) (s : SubOf) → sub_in g n.node.subs ≡ Some s → Fits n.job.program s.content
+  pub rising : RosterRises n.node.state
 
 -- a change of a subcomputation, as a step of the node
 abbrev pub changes_of : JobOf → Changed → NodeOf → StepOf

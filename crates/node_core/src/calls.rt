@@ -1,6 +1,8 @@
 //! A node's own calls.
 ghost use Rattle.std.specs.Prelude.{◌≡◌, ◌+◌, ◌++◌, ◌^◌, nat_lt, if◌then◌else◌, Some, None, OnOk, IfOk, IfErr, IsErrOf};
 ghost use Rattle.std.specs.List.{flat_map};
+ghost use Rattle.ids.specs.Naming.{name_of_member};
+ghost use Rattle.ids.specs.Ordered.{AreInOrder};
 ghost use Rattle.node_core.specs.Calls as calls;
 ghost use Rattle.node_core.specs.Moves as moves;
 ghost use Rattle.node_state.specs.Node.{NodeOf};
@@ -28,6 +30,7 @@ impl<'a> Node<'a> {
         ensures answer { Meets (calls.ask self.old.job victim self.old.node) result self.old self.new }
         ensures starved { IsErrOf result Memory → MayStarve (calls.ask self.old.job victim self.old.node) }
     {
+        self.roster_rises();
         let roster = match self.parts.state() {
             State::Member(roster) => roster,
             State::Leaving(roster, _) => {
@@ -157,6 +160,7 @@ impl<'a> Node<'a> {
 /// Whom a request to a victim goes to; none where it may not be asked: a worker may that is another one and is shown live, and the
 /// clearinghouse always.
 fn address_of(roster: &Roster, own: Incarnation, victim: Victim) -> Option<Actor>
+    requires { AreInOrder name_of_member roster.now.members }
     ensures { (n : NodeOf) → n.incarnation ≡ own → result ≡ (if calls.may_ask roster.now n victim then Some (calls.address_of roster.now victim) else None) }
 {
     match victim {

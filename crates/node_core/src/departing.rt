@@ -2,6 +2,8 @@
 ghost use Rattle.std.specs.Prelude.{◌≡◌, ◌++◌, Ok, Some, None, [], ◌∷◌, IfOk, IfErr, IsErrOf, IsTrue, OnOk, not, nat_eq, true, false, map, is_some, ◌&&◌, ◌+◌, if◌then◌else◌};
 ghost use Rattle.std.specs.List.{list_any};
 ghost use Rattle.ids.specs.Members.{is_live};
+ghost use Rattle.ids.specs.Naming.{name_of_member};
+ghost use Rattle.ids.specs.Ordered.{AreInOrder};
 ghost use Rattle.codec.specs.Table.{is_short};
 ghost use Rattle.codec.specs.declared.body.Body.TheVariants as body;
 ghost use Rattle.codec.specs.declared.body.Roster as declared;
@@ -23,7 +25,7 @@ use crate::rosters::{News, news_of, says_live, status_of};
 use crate::sending::{alone, ignored, quiet, send, send_on, sends};
 use codec::{Beat, Body, Grant, Leave, Offer, OfferAck, Packet, Roster, Steal};
 use departure::{FreezeError, Move};
-use ids::{Actor, Epoch, GrantId, Incarnation, Listed, Named, Store};
+use ids::{Actor, GrantId, Incarnation, Listed, Named, Store};
 use node_state::{Confirmed, State};
 use std::alloc::{AllocError, Global};
 use std::marker::Model;
@@ -61,6 +63,7 @@ impl<'a> Node<'a> {
         let State::Member(roster) = self.parts.state() else {
             return Err(FreezeError::Memory);
         };
+        self.roster_rises();
         let is_pending = self.parts.asker().pending().is_some();
         let step = self.move_to(heir);
         self.all_fit();
@@ -71,18 +74,10 @@ impl<'a> Node<'a> {
             roster.members.as_slice(),
             self.parts.held(),
         )?;
-        if self.is_done(roster) {
-            let leave = Leave {
-                from: self.parts.incarnation(),
-                heir,
-            };
-            let packet = Packet::leave(self.job.number(), roster.epoch, leave);
-            match send(alloc, &mut sent, &packet) {
-                Ok(()) => {}
-                Err(AllocError) => return Err(FreezeError::Memory),
-            }
+        match self.send_leave(alloc, &mut sent, roster, heir) {
+            Ok(()) => Ok(sent),
+            Err(AllocError) => Err(FreezeError::Memory),
         }
-        Ok(sent)
     }
 
     /// The node's move to its heir.
@@ -111,7 +106,8 @@ impl<'a> Node<'a> {
         alloc: Global,
         roster: Roster,
     ) -> Result<Step, NodeError>
-        requires { IsLeaving self.old.node.state }
+        requires leaving { IsLeaving self.old.node.state }
+        requires rising { AreInOrder name_of_member roster.members }
         ensures { Meets (cases.on_body self.old.job (own_choice self.old.posts) (body.Roster roster) self.old.node) result self.old self.new }
     {
         let State::Leaving(kept, heir) = self.parts.state() else {
@@ -145,6 +141,7 @@ impl<'a> Node<'a> {
         let State::Leaving(roster, _) = self.parts.state() else {
             return Ok(ignored(alloc));
         };
+        self.roster_rises();
         if !says_live(status_of(roster.members.as_slice(), Actor::worker(steal.from))) {
             return Ok(ignored(alloc));
         }
@@ -194,9 +191,10 @@ impl<'a> Node<'a> {
             return Ok(ignored(alloc));
         };
         let heir = *heir;
+        self.roster_rises();
         let is_released = self.is_released(heir, &ack);
         let is_confirmed = self.is_confirmed_by(roster, &ack);
-        let sent = self.leave_packet(alloc, roster.epoch, heir)?;
+        let sent = alone(alloc, &self.leave(roster, heir))?;
         if is_released {
             self.parts.remove(ack.grant);
             return Ok(self.left_behind(alloc, sent));
@@ -211,21 +209,16 @@ impl<'a> Node<'a> {
         Ok(ignored(alloc))
     }
 
-    /// The Leave of a leaving node.
-    fn leave_packet(
-        &self,
-        alloc: Global,
-        epoch: Epoch,
-        heir: Incarnation,
-    ) -> Result<Listed<Listed<u8>>, AllocError>
+    /// The Leave to an heir, by a roster.
+    fn leave(&self, roster: &Roster, heir: Incarnation) -> Packet
         requires { nat_eq heir self.now.node.incarnation ≡ false }
-        ensures { IfOk result (λ sent. (r : declared.Roster) → r.epoch ≡ epoch → sent ≡ spelled (moves.leave self.now.job self.now.node.incarnation r heir ∷ [])) }
+        ensures { result ≡ moves.leave self.now.job self.now.node.incarnation roster.now heir }
     {
         let leave = Leave {
             from: self.parts.incarnation(),
             heir,
         };
-        alone(alloc, &Packet::leave(self.job.number(), epoch, leave))
+        Packet::leave(self.job.number(), roster.epoch, leave)
     }
 
     /// A leaving node sends its Leave if nothing is held and nobody awaited any more.
@@ -236,6 +229,7 @@ impl<'a> Node<'a> {
         let State::Leaving(roster, _) = self.parts.state() else {
             return quiet(alloc);
         };
+        self.roster_rises();
         if self.is_done(roster) {
             sends(alloc, leave)
         } else {
@@ -260,6 +254,7 @@ impl<'a> Node<'a> {
             .move_to(heir)
             .offers(alloc, self.job.checked(), self.parts.held())?;
         send_on(&mut sent, offers)?;
+        self.roster_rises();
         let awaited = self.awaited_grants(alloc, roster)?;
         send_grants(alloc, &mut sent, &awaited)?;
         self.send_leave(alloc, &mut sent, roster, heir)?;
@@ -285,25 +280,19 @@ impl<'a> Node<'a> {
         roster: &Roster,
         heir: Incarnation,
     ) -> Result<(), AllocError>
-        requires { nat_eq heir self.now.node.incarnation ≡ false }
+        requires other { nat_eq heir self.now.node.incarnation ≡ false }
+        requires rising { AreInOrder name_of_member roster.now.members }
         ensures { OnOk result (sent.new ≡ sent.old ++ spelled (moves.leaves self.now.job roster.now heir self.now.node)) }
     {
         if !self.is_done(roster) {
             return Ok(());
         }
-        let leave = Leave {
-            from: self.parts.incarnation(),
-            heir,
-        };
-        send(
-            alloc,
-            sent,
-            &Packet::leave(self.job.number(), roster.epoch, leave),
-        )
+        send(alloc, sent, &self.leave(roster, heir))
     }
 
     /// Whether nothing is held and nobody awaited.
     fn is_done(&self, roster: &Roster) -> bool
+        requires { AreInOrder name_of_member roster.now.members }
         ensures { result ≡ moves.is_done roster.now self.now.node }
     {
         self.parts.held().len() == 0 && !self.awaits_some(roster)
@@ -311,6 +300,7 @@ impl<'a> Node<'a> {
 
     /// Whether a thief is awaited.
     fn awaits_some(&self, roster: &Roster) -> bool
+        requires { AreInOrder name_of_member roster.now.members }
         ensures { result ≡ not (moves.is_empty (moves.awaited roster.now self.now.node)) }
     {
         for reply in self.parts.replies().values() {
@@ -323,6 +313,7 @@ impl<'a> Node<'a> {
 
     /// Whether the thief of an answer is awaited.
     fn is_awaited(&self, roster: &Roster, reply: &Reply) -> bool
+        requires { AreInOrder name_of_member roster.now.members }
         ensures { result ≡ moves.is_awaited roster.now self.now.node.confirmed reply.now }
     {
         match given_by(reply.packet.body()) {
@@ -336,6 +327,7 @@ impl<'a> Node<'a> {
 
     /// Whether an awaited thief says with an OfferAck of hop 0 that it has its grant.
     fn is_confirmed_by(&self, roster: &Roster, ack: &OfferAck) -> bool
+        requires { AreInOrder name_of_member roster.now.members }
         ensures { result ≡ (nat_eq ack.now.hop 0 && list_any (cases.confirms ack.now) (moves.awaited roster.now self.now.node)) }
     {
         if ack.hop.count() != 0 {
@@ -368,6 +360,7 @@ impl<'a> Node<'a> {
         alloc: Global,
         roster: &Roster,
     ) -> Result<Store<Given<'b>>, AllocError>
+        requires { AreInOrder name_of_member roster.now.members }
         ensures { IfOk result (λ given. given ≡ moves.with_given (moves.all_given (moves.awaited roster.now self.now.node)) []) }
     {
         let mut given = Store::new(alloc);
@@ -394,6 +387,8 @@ struct Given<'a> {
 
 impl<'a> Model for Given<'a> {
     ghost use Rattle.std.specs.Prelude.{IsTrue};
+    ghost use Rattle.ids.specs.Naming.{name_of_member};
+    ghost use Rattle.ids.specs.Ordered.{AreInOrder};
     ghost use Rattle.codec.specs.Table.{is_short};
     ghost use Rattle.node_core.specs.Moves as moves;
 

@@ -36,6 +36,7 @@ impl<'a> Node<'a> {
         let State::Member(roster) = self.parts.state() else {
             return Ok(ignored(alloc));
         };
+        self.roster_rises();
         if !says_live(status_of(roster.members.as_slice(), Actor::worker(steal.from))) {
             return Ok(ignored(alloc));
         }

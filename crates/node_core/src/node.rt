@@ -1,6 +1,10 @@
 ghost use Rattle.std.specs.Prelude.{◌≡◌, Some, None, OnOk, IfOk, IfErr, option_copied, IsTrue, true, false, [], ◌∷◌, nat_eq, ◌&&◌};
 ghost use Rattle.ids.specs.Members.{status_in, is_live};
+ghost use Rattle.ids.specs.Naming.{name_of_member};
+ghost use Rattle.ids.specs.Ordered.{AreInOrder};
 ghost use Rattle.codec.specs.Table.{fits_body};
+ghost use Rattle.codec.specs.declared.body.Roster as declared;
+ghost use Rattle.node_state.specs.declared.parts.State.TheVariants.{Member, Leaving};
 ghost use Rattle.serial_meaning.specs.Job.{meaning_of};
 ghost use Rattle.steal_protocol.specs.declared.asker.Request as asking;
 ghost use Rattle.node_core.specs.Calls as calls;
@@ -123,6 +127,7 @@ impl<'a> Node<'a> {
         requires { IsTrue (fits_body body) }
         ensures { Meets (cases.on_body self.old.job (own_choice self.old.posts) body self.old.node) result self.old self.new }
     {
+        codec::rosters_rise();
         on_case! { self, alloc, body;
             Join: ignored, ignored, ignored, ignored;
             Roster: joining_roster, member_roster, leaving_roster, ignored;
@@ -137,5 +142,13 @@ impl<'a> Node<'a> {
             Abort: ignored, member_abort, ignored, ignored;
             Beat: ignored, ignored, ignored, ignored;
         }
+    }
+
+    /// The members of the roster that a node has stand by rising incarnation. Does nothing.
+    pub(crate) fn roster_rises(&self)
+        ensures member { (r : declared.Roster) → self.now.node.state ≡ Member r → AreInOrder name_of_member r.members }
+        ensures leaving { (r : declared.Roster) (heir : _) → self.now.node.state ≡ Leaving r heir → AreInOrder name_of_member r.members }
+    {
+        let _ = &self.parts;
     }
 }

@@ -1,5 +1,7 @@
 //! Rosters, and the answers to a node's own request.
 ghost use Rattle.std.specs.Prelude.{◌≡◌, Ok};
+ghost use Rattle.ids.specs.Naming.{name_of_member};
+ghost use Rattle.ids.specs.Ordered.{AreInOrder};
 ghost use Rattle.codec.specs.declared.body.Body.TheVariants as body;
 ghost use Rattle.node_state.specs.Parts.{IsMember};
 ghost use Rattle.node_core.specs.Cases as cases;
@@ -29,7 +31,8 @@ impl<'a> Node<'a> {
         alloc: Global,
         roster: Roster,
     ) -> Result<Step, NodeError>
-        requires { self.old.node.state ≡ Joining }
+        requires joining { self.old.node.state ≡ Joining }
+        requires rising { AreInOrder name_of_member roster.members }
         ensures { Meets (cases.joins roster self.old.node) result self.old self.new }
     {
         match status_of(
@@ -52,7 +55,8 @@ impl<'a> Node<'a> {
     /// it; one of a greater epoch, or a newer one that lists it as dead or left, ends it.
     #[tactic(auto, unfolding(crate::specs::Cases::on_body, node_state::specs::Node::by_state))]
     pub(crate) fn member_roster(&mut self, alloc: Global, roster: Roster) -> Result<Step, NodeError>
-        requires { IsMember self.old.node.state }
+        requires member { IsMember self.old.node.state }
+        requires rising { AreInOrder name_of_member roster.members }
         ensures { Meets (cases.on_body self.old.job (own_choice self.old.posts) (body.Roster roster) self.old.node) result self.old self.new }
     {
         let State::Member(kept) = self.parts.state() else {
@@ -71,7 +75,8 @@ impl<'a> Node<'a> {
     /// A newer roster is kept, what is held is recovered by it, and a pending request is forgotten whose victim isn't live any
     /// more.
     fn recover(&mut self, alloc: Global, roster: Roster) -> Result<Step, NodeError>
-        requires { IsMember self.old.node.state }
+        requires member { IsMember self.old.node.state }
+        requires rising { AreInOrder name_of_member roster.members }
         ensures { Meets (Does (recovers_by self.old.job roster self.old.node)) result self.old self.new }
     {
         let victim = self.victim_status(&roster);
@@ -84,6 +89,7 @@ impl<'a> Node<'a> {
 
     /// What a roster says of the victim of the pending request.
     fn victim_status(&self, roster: &Roster) -> Option<Status>
+        requires { AreInOrder name_of_member roster.now.members }
         ensures { result ≡ moves.status_of roster.now.members self.now.node.asker.pending }
     {
         let request = self.parts.asker().pending()?;

@@ -1,24 +1,23 @@
 //! What a roster says of a worker, and whether it is news.
 ghost use Rattle.std.specs.Prelude.{◌≡◌};
 ghost use Rattle.ids.specs.Members.{status_in, says_live};
+ghost use Rattle.ids.specs.Naming.{name_of_member};
+ghost use Rattle.ids.specs.Ordered.{AreInOrder};
 ghost use Rattle.node_state.specs.Node.{NodeOf};
 ghost use Rattle.node_core.specs.Cases.{by_roster};
 ghost use Rattle.node_core.specs.Steps.{Answer};
 ghost use Rattle.node_core.specs.Meeting.{by_news};
 
 use codec::Roster;
-use ids::{Actor, Incarnation, Member, Status};
+use ids::{Actor, Incarnation, Member, Status, item_of};
 
-/// What is said of a worker; none of one that isn't listed.
+/// What is said of a worker by members that stand by rising incarnation; none of one that isn't listed. It is found by halves.
 pub fn status_of(members: &[Member], worker: Actor) -> Option<Status>
+    requires { AreInOrder name_of_member members.now }
     ensures { result ≡ status_in worker members.now }
 {
-    for member in members {
-        if member.incarnation.word() == worker.word() {
-            return Some(member.status);
-        }
-    }
-    None
+    let member = item_of(members, (worker.word(), 0))?;
+    Some(member.status)
 }
 
 /// What a roster is to a node that has one already.
@@ -35,6 +34,7 @@ pub enum News {
 /// Whether a roster is news to a worker that keeps another.
 #[tactic(auto, unfolding(crate::specs::Cases::by_roster, crate::specs::Cases::by_status, steal_protocol::specs::Replies::by_order))]
 pub fn news_of(kept: &Roster, new: &Roster, own: Incarnation) -> News
+    requires { AreInOrder name_of_member new.now.members }
     ensures { (n : NodeOf) (answer : Answer) → n.incarnation ≡ own → by_roster kept.now new.now n answer ≡ by_news result n answer }
 {
     if new.epoch.number() < kept.epoch.number() {

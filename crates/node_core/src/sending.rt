@@ -15,7 +15,7 @@ use sub_rules::Filling;
 use subcomputation::Sub;
 use victim_records::Records;
 
-/// Adds a packet, which is neither a roster nor an offer, to those that are sent.
+/// Adds a packet, which is no offer, to those that are sent.
 pub fn send(alloc: Global, sent: &mut Listed<Listed<u8>>, packet: &Packet) -> Result<(), AllocError>
     requires { IsTrue (is_short packet.now.body) }
     ensures { OnOk result (sent.new ≡ sent.old ++ spelling.write packet.now ∷ []) }

@@ -1,5 +1,5 @@
 -- A node that leaves: what it holds is frozen, so that it has no posts.
-use Rattle.std.proofs.Common.{◌≡◌, ℕ, ◌+◌, Bool, true, false, List, [], ◌∷◌, cond, Option, Some, None, is_some, refl, sym, ap, ◌∙◌, arith}
+use Rattle.std.proofs.Common.{◌≡◌, ℕ, ◌+◌, false, List, [], ◌∷◌, cond, None, is_some, refl, ap, ◌∙◌, arith}
 use Rattle.std.specs.List.{filter}
 use Rattle.std.proofs.lemmas.List.Sums.{sum_by-cons}
 use Rattle.codec.specs.declared.body.Roster.{Roster}
@@ -9,7 +9,7 @@ use Rattle.steal_protocol.specs.Requests.{AskerOf, without_request}
 use Rattle.subcomputation.specs.Subs.{SubOf, sub_in, without_sub}
 use Rattle.node_state.specs.Node.{NodeOf, by_state}
 use Rattle.node_state.specs.Parts.{ArePosts, AsksByState, HoldsByState, IsJoined, IsLeaving, IsMember, is_post_at, is_same_post, times_posted}
-use Rattle.node_state.specs.Posts.{is_ready_post, live_subs, posts_after, ready_at, ready_of_sub}
+use Rattle.node_state.specs.Posts.{is_ready_post, live_subs, ready_of_sub}
 use Rattle.node_state.specs.declared.parts.State.{State}
 use Rattle.node_state.specs.declared.parts.State.TheVariants.{Joining, Member, Leaving, Ended}
 use Rattle.node_state.proofs.Kept.{same_post}

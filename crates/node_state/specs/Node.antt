@@ -1,6 +1,5 @@
 -- What a node holds.
-use Rattle.std.specs.Prelude.{ℕ, ◌&&◌, Bool, nat_eq, List, [], Option, None, Some}
-use Rattle.std.specs.List.{list_any}
+use Rattle.std.specs.Prelude.{ℕ, Bool, false, List, [], Option, None, Some}
 use Rattle.std.specs.Ordering.{eq_by_cmp}
 use Rattle.ids.specs.Named.{Name, item_in, put_in}
 use Rattle.ids.specs.Names.{Grant, grant_cmp}
@@ -16,7 +15,7 @@ use Rattle.node_state.specs.declared.parts.State.{State}
 use Rattle.node_state.specs.declared.parts.State.TheVariants.{Joining, Member, Leaving, Ended}
 
 -- a node: its name, where it stands, its subcomputations by rising grant, its requests, how many grants it has minted, its last
--- answer to each thief, which thieves have said that they have their grants, and which grants it has taken. What it has taken it
+-- answer to each thief, which grant each thief has said last that it has, and which grants it has taken. What it has taken it
 -- remembers as long as it lives
 pub record NodeOf : Type 0 where
   pub incarnation : ℕ
@@ -59,9 +58,20 @@ hop_in g seen = do
 abbrev pub put_seen : Grant → ℕ → List Seen → List Seen
 put_seen g hop seen = put_in name_of_seen (record { grant = g; hop = hop }) seen
 
--- whether a thief has said that it has a grant
+-- what each thief has said last stands under its name
+abbrev pub name_of_confirmed : Confirmed → Name
+name_of_confirmed c = (c.thief, 0)
+
+abbrev pub put_confirmed : Confirmed → List Confirmed → List Confirmed
+put_confirmed c confirmed = put_in name_of_confirmed c confirmed
+
+-- whether a grant is the one that a thief has said last that it has
+abbrev pub is_grant_of : Grant → Option Confirmed → Bool
+is_grant_of g None = false
+is_grant_of g (Some c) = eq_by_cmp grant_cmp c.grant g
+
 abbrev pub is_confirmed : ℕ → Grant → List Confirmed → Bool
-is_confirmed thief g confirmed = list_any (λ c. nat_eq c.thief thief && eq_by_cmp grant_cmp c.grant g) confirmed
+is_confirmed thief g confirmed = is_grant_of g (item_in name_of_confirmed (thief, 0) confirmed)
 
 -- a subcomputation comes to a node, and with which hop it came is remembered
 abbrev pub holding : SubOf → NodeOf → NodeOf

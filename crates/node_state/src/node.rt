@@ -1,11 +1,11 @@
-ghost use Rattle.std.specs.Prelude.{◌≡◌, ◌<◌, ◌+◌, ◌^◌, ℕ, ◌++◌, OnOk, OnErr, IfOk, IfSome, IsSome, None, Some, option_copied, is_some, [], ◌∷◌};
+ghost use Rattle.std.specs.Prelude.{◌≡◌, ◌<◌, ◌+◌, ◌^◌, ℕ, OnOk, OnErr, IfOk, IfSome, IsSome, None, Some, option_copied, is_some, []};
 ghost use Rattle.std.specs.List.{filter};
 ghost use Rattle.ids.specs.declared.member.Status as declared;
 ghost use Rattle.sub_rules.specs.declared.change.Readied as readied;
 ghost use Rattle.subcomputation.specs.Subs.{sub_in, host_in, put_sub, without_sub, ready_frames, grants_of};
 ghost use Rattle.steal_protocol.specs.Requests.{asked, IsAsked, without_request, settled};
 ghost use Rattle.steal_protocol.specs.Replies.{put_reply};
-ghost use Rattle.node_state.specs.Node.{starting, ended, is_confirmed, hop_in, holding, put_seen, name_of_seen};
+ghost use Rattle.node_state.specs.Node.{starting, ended, is_confirmed, hop_in, holding, name_of_confirmed, put_confirmed, put_seen, name_of_seen};
 ghost use Rattle.node_state.specs.Posts.{posted_all, posts_after, ready_of_sub};
 ghost use Rattle.sub_rules.specs.Changes.{readied_in};
 ghost use Rattle.ids.specs.Naming.{name_of_frame, name_of_grant};
@@ -22,7 +22,7 @@ ghost use Rattle.task_syntax.specs.declared.tree.Program.{Program};
 
 use crate::parts::{Confirmed, Seen, State};
 use codec::Roster;
-use ids::{Actor, GrantId, Hop, Incarnation, Listed, Named, Status, Store};
+use ids::{Actor, GrantId, Hop, Incarnation, Named, Status, Store};
 use level_deques::{Post, PostTest, Posts};
 use recovery::Plan;
 use std::alloc::{AllocError, Global};
@@ -48,6 +48,15 @@ impl Named for Seen {
     }
 }
 
+/// A confirmation's name is its thief's.
+impl Named for Confirmed {
+    ghost name_of = { name_of_confirmed };
+
+    fn name(&self) -> (u64, u64) {
+        (self.thief.word(), 0)
+    }
+}
+
 /// The parts of a node, and the posts of its ready frames: each ready frame of a subcomputation that isn't frozen has one
 /// post, of the level of its place, and there are no others. Contracts see the node and its posts.
 #[derive(Drop)]
@@ -59,7 +68,7 @@ pub struct Parts {
     asker: Asker,
     minted: u64,
     replies: Replies,
-    confirmed: Listed<Confirmed>,
+    confirmed: Store<Confirmed>,
     seen: Store<Seen>,
     posts: Posts,
 }
@@ -89,7 +98,7 @@ impl Parts {
             asker: Asker::new(),
             minted: 0,
             replies: Replies::new(alloc),
-            confirmed: Listed::new(alloc),
+            confirmed: Store::new(alloc),
             seen: Store::new(alloc),
             posts: Posts::new(alloc),
         }
@@ -146,12 +155,14 @@ impl Parts {
         let _ = &self.asker;
     }
 
-    /// Whether a thief has said that it has a grant.
+    /// Whether a grant is the one that a thief has said last that it has.
     pub fn is_confirmed(&self, thief: Incarnation, grant: GrantId) -> bool
         ensures { result ≡ is_confirmed thief grant self.now.node.confirmed }
     {
-        self.confirmed.as_slice().iter().any(|confirmed| confirmed.thief == thief
-            && confirmed.grant == grant)
+        let Some(confirmed) = self.confirmed.get((thief.word(), 0)) else {
+            return false;
+        };
+        confirmed.grant == grant
     }
 
     /// All posts stay while no subcomputation changes. Does nothing.
@@ -226,12 +237,12 @@ impl Parts {
         self.state = State::Leaving(roster, heir);
     }
 
-    /// Notes that a thief has its grant; refused for want of memory alone, which changes nothing.
+    /// Notes that a thief has its grant, in the place of the one before; refused for want of memory alone, which changes nothing.
     pub fn confirm(&mut self, confirmed: Confirmed) -> Result<(), AllocError>
-        ensures ok { OnOk result (self.new ≡ with_posts (record self.old.node { confirmed = self.old.node.confirmed ++ confirmed ∷ [] }) [] self.old.posts) }
+        ensures ok { OnOk result (self.new ≡ with_posts (record self.old.node { confirmed = put_confirmed confirmed self.old.node.confirmed }) [] self.old.posts) }
         ensures err { OnErr result (self.new ≡ self.old) }
     {
-        self.confirmed.push(confirmed)?;
+        self.confirmed.put(confirmed)?;
         Ok(())
     }
 
@@ -298,7 +309,7 @@ impl Parts {
         self.subs = Store::new(self.alloc);
         self.asker.clear();
         self.replies = Replies::new(self.alloc);
-        self.confirmed = Listed::new(self.alloc);
+        self.confirmed = Store::new(self.alloc);
         self.seen = Store::new(self.alloc);
         self.posts = Posts::new(self.alloc);
     }

@@ -1,10 +1,10 @@
 //! Packets of others to worker 3, of job 7.
 
 use anyhow::{Context, Result, bail};
-use codec::{Body, Grant, Packet, Roster, Steal, TaskResult, decode, encode};
+use codec::{Body, Grant, OfferAck, Packet, Roster, Steal, TaskResult, decode, encode};
 use ids::{
-    Actor, Address, Count, Epoch, GrantId, Incarnation, Listed, Member, Outcome, Place, Status,
-    Task,
+    Actor, Address, Count, Epoch, GrantId, Hop, Incarnation, Listed, Member, Outcome, Place,
+    Status, Task,
 };
 use std::alloc::Global;
 
@@ -27,49 +27,52 @@ fn packet(alloc: Global, body: Body) -> Result<Vec<u8>> {
     Ok(encode(alloc, &packet)?)
 }
 
-/// The roster by which workers 3 and 4 live.
-pub fn both(alloc: Global) -> Result<Vec<u8>> {
+/// A roster of a version, by which worker 3 lives and others behind it stand as they do.
+fn roster(alloc: Global, version: u64, others: &[Member]) -> Result<Vec<u8>> {
     let mut members = Listed::new(alloc);
     members.push(Member {
         incarnation: worker(3)?,
         status: Status::Live,
     })?;
-    members.push(Member {
-        incarnation: worker(4)?,
-        status: Status::Live,
-    })?;
+    for other in others {
+        members.push(*other)?;
+    }
     let roster = Roster {
         epoch: epoch()?,
-        version: count(1)?,
+        version: count(version)?,
         members,
     };
     packet(alloc, Body::Roster(roster))
 }
 
-/// The roster of the next version, by which worker 4 has left to the next one, that one to the next, and so on over so many more,
-/// of which the last lives.
-pub fn chain(alloc: Global, more: u64) -> Result<Vec<u8>> {
-    let mut members = Listed::new(alloc);
-    members.push(Member {
-        incarnation: worker(3)?,
-        status: Status::Live,
-    })?;
-    for before in 0..more {
+/// The first roster, by which worker 3 and so many others live.
+pub fn live(alloc: Global, others: u64) -> Result<Vec<u8>> {
+    let mut members = Vec::new(alloc);
+    for before in 0..others {
         members.push(Member {
             incarnation: worker(before.wrapping_add(4))?,
-            status: Status::Left(worker(before.wrapping_add(5))?),
+            status: Status::Live,
+        })?;
+    }
+    roster(alloc, 1, &members)
+}
+
+/// The roster that comes after the first one and so many others, by which so many workers, and one more for each roster before,
+/// have left, each to the next one, and the last of these lives.
+pub fn chain(alloc: Global, before: u64, others: u64) -> Result<Vec<u8>> {
+    let mut members = Vec::new(alloc);
+    let last = others.wrapping_add(before).wrapping_add(4);
+    for word in 4..last {
+        members.push(Member {
+            incarnation: worker(word)?,
+            status: Status::Left(worker(word.wrapping_add(1))?),
         })?;
     }
     members.push(Member {
-        incarnation: worker(more.wrapping_add(4))?,
+        incarnation: worker(last)?,
         status: Status::Live,
     })?;
-    let roster = Roster {
-        epoch: epoch()?,
-        version: count(2)?,
-        members,
-    };
-    packet(alloc, Body::Roster(roster))
+    roster(alloc, before.wrapping_add(2), &members)
 }
 
 /// The clearinghouse's grant of the root task on numbers, as the answer to the first request.
@@ -88,10 +91,10 @@ pub fn root_grant(alloc: Global, numbers: &[i64]) -> Result<Vec<u8>> {
     packet(alloc, Body::Grant(body))
 }
 
-/// A request of worker 4, which made so many before.
-pub fn steal(alloc: Global, before: u32) -> Result<Vec<u8>> {
+/// A request of a worker that made so many before.
+pub fn steal(alloc: Global, thief: u64, before: u32) -> Result<Vec<u8>> {
     let steal = Steal {
-        from: worker(4)?,
+        from: worker(thief)?,
         seq: count(u64::from(before) + 1)?,
     };
     packet(alloc, Body::Steal(steal))
@@ -103,6 +106,16 @@ pub fn granted(alloc: Global, bytes: &[u8]) -> Result<GrantId> {
         Body::Grant(given) => Ok(given.grant),
         _ => bail!("a Grant is wanted"),
     }
+}
+
+/// A thief has its grant.
+pub fn confirmation(alloc: Global, thief: u64, grant: GrantId) -> Result<Vec<u8>> {
+    let ack = OfferAck {
+        from: worker(thief)?,
+        grant,
+        hop: Hop::of(0),
+    };
+    packet(alloc, Body::OfferAck(ack))
 }
 
 /// Worker 4 has the value of a grant.

@@ -13,6 +13,7 @@ invariant_of-self-2 c = record {
   leaving = rw (ap (λ (v : PartsOf). v.node.state) c.in_ok-recover.ensures.ok) tt;
   short = rw (ap (λ (v : PartsOf). v.node.replies) c.in_ok-recover.ensures.ok) c.self.invariant.short;
   fits = c.in_ok-recover.ensures.fits c.self.inside.job.now.program c.self.invariant.fits;
+  rising = rw (ap (λ (v : PartsOf). v.node.state) c.in_ok-recover.ensures.ok) c.requires.rising;
 }
 
 pub returns : goal.returns

@@ -1,5 +1,4 @@
-use Rattle.std.proofs.Common.{◌≡◌, None, ap, sym, ◌∙◌}
-use Rattle.codec.specs.declared.body.Roster.{Roster}
+use Rattle.std.proofs.Common.{◌≡◌, None, ap, ◌∙◌}
 use Rattle.node_state.specs.Parts.{PartsOf}
 use Rattle.node_state.specs.declared.parts.State.TheVariants.{Member}
 use Rattle.node_state.proofs.Keeping.{leaving_parts, leaving_view}
