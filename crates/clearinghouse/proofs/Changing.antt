@@ -8,15 +8,7 @@ use Rattle.ids.specs.Keyed.{has_key}
 use Rattle.ids.specs.Named.{Name, name_cmp, item_in, put_in, changed_in, changed_of}
 use Rattle.ids.specs.Ordered.{AreInOrder}
 use Rattle.ids.proofs.KeyedLaws.{found_in}
-use Rattle.ids.proofs.NameOrder.{exact_names, names_total}
-
-equal_to_itself : (n : Name) → name_cmp n n ≡ Equal
-equal_to_itself n = by_order (name_cmp n n) (names_total.antisymm n n)
-  where
-    by_order : (r : Ordering) → r ≡ ordering_reverse r → r ≡ Equal
-    by_order Less h = cc
-    by_order Equal h = refl
-    by_order Greater h = cc
+use Rattle.ids.proofs.NameOrder.{equal_to_itself, exact_names, names_total}
 
 -- names above one that is above another are above that, too
 above : (m n : Name) (ks : List Name) → name_cmp m n ≡ Less → AllByRecursion (λ k. name_cmp n k ≡ Less) ks → AllByRecursion (λ k. name_cmp m k ≡ Less) ks

@@ -1,7 +1,7 @@
 -- What holds of every call: the cases of the table, one by one.
-use Rattle.std.proofs.Common.{◌≡◌, inl, inr, ◌+◌, ◌<◌, ◌≤◌, ◌^◌, ℕ, Bool, true, false, not, ◌||◌, nat_eq, nat_lt, List, [], ◌∷◌, length, map, cond, Option, Some, None, is_some, Ordering, Less, Equal, Greater, refl, sym, ap, ◌∙◌, arith}
+use Rattle.std.proofs.Common.{◌≡◌, inl, inr, ◌+◌, ◌<◌, ◌≤◌, ◌^◌, ℕ, Bool, true, false, not, ◌||◌, nat_eq, nat_lt, List, [], ◌∷◌, length, map, cond, Option, Some, None, is_some, IsTrue, Ordering, Less, Equal, Greater, refl, sym, ap, ◌∙◌, arith}
 use Rattle.std.proofs.lemmas.Bool.{eq-eqb, le-ltb, lt-ltb, ltb-false, ltb-true}
-use Rattle.std.specs.List.{list_any}
+use Rattle.std.specs.List.{AllByRecursion, list_any}
 use Rattle.std.specs.List.Sorted.{IsStrictlySortedBy}
 use Rattle.std.specs.Ordering.{nat_cmp}
 use Rattle.ids.specs.Members.{is_live, resolve, says_live, status_in}
@@ -10,7 +10,7 @@ use Rattle.ids.specs.declared.member.Status.{Status}
 use Rattle.ids.specs.declared.member.Status.TheVariants.{Live, Dead, Left}
 use Rattle.ids.specs.declared.outcome.Outcome.{Outcome}
 use Rattle.ids.specs.declared.work.Task.{Task}
-use Rattle.codec.specs.Table.{PacketOf, is_house}
+use Rattle.codec.specs.Table.{PacketOf, is_house, is_short}
 use Rattle.codec.specs.declared.body.Beat.{Beat}
 use Rattle.codec.specs.declared.body.Body.{Body}
 use Rattle.codec.specs.declared.body.Body.TheVariants as body
@@ -18,7 +18,7 @@ use Rattle.codec.specs.declared.body.Leave.{Leave}
 use Rattle.codec.specs.declared.body.Steal.{Steal}
 use Rattle.codec.specs.declared.body.TaskResult.{TaskResult}
 use Rattle.serial_meaning.specs.Job.{JobOf}
-use Rattle.steal_protocol.specs.Replies.{by_order, by_reply, reply_in}
+use Rattle.steal_protocol.specs.Replies.{by_order, by_reply, name_of_reply, reply_in}
 use Rattle.steal_protocol.specs.declared.replies.Reply.{Reply}
 use Rattle.clearinghouse.specs.Calls.{passes}
 use Rattle.clearinghouse.specs.Cases
@@ -30,6 +30,7 @@ use Rattle.clearinghouse.specs.Steps.{Answer, Refused, Does, StepOf, sends, send
 use Rattle.clearinghouse.specs.declared.error.HouseError.{HouseError}
 use Rattle.clearinghouse.specs.declared.error.HouseError.TheVariants as error
 use Rattle.clearinghouse.specs.declared.parts.RootGrant.{RootGrant}
+use Rattle.clearinghouse.proofs.Changing.{all_put}
 use Rattle.clearinghouse.proofs.Listing.{buried_listing, heard_listing, leaver_gone, leaver_heir, listed_listing, said_listing}
 
 if_holds : {A : Type 0} (P : A → Type 0) (b : Bool) (x y : A) → (b ≡ true → P x) → (b ≡ false → P y) → P (cond b x y)
@@ -56,39 +57,42 @@ reply_holds P (Some reply) seq older again newer p q r = order_holds P (nat_cmp 
 abbrev Lists : (old new : HouseOf) → Type 0
 Lists h new = IsListing h.version h.workers → IsListing new.version new.workers
 
+abbrev AllShort : List Reply → Type 0
+AllShort replies = AllByRecursion (λ r. IsTrue (is_short r.packet.body)) replies
+
 -- a step that commits nothing, and leaves the outcome and the root's grant as they were, or no grant
-same : (h new : HouseOf) (sent : List PacketOf) → kept_of new ≡ kept_of h → new.outcome ≡ h.outcome → (h.root ≡ None → new.root ≡ None) → Lists h new → Keeps h (sends sent new)
-same h new sent kept outcome root listing = record {
-  holds = λ is. record { decided = λ o there. root (is.decided o (sym outcome ∙ there)); listing = listing is.listing };
+same : (h new : HouseOf) (sent : List PacketOf) → (AllShort h.replies → AllShort new.replies) → kept_of new ≡ kept_of h → new.outcome ≡ h.outcome → (h.root ≡ None → new.root ≡ None) → Lists h new → Keeps h (sends sent new)
+same h new sent short kept outcome root listing = record {
+  holds = λ is. record { decided = λ o there. root (is.decided o (sym outcome ∙ there)); listing = listing is.listing; short = short is.short };
   commits = kept;
   outcome = λ is o there. outcome ∙ there;
 }
 
 module _ (job : JobOf) where
   -- the root's grant is settled after a change of the roster, in a house that keeps as much and has the same grant
-  settled_by : (h new : HouseOf) (before : List PacketOf) (r : RootGrant) (holder : Option ℕ) → kept_of new ≡ kept_of h → new.outcome ≡ h.outcome → h.root ≡ Some r → Lists h new → Keeps h (sends_before before (Moves.settles_to job r holder new))
-  settled_by h new before r None kept outcome root listing = same h (record new { root = None }) _ kept outcome (λ none. refl) listing
-  settled_by h new before r (Some holder) kept outcome root listing = same h (record new { root = Some (record r { holder = holder }) }) _ kept outcome (λ none. let wrong : Some r ≡ None = sym root ∙ none in cc) listing
+  settled_by : (h new : HouseOf) (before : List PacketOf) (r : RootGrant) (holder : Option ℕ) → (AllShort h.replies → AllShort new.replies) → kept_of new ≡ kept_of h → new.outcome ≡ h.outcome → h.root ≡ Some r → Lists h new → Keeps h (sends_before before (Moves.settles_to job r holder new))
+  settled_by h new before r None short kept outcome root listing = same h (record new { root = None }) _ short kept outcome (λ none. refl) listing
+  settled_by h new before r (Some holder) short kept outcome root listing = same h (record new { root = Some (record r { holder = holder }) }) _ short kept outcome (λ none. let wrong : Some r ≡ None = sym root ∙ none in cc) listing
 
-  settled_at : (h new : HouseOf) (before : List PacketOf) (root : Option RootGrant) → kept_of new ≡ kept_of h → new.outcome ≡ h.outcome → h.root ≡ root → new.root ≡ root → Lists h new → Keeps h (sends_before before (Moves.settles_root job root new))
-  settled_at h new before None kept outcome root new_root listing = same h new _ kept outcome (λ none. new_root) listing
-  settled_at h new before (Some r) kept outcome root new_root listing = settled_by h new before r (resolve (members_of new) r.holder) kept outcome root listing
+  settled_at : (h new : HouseOf) (before : List PacketOf) (root : Option RootGrant) → (AllShort h.replies → AllShort new.replies) → kept_of new ≡ kept_of h → new.outcome ≡ h.outcome → h.root ≡ root → new.root ≡ root → Lists h new → Keeps h (sends_before before (Moves.settles_root job root new))
+  settled_at h new before None short kept outcome root new_root listing = same h new _ short kept outcome (λ none. new_root) listing
+  settled_at h new before (Some r) short kept outcome root new_root listing = settled_by h new before r (resolve (members_of new) r.holder) short kept outcome root listing
 
   joined : (i : ℕ) (h : HouseOf) → IsSafe h (Cases.joined job i h)
   joined i h =
       status_holds (IsSafe h) (status_in i (members_of h)) _ _ _
-      (λ live. same h _ _ refl refl (λ none. none) (heard_listing i h.now h.version h.workers))
-      (same h _ _ refl refl (λ none. none) (λ listing. listing))
+      (λ live. same h _ _ (λ s. s) refl refl (λ none. none) (heard_listing i h.moment h.version h.workers))
+      (same h _ _ (λ s. s) refl refl (λ none. none) (λ listing. listing))
       (λ new.
       if_holds (IsSafe h) (nat_lt (length h.workers) 4096) _ _
-      (λ room. same h _ _ refl refl (λ none. none) (listed_listing (record { incarnation = i; status = Live; heard = h.now }) h.version h.workers refl new (ltb-true (length h.workers) 4096 room)))
+      (λ room. same h _ _ (λ s. s) refl refl (λ none. none) (listed_listing (record { incarnation = i; status = Live; heard = h.moment }) h.version h.workers refl new (ltb-true (length h.workers) 4096 room)))
       (λ full. ltb-false (length h.workers) 4096 full))
 
   served : (b : Steal) (h : HouseOf) (o : Option Task) → (is_some o ≡ true → h.outcome ≡ None) → IsSafe h (Cases.served job b o h)
-  served b h None unknown = same h _ _ refl refl (λ none. none) (λ listing. listing)
+  served b h None unknown = same h _ _ (λ s. all_put name_of_reply (λ r. IsTrue (is_short r.packet.body)) _ h.replies refl s) refl refl (λ none. none) (λ listing. listing)
   served b h (Some task) unknown =
       if_holds (IsSafe h) (nat_lt (h.minted + 1) (2 ^ 64)) _ _
-      (λ more. record { holds = λ is. record { decided = λ o there. let wrong : Some o ≡ None = sym there ∙ unknown refl in cc; listing = is.listing }; commits = refl; outcome = λ is o there. there })
+      (λ more. record { holds = λ is. record { decided = λ o there. let wrong : Some o ≡ None = sym there ∙ unknown refl in cc; listing = is.listing; short = all_put name_of_reply (λ r. IsTrue (is_short r.packet.body)) _ h.replies refl is.short }; commits = refl; outcome = λ is o there. there })
       (λ spent. inl (ltb-false (h.minted + 1) (2 ^ 64) spent))
 
   free : (h : HouseOf) (root : Option RootGrant) (outcome : Option Outcome) → is_some (cond (is_some root || is_some outcome) None (Moves.root_task job)) ≡ true → outcome ≡ None
@@ -100,7 +104,7 @@ module _ (job : JobOf) where
   stolen b h =
       if_holds (IsSafe h) (is_live b.from (members_of h)) _ _
       (λ live.
-      reply_holds (IsSafe h) (reply_in b.from h.replies) b.seq _ _ _ tt (λ p. same h _ _ refl refl (λ none. none) (λ listing. listing)) (served b h (Cases.free_task job h) (free h h.root h.outcome)))
+      reply_holds (IsSafe h) (reply_in b.from h.replies) b.seq _ _ _ tt (λ p. same h _ _ (λ s. s) refl refl (λ none. none) (λ listing. listing)) (served b h (Cases.free_task job h) (free h h.root h.outcome)))
       (λ gone. tt)
 
   out : (g : Grant) (root : Option RootGrant) → is_root g root ≡ true → root ≡ None → ⊥
@@ -114,10 +118,10 @@ module _ (job : JobOf) where
       ack = Moves.packet job b.from (body.ResultAck (record { grant = b.grant })) ∷ []
 
       by_root : (is : Bool) → is_root b.grant h.root ≡ is → IsSafe h (cond (not is) (Does (sends ack h)) (cond (nat_lt (h.sequence + 1) (2 ^ 64)) (Does (Moves.records b.outcome ack h)) (Refused error.Spent)))
-      by_root false is = same h h ack refl refl (λ none. none) (λ listing. listing)
+      by_root false is = same h h ack (λ s. s) refl refl (λ none. none) (λ listing. listing)
       by_root true is =
           if_holds (IsSafe h) (nat_lt (h.sequence + 1) (2 ^ 64)) _ _
-          (λ more. record { holds = λ before. record { decided = λ o there. refl; listing = before.listing }; commits = (refl, refl, refl); outcome = λ before o there. absurd (out b.grant h.root is (before.decided o there)) })
+          (λ more. record { holds = λ before. record { decided = λ o there. refl; listing = before.listing; short = before.short }; commits = (refl, refl, refl); outcome = λ before o there. absurd (out b.grant h.root is (before.decided o there)) })
           (λ spent. inr (ltb-false (h.sequence + 1) (2 ^ 64) spent))
 
   left : (b : Leave) (h : HouseOf) → IsSafe h (Cases.left job b h)
@@ -125,24 +129,24 @@ module _ (job : JobOf) where
       let new : HouseOf = Moves.says b.from (Moves.leaving_status b.from b.heir (members_of h)) h in
       status_holds (IsSafe h) (status_in b.from (members_of h)) _ _ _
       (λ live.
-      settled_at h new (Moves.roster_for job b.from new ∷ []) h.root refl refl refl refl
+      settled_at h new (Moves.roster_for job b.from new ∷ []) h.root (λ s. s) refl refl refl refl
       (said_listing b.from (Moves.leaving_status b.from b.heir (members_of h)) (leaver_gone b.from (members_of h) b.heir) h.version h.workers (leaver_heir b.from (members_of h) b.heir) live))
-      (same h _ _ refl refl (λ none. none) (λ listing. listing))
+      (same h _ _ (λ s. s) refl refl (λ none. none) (λ listing. listing))
       (λ unlisted. tt)
 
-  answered_beat : (b : Beat) (h new : HouseOf) → kept_of new ≡ kept_of h → new.outcome ≡ h.outcome → new.root ≡ h.root → Lists h new → IsSafe h (Cases.answered_beat job b new)
-  answered_beat b h new kept outcome root listing =
-      if_holds (IsSafe h) (nat_lt b.version new.version) _ _ (λ old. same h new _ kept outcome (λ none. root ∙ none) listing) (λ told. same h new _ kept outcome (λ none. root ∙ none) listing)
+  answered_beat : (b : Beat) (h new : HouseOf) → (AllShort h.replies → AllShort new.replies) → kept_of new ≡ kept_of h → new.outcome ≡ h.outcome → new.root ≡ h.root → Lists h new → IsSafe h (Cases.answered_beat job b new)
+  answered_beat b h new short kept outcome root listing =
+      if_holds (IsSafe h) (nat_lt b.version new.version) _ _ (λ old. same h new _ short kept outcome (λ none. root ∙ none) listing) (λ told. same h new _ short kept outcome (λ none. root ∙ none) listing)
 
   beats : (to : ℕ) (b : Beat) (h : HouseOf) → IsSafe h (Cases.beats job to b h)
   beats to b h =
       if_holds (IsSafe h) (nat_eq to (name_of h)) _ _
       (λ own.
       status_holds (IsSafe h) (status_in b.from (members_of h)) _ _ _
-      (λ live. answered_beat b h (Moves.hears b.from h) refl refl refl (heard_listing b.from h.now h.version h.workers))
-      (answered_beat b h h refl refl refl (λ listing. listing))
+      (λ live. answered_beat b h (Moves.hears b.from h) (λ s. s) refl refl refl (heard_listing b.from h.moment h.version h.workers))
+      (answered_beat b h h (λ s. s) refl refl refl (λ listing. listing))
       (λ unlisted. tt))
-      (λ other. if_holds (IsSafe h) (is_house to) _ _ (λ house. same h _ _ refl refl (λ none. none) (λ listing. listing)) (λ none. tt))
+      (λ other. if_holds (IsSafe h) (is_house to) _ _ (λ house. same h _ _ (λ s. s) refl refl (λ none. none) (λ listing. listing)) (λ none. tt))
 
   own : (to : ℕ) (h : HouseOf) (a : Answer) → IsSafe h a → IsSafe h (Cases.if_own job to h a)
   own to h a is = if_holds (IsSafe h) (nat_eq to (name_of h)) _ _ (λ same. is) (λ other. tt)
@@ -175,13 +179,13 @@ module _ (job : JobOf) where
   pub moment_keeps : (now : ℕ) (h : HouseOf) → Keeps h (passes job now h)
   unfolding passes
   moment_keeps now h =
-      if_holds (Keeps h) (nat_lt h.now now) _ _
+      if_holds (Keeps h) (nat_lt h.moment now) _ _
       (λ later.
       if_holds (Keeps h) (list_any (Moves.is_lost h.limit now) h.workers) _ _
       (λ some.
-      settled_at h (Moves.with_workers (map (Moves.buried h.limit now) h.workers) (record h { now = now })) [] h.root refl refl refl refl (buried_listing h.limit now h.version h.workers some))
-      (λ none. same h _ _ refl refl (λ none. none) (λ listing. listing)))
-      (λ late. same h h _ refl refl (λ none. none) (λ listing. listing))
+      settled_at h (Moves.with_workers (map (Moves.buried h.limit now) h.workers) (record h { moment = now })) [] h.root (λ s. s) refl refl refl refl (buried_listing h.limit now h.version h.workers some))
+      (λ none. same h _ _ (λ s. s) refl refl (λ none. none) (λ listing. listing)))
+      (λ late. same h h _ (λ s. s) refl refl (λ none. none) (λ listing. listing))
 
   pub roster_room : (i : ℕ) (h : HouseOf) → status_in i (members_of h) ≡ None → length h.workers < 4096 → on_packet job (join job i) h ≡ Does (Moves.tells job i (Moves.lists i h))
   unfolding on_packet on_body by_status
@@ -197,13 +201,13 @@ module _ (job : JobOf) where
       (ap (λ o. by_status o (Does (Moves.tells job i (Moves.hears i h))) (Does (Moves.tells job i h)) (Cases.new_joined job i h)) none
       ∙ rw (le-ltb (length h.workers) 4096 full) refl)
 
-  pub moment_late : (now : ℕ) (h : HouseOf) → now ≤ h.now → passes job now h ≡ sends [] h
+  pub moment_late : (now : ℕ) (h : HouseOf) → now ≤ h.moment → passes job now h ≡ sends [] h
   unfolding passes
-  moment_late now h late = rw (le-ltb h.now now late) refl
+  moment_late now h late = rw (le-ltb h.moment now late) refl
 
 pub opened_house : (limit : ℕ) (k : Kept) → IsHouse (opened limit k)
 unfolding IsStrictlySortedBy
-opened_house limit k = record { decided = λ o there. refl; listing = record { few = omega arith; rising = tt; heirs = tt; counted = omega arith } }
+opened_house limit k = record { decided = λ o there. refl; listing = record { few = omega arith; rising = tt; heirs = tt; counted = omega arith }; short = tt }
 
 pub few_versions : (h : HouseOf) → IsHouse h → h.version < 2 ^ 64
 few_versions h is = omega (arith, is.listing.counted, is.listing.few)

@@ -56,14 +56,14 @@ module _ (job : JobOf) where
   -- a moment comes: members that were silent for too long are dead, and then the root's grant is settled
   abbrev pub buries : ℕ → HouseOf → StepOf
   buries now h =
-      let new : HouseOf = record h { now = now } in
+      let new : HouseOf = record h { moment = now } in
       if list_any (Moves.is_lost h.limit now) h.workers
       then Moves.settles job (Moves.with_workers (map (Moves.buried h.limit now) h.workers) new)
       else sends [] new
 
   -- one that is no later than the last changes nothing
   unfoldable pub passes : ℕ → HouseOf → StepOf
-  passes now h = if nat_lt h.now now then buries now h else sends [] h
+  passes now h = if nat_lt h.moment now then buries now h else sends [] h
 
   abbrev pub tick : ℕ → State → Answer
   tick now state = if_open state (λ h. Does (passes now h))

@@ -1,6 +1,8 @@
 -- The numbers of errors.
 use Rattle.std.specs.Prelude.{ℕ}
 use Rattle.packet_fields.specs.Faults.{number_of_fault}
+use Rattle.checkpoint.specs.declared.record.StoreError.{StoreError}
+use Rattle.checkpoint.specs.declared.record.StoreError.TheVariants as store
 use Rattle.clearinghouse.specs.declared.error.HouseError.{HouseError}
 use Rattle.clearinghouse.specs.declared.error.HouseError.TheVariants.{Bytes, Spent, JobMismatch, Damaged, Device, Version, RosterFull, Memory}
 use Rattle.clearinghouse.specs.declared.parts.Stop.{Stop}
@@ -20,3 +22,11 @@ number_of_error Memory = 9
 abbrev pub error_of_stop : Stop → HouseError
 error_of_stop by.Device = Device
 error_of_stop by.Memory = Memory
+
+-- what a checkpoint's store refuses
+abbrev pub error_of_store : StoreError → HouseError
+error_of_store store.Spent = Spent
+error_of_store store.JobMismatch = JobMismatch
+error_of_store store.Damaged = Damaged
+error_of_store store.Device = Device
+error_of_store store.Version = Version

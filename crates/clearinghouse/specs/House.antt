@@ -24,7 +24,7 @@ pub record HouseOf : Type 0 where
   pub epoch : ℕ
   pub version : ℕ
   pub workers : List Enlisted
-  pub now : ℕ
+  pub moment : ℕ
   pub limit : ℕ
   pub root : Option RootGrant
   pub minted : ℕ
@@ -47,7 +47,7 @@ opened limit k = record {
   epoch = k.epoch;
   version = 1;
   workers = [];
-  now = 0;
+  moment = 0;
   limit = limit;
   root = None;
   minted = 0;

@@ -1,12 +1,11 @@
 -- What holds of every call.
-use Rattle.std.specs.Prelude.{◌≡◌, ◌⊎◌, ◌+◌, ◌*◌, ◌≤◌, ◌^◌, ℕ, Bool, true, not, nat_eq, if◌then◌else◌, IsTrue, List, [], ◌∷◌, length, Option, None, Some}
+use Rattle.std.specs.Prelude.{◌≡◌, ◌⊎◌, ◌+◌, ◌*◌, ◌≤◌, ◌^◌, ℕ, Bool, if◌then◌else◌, IsTrue, List, [], ◌∷◌, length, Option, None, Some}
 use Rattle.std.specs.List.{AllByRecursion}
 use Rattle.ids.specs.Members.{says_live}
 use Rattle.ids.specs.Ordered.{AreInOrder}
-use Rattle.ids.specs.declared.member.Status.{Status}
-use Rattle.ids.specs.declared.member.Status.TheVariants.{Live, Dead, Left}
 use Rattle.ids.specs.declared.outcome.Outcome.{Outcome}
-use Rattle.codec.specs.Table.{PacketOf}
+use Rattle.codec.specs.Rosters.{has_another}
+use Rattle.codec.specs.Table.{PacketOf, is_short}
 use Rattle.codec.specs.declared.body.Body.TheVariants as body
 use Rattle.serial_meaning.specs.Job.{JobOf}
 use Rattle.clearinghouse.specs.House.{HouseOf, Kept, kept_of, name_of_enlisted}
@@ -28,12 +27,6 @@ abbrev pub living : List Enlisted → ℕ
 living [] = 0
 living (w ∷ ws) = one_if (says_live (Some w.status)) + living ws
 
--- whether a worker isn't its own heir
-abbrev pub has_another : ℕ → Status → Bool
-has_another i Live = true
-has_another i Dead = true
-has_another i (Left heir) = not (nat_eq heir i)
-
 -- what holds of a roster: at most 4,096 workers are listed, by rising incarnation, each once; nobody is its own heir; and there
 -- are no more versions than came with a new worker or a live one that went
 pub record IsListing (version : ℕ) (workers : List Enlisted) : Type 0 where
@@ -42,11 +35,12 @@ pub record IsListing (version : ℕ) (workers : List Enlisted) : Type 0 where
   pub heirs : AllByRecursion (λ w. IsTrue (has_another w.incarnation w.status)) workers
   pub counted : version + living workers ≤ 1 + 2 * length workers
 
--- what holds of an open clearinghouse between its calls: once there is an outcome, the root's grant isn't out; and its roster is
--- one that can be told
+-- what holds of an open clearinghouse between its calls: once there is an outcome, the root's grant isn't out; its roster is one
+-- that can be told; and its last answers are no Offers, which are never too big
 pub record IsHouse (h : HouseOf) : Type 0 where
   pub decided : (o : Outcome) → h.outcome ≡ Some o → h.root ≡ None
   pub listing : IsListing h.version h.workers
+  pub short : AllByRecursion (λ r. IsTrue (is_short r.packet.body)) h.replies
 
 -- what the checkpoint keeps after a step is what the clearinghouse then holds of it: what was committed, which is one more commit
 -- of the same epoch, or, where nothing was, what was kept before

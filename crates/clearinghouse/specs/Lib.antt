@@ -5,3 +5,5 @@ pub mod Moves
 pub mod Cases
 pub mod Calls
 pub mod Laws
+pub mod Meeting
+pub mod Links

@@ -27,7 +27,7 @@ with_workers workers h = record h { version = h.version + 1; workers = workers }
 
 -- a worker is listed as live, and heard now
 abbrev pub lists : ℕ → HouseOf → HouseOf
-lists i h = with_workers (put_in name_of_enlisted (record { incarnation = i; status = Live; heard = h.now }) h.workers) h
+lists i h = with_workers (put_in name_of_enlisted (record { incarnation = i; status = Live; heard = h.moment }) h.workers) h
 
 -- a listed worker is changed
 abbrev pub changed : (Enlisted → Enlisted) → ℕ → List Enlisted → List Enlisted
@@ -35,7 +35,7 @@ changed change i workers = changed_in name_of_enlisted change (i, 0) workers
 
 -- it is heard now
 abbrev pub hears : ℕ → HouseOf → HouseOf
-hears i h = record h { workers = changed (λ w. record w { heard = h.now }) i h.workers }
+hears i h = record h { workers = changed (λ w. record w { heard = h.moment }) i h.workers }
 
 -- something else is said of it
 abbrev pub says : ℕ → Status → HouseOf → HouseOf
@@ -55,7 +55,7 @@ is_lost limit now w = says_live (Some w.status) && nat_lt limit (now - w.heard)
 
 -- those that are lost are dead
 abbrev pub buried : (limit now : ℕ) → Enlisted → Enlisted
-buried limit now w = if is_lost limit now w then record w { status = Dead } else w
+buried limit now w = record w { status = if is_lost limit now w then Dead else w.status }
 
 -- the outcome comes: it is committed, the root's grant isn't out any more, and then packets are sent
 abbrev pub records : Outcome → List PacketOf → HouseOf → StepOf

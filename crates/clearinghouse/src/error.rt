@@ -1,6 +1,8 @@
 ghost use Rattle.std.specs.Prelude.{◌≡◌};
 
+use checkpoint::StoreError;
 use packet_fields::Fault;
+use std::alloc::AllocError;
 use thiserror::Error;
 
 /// Why a call of the clearinghouse is refused. It changes nothing then, but that the clearinghouse is stopped by E72 and E9.
@@ -48,6 +50,35 @@ impl HouseError {
             HouseError::Version => 73,
             HouseError::RosterFull => 80,
             HouseError::Memory => 9,
+        }
+    }
+}
+
+impl From<AllocError> for HouseError {
+    ghost use Rattle.std.specs.Prelude.{◌≡◌};
+    ghost use Rattle.clearinghouse.specs.declared.error.HouseError.TheVariants.{Memory};
+
+    ghost from_gives = { λ _ e. e ≡ Memory };
+
+    fn from(_refused: AllocError) -> HouseError {
+        HouseError::Memory
+    }
+}
+
+/// What a checkpoint's store refuses, under the same number.
+impl From<StoreError> for HouseError {
+    ghost use Rattle.std.specs.Prelude.{◌≡◌};
+    ghost use Rattle.clearinghouse.specs.Errors.{error_of_store};
+
+    ghost from_gives = { λ fault e. e ≡ error_of_store fault };
+
+    fn from(fault: StoreError) -> HouseError {
+        match fault {
+            StoreError::Spent => HouseError::Spent,
+            StoreError::JobMismatch => HouseError::JobMismatch,
+            StoreError::Damaged => HouseError::Damaged,
+            StoreError::Device => HouseError::Device,
+            StoreError::Version => HouseError::Version,
         }
     }
 }

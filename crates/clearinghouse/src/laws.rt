@@ -39,7 +39,7 @@ pub fn full_roster()
 
 /// A moment that is no later than the last one changes nothing.
 pub fn late_moment()
-    ensures { (job : JobOf) (now : ℕ) (h : HouseOf) → now ≤ h.now → passes job now h ≡ sends [] h }
+    ensures { (job : JobOf) (now : ℕ) (h : HouseOf) → now ≤ h.moment → passes job now h ≡ sends [] h }
 {}
 
 /// A stopped clearinghouse refuses each call by what stopped it, and stays so.

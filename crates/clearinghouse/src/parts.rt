@@ -1,6 +1,7 @@
 ghost use Rattle.clearinghouse.specs.House.{name_of_enlisted};
 
-use ids::{GrantId, Incarnation, Named, Status};
+use crate::error::HouseError;
+use ids::{GrantId, Incarnation, Listed, Named, Outcome, Status};
 
 /// A worker of a roster: what is said of it, and the moment at which it was last heard.
 #[derive(Clone, Copy, PartialEq, Eq, Debug)]
@@ -31,4 +32,36 @@ pub struct RootGrant {
 pub enum Stop {
     Device,
     Memory,
+}
+
+impl Stop {
+    ghost use Rattle.std.specs.Prelude.{◌≡◌};
+    ghost use Rattle.clearinghouse.specs.Errors.{error_of_stop};
+
+    /// What a clearinghouse answers that was stopped by it: E72 or E9.
+    pub fn error(self) -> HouseError
+        ensures { result ≡ error_of_stop self }
+    {
+        match self {
+            Stop::Device => HouseError::Device,
+            Stop::Memory => HouseError::Memory,
+        }
+    }
+}
+
+/// What a call of the clearinghouse did: the packets that it sends, as bytes, in their order, and whether it ignored a packet,
+/// which changes nothing.
+#[derive(Drop)]
+pub struct HouseStep {
+    pub sent: Listed<Listed<u8>>,
+    pub ignored: bool,
+}
+
+/// What is to be done by a packet or at a moment: it is ignored; packets are sent; or an outcome is recorded, and then packets are
+/// sent.
+#[derive(Drop)]
+pub enum Act {
+    Ignored,
+    Sends(Listed<Listed<u8>>),
+    Records(Outcome, Listed<Listed<u8>>),
 }

@@ -1,0 +1,176 @@
+-- What a call of the clearinghouse answers, and what it leaves of it and of its checkpoint.
+use Rattle.std.specs.Prelude.{◌≡◌, ◌⊎◌, ◌+◌, ◌<◌, ◌^◌, ◌++◌, ℕ, true, false, List, [], map, Option, None, Some, Result, Ok, Err}
+use Rattle.codec.specs.Table.{PacketOf, packet as spelling}
+use Rattle.disk.specs.Device.{Device}
+use Rattle.disk.specs.File.{bytes_of}
+use Rattle.checkpoint.specs.Calls.{Call, Passed, Stopped as HasStopped}
+use Rattle.checkpoint.specs.Commit.{IsCommit, opening}
+use Rattle.checkpoint.specs.Moments.{KeepsEither}
+use Rattle.checkpoint.specs.Store.{IsRefused, Keeps as KeepsRecord, Opened, Reads}
+use Rattle.checkpoint.specs.declared.record.Record.{Record as Stored}
+use Rattle.checkpoint.specs.declared.record.StoreError.TheVariants as store_error
+use Rattle.ids.specs.declared.outcome.Outcome.{Outcome}
+use Rattle.serial_meaning.specs.Job.{JobOf}
+use Rattle.clearinghouse.specs.Calls.{can_begin, next_epoch}
+use Rattle.clearinghouse.specs.House.{HouseOf, Kept, State, Open, Stopped, kept_of, opened}
+use Rattle.clearinghouse.specs.Laws.{IsHouse}
+use Rattle.clearinghouse.specs.Moves
+use Rattle.clearinghouse.specs.Steps.{Answer, Ignored, Refused, Does}
+use Rattle.clearinghouse.specs.declared.error.HouseError.{HouseError}
+use Rattle.clearinghouse.specs.declared.error.HouseError.TheVariants as error
+use Rattle.clearinghouse.specs.declared.parts.Act.{Act}
+use Rattle.clearinghouse.specs.declared.parts.Act.TheVariants as act
+use Rattle.clearinghouse.specs.declared.parts.HouseStep.{HouseStep}
+use Rattle.clearinghouse.specs.declared.parts.Stop.{Stop}
+use Rattle.clearinghouse.specs.declared.parts.Stop.TheVariants as by
+
+-- packets, as they are sent
+abbrev pub spelled : List PacketOf → List (List ℕ)
+spelled sent = map spelling.write sent
+
+-- of an answer that commits nothing: what is sent, and the clearinghouse after it
+abbrev pub IsSent : Answer → List (List ℕ) → HouseOf → Type 0
+IsSent Ignored sent new = ⊥
+IsSent (Refused e) sent new = ⊥
+IsSent (Does s) sent new = (s.commits ≡ None) × (sent ≡ spelled s.sent) × (new ≡ s.after)
+
+-- of an answer that records an outcome: that one, and what is sent
+abbrev pub IsRecorded : Answer → Outcome → List (List ℕ) → HouseOf → Type 0
+IsRecorded Ignored o sent old = ⊥
+IsRecorded (Refused e) o sent old = ⊥
+IsRecorded (Does s) o sent old = (s ≡ Moves.records o s.sent old) × (sent ≡ spelled s.sent)
+
+-- what is to be done by an answer; what is to be committed isn't done yet. Want of memory may leave a part of it
+abbrev pub Acts : Answer → Result Act HouseError → HouseOf → HouseOf → Type 0
+Acts expected (Ok act.Ignored) old new = (expected ≡ Ignored) × (new ≡ old)
+Acts expected (Ok (act.Sends sent)) old new = IsSent expected sent new
+Acts expected (Ok (act.Records o sent)) old new = IsRecorded expected o sent old × (new ≡ old) × (old.sequence + 1 < 2 ^ 64)
+Acts expected (Err error.Memory) old new = Unit {0}
+Acts expected (Err (error.Bytes fault)) old new = (expected ≡ Refused (error.Bytes fault)) × (new ≡ old)
+Acts expected (Err error.Spent) old new = (expected ≡ Refused error.Spent) × (new ≡ old)
+Acts expected (Err error.JobMismatch) old new = ⊥
+Acts expected (Err error.Damaged) old new = ⊥
+Acts expected (Err error.Device) old new = ⊥
+Acts expected (Err error.Version) old new = ⊥
+Acts expected (Err error.RosterFull) old new = (expected ≡ Refused error.RosterFull) × (new ≡ old)
+
+-- what a checkpoint keeps of a job, as its record
+abbrev pub record_of : JobOf → Kept → Stored
+record_of job k = record { job = job.number; epoch = k.epoch; outcome = k.outcome }
+
+-- the same the other way
+abbrev pub kept_in : ℕ → Stored → Kept
+kept_in sequence r = record { sequence = sequence; epoch = r.epoch; outcome = r.outcome }
+
+-- a clearinghouse of a job: where it stands, and its checkpoint's store
+pub record HouseOn (D : Type 0) : Type 0 where
+  pub job : JobOf
+  pub state : State
+  pub store : Opened D
+
+-- it stands open until something stops it
+abbrev pub state_of : HouseOf → Option Stop → State
+state_of h None = Open h
+state_of h (Some s) = Stopped s
+
+-- what holds between the calls of an open one: what its checkpoint keeps is what it holds
+pub record IsOpen {D : Type 0} (job : JobOf) (store : Opened D) (h : HouseOf) : Type 0 where
+  pub house : IsHouse h
+  pub stored : store ≡ record store { «record» = record_of job (kept_of h); sequence = h.sequence; ended = false }
+
+abbrev pub IsHouseOn : {D : Type 0} → HouseOn D → State → Type 0
+IsHouseOn on (Open h) = IsOpen on.job on.store h
+IsHouseOn on (Stopped s) = Unit {0}
+
+module _ {D : Type 0} (device : D → Device) (planned : D → ℕ → Option (List ℕ)) where
+  abbrev bytes : Opened D → List ℕ
+  bytes store = bytes_of (device store.disk).file
+
+  -- the six calls of a commit were made, and all passed
+  pub record Committed (next : Stored) (old new : Opened D) : Type 0 where
+    pub store : new ≡ record { disk = new.disk; «record» = next; sequence = old.sequence + 1; ended = false }
+    pub calls : (calls : List Call) × IsCommit (bytes old) old.sequence old.record next calls × Passed calls (planned old.disk) (device old.disk) (device new.disk)
+    pub plan : (i : ℕ) → planned new.disk i ≡ planned old.disk (i + 6)
+    -- where whatever a crash leaves has the record before, then it has the new one
+    pub kept : KeepsRecord (device old.disk).file old.sequence old.record → KeepsRecord (device new.disk).file new.sequence new.record
+
+  -- one of them failed, and those before it passed
+  pub record Halted (next : Stored) (old new : Opened D) : Type 0 where
+    pub store : new ≡ record old { disk = new.disk; ended = true }
+    pub calls : (calls : List Call) × IsCommit (bytes old) old.sequence old.record next calls × HasStopped calls (planned old.disk) (device old.disk) (device new.disk)
+    -- where whatever a crash leaves has the record before, then it has that one or the next
+    pub either : KeepsRecord (device old.disk).file old.sequence old.record → KeepsEither (device new.disk).file old.sequence old.record next
+
+  -- what becomes of the checkpoint
+  abbrev pub Stores : Option Kept → (old new : HouseOn D) → Type 0
+  Stores None old new = new.store ≡ old.store
+  Stores (Some k) old new = Committed (record_of old.job k) old.store new.store
+
+  -- what is told of an answer that is no refusal, and what becomes of the clearinghouse
+  abbrev pub Carries : Answer → HouseStep → (old new : HouseOn D) → Type 0
+  Carries Ignored step old new = (step ≡ record { sent = []; ignored = true }) × (new ≡ old)
+  Carries (Refused e) step old new = ⊥
+  Carries (Does s) step old new = (step ≡ record { sent = spelled s.sent; ignored = false }) × (new ≡ record old { state = Open s.after; store = new.store }) × Stores s.commits old new
+
+  -- a commit failed: what was to be done isn't, and nothing is sent
+  abbrev pub FailsToCommit : Option Kept → (old new : HouseOn D) → Type 0
+  FailsToCommit None old new = ⊥
+  FailsToCommit (Some k) old new = (new ≡ record old { state = Stopped by.Device; store = new.store }) × Halted (record_of old.job k) old.store new.store
+
+  abbrev pub Fails : Answer → (old new : HouseOn D) → Type 0
+  Fails Ignored old new = ⊥
+  Fails (Refused e) old new = (e ≡ error.Device) × (new ≡ old)
+  Fails (Does s) old new = FailsToCommit s.commits old new
+
+  -- what is answered is what was to be answered; or a device call of its commit failed, or there was no memory, and then the
+  -- clearinghouse is stopped
+  abbrev pub Meets : Answer → Result HouseStep HouseError → (old new : HouseOn D) → Type 0
+  Meets expected (Ok step) old new = Carries expected step old new
+  Meets expected (Err error.Memory) old new = new ≡ record old { state = Stopped by.Memory }
+  Meets expected (Err error.Device) old new = Fails expected old new
+  Meets expected (Err (error.Bytes fault)) old new = (expected ≡ Refused (error.Bytes fault)) × (new ≡ old)
+  Meets expected (Err error.Spent) old new = (expected ≡ Refused error.Spent) × (new ≡ old)
+  Meets expected (Err error.JobMismatch) old new = ⊥
+  Meets expected (Err error.Damaged) old new = ⊥
+  Meets expected (Err error.Version) old new = ⊥
+  Meets expected (Err error.RosterFull) old new = (expected ≡ Refused error.RosterFull) × (new ≡ old)
+
+  -- a clearinghouse that was opened over a file: its next epoch is committed behind the read
+  pub record IsOpened (job : JobOf) (limit : ℕ) (disk : D) (sequence : ℕ) (r : Stored) (new : HouseOn D) : Type 0 where
+    pub found : Reads (bytes_of (device disk).file) sequence r
+    pub own : r.job ≡ job.number
+    pub house : new ≡ record { job = job; state = Open (opened limit (next_epoch (kept_in sequence r))); store = new.store }
+    pub stored : new.store ≡ record { disk = new.store.disk; «record» = record_of job (next_epoch (kept_in sequence r)); sequence = sequence + 1; ended = false }
+    pub calls : (calls : List Call) × IsCommit (bytes_of (device disk).file) sequence r (record_of job (next_epoch (kept_in sequence r))) calls × Passed (opening ++ calls) (planned disk) (device disk) (device new.store.disk)
+    pub plan : (i : ℕ) → planned new.store.disk i ≡ planned disk (i + 7)
+    pub kept : KeepsRecord (device disk).file sequence r → KeepsRecord (device new.store.disk).file new.store.sequence new.store.record
+
+  -- an epoch or a commit can't be counted any more
+  pub record IsLast (job : JobOf) (disk : D) : Type 0 where
+    pub sequence : ℕ
+    pub found : Stored
+    pub reads : Reads (bytes_of (device disk).file) sequence found
+    pub own : found.job ≡ job.number
+    pub last : can_begin (kept_in sequence found) ≡ false
+
+  -- the read passed, and a call of the commit failed
+  pub record IsHaltedAtOnce (job : JobOf) (disk left : D) : Type 0 where
+    pub sequence : ℕ
+    pub found : Stored
+    pub reads : Reads (bytes_of (device disk).file) sequence found
+    pub own : found.job ≡ job.number
+    pub calls : (calls : List Call) × IsCommit (bytes_of (device disk).file) sequence found (record_of job (next_epoch (kept_in sequence found))) calls × HasStopped (opening ++ calls) (planned disk) (device disk) (device left)
+
+  -- why a clearinghouse isn't opened over a file, and what was done to it
+  abbrev IsRead : (disk left : D) → Type 0
+  IsRead disk left = Passed opening (planned disk) (device disk) (device left)
+
+  abbrev pub IsRefusedOver : HouseError → JobOf → (disk left : D) → Type 0
+  IsRefusedOver (error.Bytes fault) job disk left = ⊥
+  IsRefusedOver error.Spent job disk left = IsLast job disk × IsRead disk left
+  IsRefusedOver error.JobMismatch job disk left = IsRefused store_error.JobMismatch (bytes_of (device disk).file) job.number × IsRead disk left
+  IsRefusedOver error.Damaged job disk left = IsRefused store_error.Damaged (bytes_of (device disk).file) job.number × IsRead disk left
+  IsRefusedOver error.Device job disk left = HasStopped opening (planned disk) (device disk) (device left) ⊎ IsHaltedAtOnce job disk left
+  IsRefusedOver error.Version job disk left = IsRefused store_error.Version (bytes_of (device disk).file) job.number × IsRead disk left
+  IsRefusedOver error.RosterFull job disk left = ⊥
+  IsRefusedOver error.Memory job disk left = ⊥
