@@ -1,0 +1,6 @@
+pub mod Cuts
+pub mod Digits
+pub mod Pairs
+pub mod Lefts
+pub mod Spaced
+pub mod Back

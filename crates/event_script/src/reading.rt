@@ -1,0 +1,219 @@
+ghost use Rattle.std.specs.Prelude.{◌≡◌, ◌≤◌, option_map, IfOk};
+ghost use Rattle.event_script.specs.Lines as defined;
+ghost use Rattle.event_script.specs.Left.{told_event, found_line};
+
+use crate::event::{Asked, Cut, Event, FrameOf, HouseEvent, NodeEvent, NodePlace};
+use crate::numbers::{Hex, number};
+use crate::parts::Parts;
+use std::alloc::{AllocError, Global};
+
+/// An event as a line says it, of which a Cut's bytes have no memory yet.
+#[derive(Drop)]
+pub enum Told<'a> {
+    /// After so many device calls, with these bytes left, an event of the clearinghouse is stopped.
+    Stopped(u64, Hex<'a>, HouseEvent),
+    Whole(Event),
+}
+
+/// What a line is.
+#[derive(Drop)]
+pub enum Found<'a> {
+    Skipped,
+    Says(Told<'a>),
+    Refused,
+}
+
+impl<'a> Told<'a> {
+    /// The event; refused for want of memory alone.
+    pub fn event(self, alloc: Global) -> Result<Event, AllocError>
+        ensures { IfOk result (λ event. event ≡ told_event self.entry) }
+    {
+        match self {
+            Told::Stopped(calls, hex, event) => Ok(Event::Cut(Cut {
+                calls,
+                bytes: hex.listed(alloc)?,
+                event,
+            })),
+            Told::Whole(event) => Ok(event),
+        }
+    }
+}
+
+/// The number that is the only word left.
+fn only_number(mut words: Parts<'_>) -> Option<u64>
+    ensures { result ≡ defined.only_number words.entry }
+{
+    let n = number(words.next()?)?;
+    if words.is_empty() { Some(n) } else { None }
+}
+
+fn frame_of(mut words: Parts<'_>) -> Option<FrameOf>
+    ensures { result ≡ defined.frame_of words.entry }
+{
+    let minter = words.next()?;
+    let grant = words.next()?;
+    let frame = words.next()?;
+    if !words.is_empty() {
+        return None;
+    }
+    Some(FrameOf {
+        minter: number(minter)?,
+        number: number(grant)?,
+        frame: number(frame)?,
+    })
+}
+
+fn asked(word: &[u8]) -> Option<Asked>
+    ensures { result ≡ defined.asked word.now }
+{
+    if word == b"house".as_slice() {
+        Some(Asked::House)
+    } else {
+        Some(Asked::Worker(number(word)?))
+    }
+}
+
+fn ask(mut words: Parts<'_>) -> Option<NodeEvent>
+    ensures { result ≡ defined.ask words.entry }
+{
+    let word = words.next()?;
+    if words.is_empty() {
+        Some(NodeEvent::Ask(asked(word)?))
+    } else {
+        None
+    }
+}
+
+fn house_event(mut words: Parts<'_>) -> Option<HouseEvent>
+    ensures { result ≡ defined.house_event words.entry }
+{
+    let name = words.next()?;
+    if name == b"house-deliver".as_slice() {
+        Some(HouseEvent::Deliver(only_number(words)?))
+    } else if name == b"house-tick".as_slice() {
+        Some(HouseEvent::Tick(only_number(words)?))
+    } else if name == b"house-restart".as_slice() && words.is_empty() {
+        Some(HouseEvent::Restart)
+    } else {
+        None
+    }
+}
+
+fn node_event(name: &[u8], words: Parts<'_>) -> Option<NodeEvent>
+    ensures { result ≡ defined.node_event name.now words.entry }
+{
+    if name == b"deliver".as_slice() {
+        Some(NodeEvent::Deliver(only_number(words)?))
+    } else if name == b"exec".as_slice() {
+        Some(NodeEvent::Exec(frame_of(words)?))
+    } else if name == b"ask".as_slice() {
+        ask(words)
+    } else if name == b"depart".as_slice() {
+        Some(NodeEvent::Depart(only_number(words)?))
+    } else if name == b"resend".as_slice() && words.is_empty() {
+        Some(NodeEvent::Resend)
+    } else {
+        None
+    }
+}
+
+/// A place of a world that has so many.
+fn place(places: u8, word: &[u8]) -> Option<NodePlace>
+    requires { places ≤ 64 }
+    ensures { result ≡ defined.place places word.now }
+{
+    let index = number(word)?;
+    if index < u64::from(places) {
+        NodePlace::of(index)
+    } else {
+        None
+    }
+}
+
+fn at_place(name: &[u8], place: NodePlace, words: Parts<'_>) -> Option<Event>
+    ensures { result ≡ defined.at_place name.now place words.entry }
+{
+    if name == b"start".as_slice() {
+        Some(Event::Start(place, only_number(words)?))
+    } else if name == b"crash".as_slice() {
+        if words.is_empty() {
+            Some(Event::Crash(place))
+        } else {
+            None
+        }
+    } else {
+        Some(Event::AtNode(place, node_event(name, words)?))
+    }
+}
+
+fn placed(places: u8, name: &[u8], mut words: Parts<'_>) -> Option<Event>
+    requires { places ≤ 64 }
+    ensures { result ≡ defined.placed places name.now words.entry }
+{
+    let word = words.next()?;
+    at_place(name, place(places, word)?, words)
+}
+
+/// What a Cut says behind its name.
+fn cut<'a>(mut words: Parts<'a>) -> Option<Told<'a>>
+    ensures { option_map told_event result ≡ defined.cut words.entry }
+{
+    let calls = words.next()?;
+    let hex = words.next()?;
+    Some(Told::Stopped(number(calls)?, Hex::of(hex)?, house_event(words)?))
+}
+
+fn event_of<'a>(places: u8, words: Parts<'a>) -> Option<Told<'a>>
+    requires { places ≤ 64 }
+    ensures { option_map told_event result ≡ defined.event_of places words.entry }
+{
+    let mut behind = words.again();
+    let name = behind.next()?;
+    if name == b"cut".as_slice() {
+        return cut(behind);
+    }
+    if name == b"house-crash".as_slice() {
+        return behind.is_empty().then_some(Told::Whole(Event::HouseCrash));
+    }
+    match house_event(words) {
+        Some(event) => Some(Told::Whole(Event::AtHouse(event))),
+        None => Some(Told::Whole(placed(places, name, behind)?)),
+    }
+}
+
+fn is_ascii(line: &[u8]) -> bool
+    ensures { result ≡ defined.is_ascii line.now }
+{
+    for b in line {
+        if *b >= 128 {
+            return false;
+        }
+    }
+    true
+}
+
+fn is_skipped(line: &[u8]) -> bool
+    ensures { result ≡ defined.is_skipped line.now }
+{
+    match line {
+        [] => true,
+        [first, ..] => *first == b'#',
+    }
+}
+
+/// What a line is, in a world of so many places.
+pub fn read<'a>(places: u8, line: &'a [u8]) -> Found<'a>
+    requires { places ≤ 64 }
+    ensures { found_line result ≡ defined.line_of places line.now }
+{
+    if !is_ascii(line) {
+        return Found::Refused;
+    }
+    if is_skipped(line) {
+        return Found::Skipped;
+    }
+    match event_of(places, Parts::of(b' ', line)) {
+        Some(told) => Found::Says(told),
+        None => Found::Refused,
+    }
+}
