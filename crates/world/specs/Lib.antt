@@ -1,0 +1,9 @@
+pub mod World
+pub mod Answers
+pub mod Nodes
+pub mod Houses
+pub mod Steps
+pub mod Runs
+pub mod Safe
+pub mod Agrees
+pub mod Lost

@@ -1,0 +1,41 @@
+-- Runs: events one after another, and the worlds that they lead to.
+use Rattle.std.specs.Prelude.{◌≡◌, ℕ, List, [], ◌∷◌, Option, Some}
+use Rattle.body_eval.specs.Done.{DoneOf}
+use Rattle.ids.specs.declared.outcome.Outcome.{Outcome}
+use Rattle.disk.specs.Device.{Device, Unarmed}
+use Rattle.checkpoint.specs.Store.{Keeps}
+use Rattle.checkpoint.specs.declared.record.Record.{Record}
+use Rattle.serial_meaning.specs.Job.{JobOf, meaning_of}
+use Rattle.event_script.specs.declared.event.Event.{Event}
+use Rattle.world.specs.Answers.{Answer}
+use Rattle.world.specs.Steps.{Step}
+use Rattle.world.specs.World.{WorldOf}
+
+-- an event with the turn that was evaluated for it, if one was, and its answer
+pub record Entry : Type 0 where
+  pub event : Event
+  pub turn : Option DoneOf
+  pub answer : Answer
+
+-- entries, the first one first, lead from a world through these worlds, one after each
+pub data Runs (job : JobOf) : WorldOf → List Entry → List WorldOf → Type 0 where
+  ends : {w : WorldOf} → Runs job w [] []
+  goes : {w v : WorldOf} {e : Entry} {entries : List Entry} {worlds : List WorldOf}
+      → Step job e.turn e.event w (record { world = v; answer = e.answer })
+      → Runs job v entries worlds
+      → Runs job w (e ∷ entries) (v ∷ worlds)
+
+-- the world after the last entry
+abbrev pub last_of : WorldOf → List WorldOf → WorldOf
+last_of w [] = w
+last_of w (v ∷ worlds) = last_of v worlds
+
+-- a disk on which a run of a job can begin: whatever a crash leaves is a checkpoint of the job, without an outcome or with its
+-- meaning
+pub record CanBegin (job : JobOf) (d : Device) : Type 0 where
+  pub unarmed : d.arming ≡ Unarmed
+  pub sequence : ℕ
+  pub found : Record
+  pub kept : Keeps d.file sequence found
+  pub own : found.job ≡ job.number
+  pub meant : (o : Outcome) → found.outcome ≡ Some o → o ≡ meaning_of job
