@@ -1,6 +1,6 @@
 -- An opening of a clearinghouse over a disk.
-use Rattle.std.proofs.Common.{◌≡◌, ◌≢◌, ◌⊎◌, inl, inr, ◌+◌, ◌-◌, ◌^◌, ℕ, Bool, true, false, ◌&&◌, nat_lt, List, ◌++◌, length, Option, None, Some, Err, refl, sym, ap, ◌∙◌, subst, cond, arith}
-use Rattle.std.proofs.lemmas.Bool.{le-ltb}
+use Rattle.std.proofs.Common.{◌≡◌, ◌≢◌, ◌↔◌, ◌⊎◌, inl, inr, ◌+◌, ◌-◌, ◌<◌, ◌^◌, ℕ, Bool, true, false, ◌&&◌, nat_lt, List, ◌++◌, length, Option, None, Some, Ok, Err, refl, sym, ap, ◌∙◌, subst, cond, arith}
+use Rattle.std.proofs.lemmas.Bool.{le-ltb, lt-ltb}
 use Rattle.std.specs.Prelude.{IsErrOf}
 use Rattle.disk.specs.Device.{Device}
 use Rattle.disk.specs.File.{bytes_of}
@@ -51,6 +51,14 @@ pub refused_alone : (e : StoreError) → IsErr e store_error.Spent ⊎ IsErr e s
 refused_alone e (inl by) = let is : e ≡ store_error.Spent = cc in inr (ap error_of_store is)
 refused_alone e (inr by) = let is : e ≡ store_error.Device = cc in inl (ap error_of_store is)
 
+-- what passed isn't refused
+pub not_refused : {done : Unit {0}} (e : StoreError) → ¬ IsErrOf (Ok done) e
+not_refused e is = cc
+
+-- of the two it is one
+not_both : (e : StoreError) → e ≡ store_error.Device → ¬ IsErr e store_error.Spent
+not_both e device spent = cc
+
 -- no epoch follows
 pub no_epoch : (sequence : ℕ) (r : Stored) → None ≡ cond (nat_lt (r.epoch + 1) (2 ^ 63)) (Some (r.epoch + 1)) None → can_begin (kept_in sequence r) ≡ false
 no_epoch sequence r none = by_test (nat_lt (r.epoch + 1) (2 ^ 63)) none
@@ -77,6 +85,17 @@ no_commit sequence r is = by_test (nat_lt (r.epoch + 1) (2 ^ 63))
     by_test : (b : Bool) → (b && nat_lt (sequence + 1) (2 ^ 64)) ≡ false
     by_test true = spent
     by_test false = refl
+
+-- an epoch and a commit follow
+pub both_left : (sequence next : ℕ) (r : Stored) → Some next ≡ cond (nat_lt (r.epoch + 1) (2 ^ 63)) (Some (r.epoch + 1)) None → sequence < 2 ^ 64 → sequence ≢ 2 ^ 64 - 1 → can_begin (kept_in sequence r) ≡ true
+both_left sequence next r some fits left = by_test (nat_lt (r.epoch + 1) (2 ^ 63)) some
+  where
+    counted : nat_lt (sequence + 1) (2 ^ 64) ≡ true
+    counted = lt-ltb (sequence + 1) (2 ^ 64) (omega arith)
+
+    by_test : (b : Bool) → Some next ≡ cond b (Some (r.epoch + 1)) None → (b && nat_lt (sequence + 1) (2 ^ 64)) ≡ true
+    by_test true e = counted
+    by_test false e = cc
 
 module _ {D : Type 0} (device : D → Device) (planned : D → ℕ → Option (List ℕ)) (job : JobOf) (disk : D) where
   -- a refusal of the store, as it is told
@@ -113,6 +132,10 @@ module _ {D : Type 0} (device : D → Device) (planned : D → ℕ → Option (L
     pub last : can_begin (kept_in s.sequence s.«record») ≡ false → IsLast device planned job disk
     last none = record { sequence = s.sequence; found = s.«record»; reads = reads_it; own = found.own; last = none }
 
+    -- an epoch and a commit are left where the sequence isn't spent
+    pub begins : (next sequence : ℕ) → Some next ≡ cond (nat_lt (s.«record».epoch + 1) (2 ^ 63)) (Some (s.«record».epoch + 1)) None → sequence ≡ s.sequence → sequence < 2 ^ 64 → ¬ IsSpent s → can_begin (kept_in s.sequence s.«record») ≡ true
+    begins next sequence some same_sequence fits left = both_left s.sequence next s.«record» some (subst (λ n. n < 2 ^ 64) same_sequence fits) (λ is. left (found.going, is))
+
     -- what is committed is of the next epoch
     pub next_is : (kept : Stored) (at epoch : ℕ) → kept ≡ s.«record» → at ≡ epoch → epoch ≡ kept.epoch + 1 → next_of s.«record» at kept.outcome ≡ record_of job (next_epoch (kept_in s.sequence s.«record»))
     next_is kept at epoch same_kept same_at next = cc (same_kept, same_at, next, found.own)
@@ -139,10 +162,12 @@ module _ {D : Type 0} (device : D → Device) (planned : D → ℕ → Option (L
           ((calls : List Call) × IsCommit (bytes_of (device s.disk).file) s.sequence s.«record» told calls × Passed calls (planned s.disk) (device s.disk) (device new.disk)) →
           ((i : ℕ) → planned new.disk i ≡ planned s.disk (i + 6)) →
           (Keeps (device s.disk).file s.sequence s.«record» → Keeps (device new.disk).file new.sequence new.«record») →
+          can_begin (kept_in s.sequence s.«record») ≡ true →
           IsOpened device planned job limit disk s.sequence s.«record» (record { job = job; state = Open h; store = new })
-      is_opened limit h is stored made plan kept = record {
+      is_opened limit h is stored made plan kept begun = record {
         found = reads_it;
         own = found.own;
+        begins = begun;
         house = ap (λ x. record { job = job; state = Open x; store = new }) is;
         stored = now_stored stored;
         calls = (made.0, commits made.0 made.1, passed_both opening made.0 (planned disk) (planned s.disk) (device disk) (device s.disk) (device new.disk) found.calls found.plan made.2);
@@ -163,32 +188,35 @@ module _ {D : Type 0} (device : D → Device) (planned : D → ℕ → Option (L
           (last (no_commit s.sequence s.«record» spent.1), subst (λ x. Passed opening (planned disk) (device disk) (device x)) same_disk found.calls)
 
       -- a call of it failed
-      refused_device : (left : D) → left ≡ new.disk →
+      refused_device : (left : D) → left ≡ new.disk → can_begin (kept_in s.sequence s.«record») ≡ true →
           ((calls : List Call) × IsCommit (bytes_of (device s.disk).file) s.sequence s.«record» told calls × HasStopped calls (planned s.disk) (device s.disk) (device new.disk)) →
           IsRefusedOver device planned error.Device job disk left
-      refused_device left same_left stop =
+      refused_device left same_left begun stop =
           let stopped = stop_later opening stop.0 (planned disk) (planned s.disk) (device disk) (device s.disk) (device new.disk) found.calls found.plan stop.2 in
           inr (record {
             sequence = s.sequence;
             found = s.«record»;
             reads = reads_it;
             own = found.own;
+            begins = begun;
             calls = (stop.0, commits stop.0 stop.1, subst (λ x. HasStopped (opening ++ stop.0) (planned disk) (device disk) (device x)) (sym same_left) stopped);
           })
 
       -- why a commit didn't pass
       pub is_refused : (e : StoreError) (left : D) → left ≡ new.disk →
           IsErr e store_error.Spent ⊎ IsErr e store_error.Device →
-          (IsErr e store_error.Spent → IsSpent s) →
+          (IsErr e store_error.Spent ↔ IsSpent s) →
+          (¬ IsSpent s → can_begin (kept_in s.sequence s.«record») ≡ true) →
           (IsErr e store_error.Spent → new ≡ s) →
           (IsErr e store_error.Device → s.ended ≡ false → (calls : List Call) × IsCommit (bytes_of (device s.disk).file) s.sequence s.«record» told calls × HasStopped calls (planned s.disk) (device s.disk) (device new.disk)) →
           IsRefusedOver device planned (error_of_store e) job disk left
-      is_refused e left same_left (inl by) spent unchanged stopped =
+      is_refused e left same_left (inl by) spent left_both unchanged stopped =
           let is : e ≡ store_error.Spent = cc in
-          subst (λ x. IsRefusedOver device planned (error_of_store x) job disk left) (sym is) (refused_spent left same_left (spent by) (unchanged by))
-      is_refused e left same_left (inr by) spent unchanged stopped =
+          subst (λ x. IsRefusedOver device planned (error_of_store x) job disk left) (sym is) (refused_spent left same_left (spent.0 by) (unchanged by))
+      is_refused e left same_left (inr by) spent left_both unchanged stopped =
           let is : e ≡ store_error.Device = cc in
-          subst (λ x. IsRefusedOver device planned (error_of_store x) job disk left) (sym is) (refused_device left same_left (stopped by found.going))
+          let unspent : ¬ IsSpent s = λ is_spent. not_both e is (spent.1 is_spent) in
+          subst (λ x. IsRefusedOver device planned (error_of_store x) job disk left) (sym is) (refused_device left same_left (left_both unspent) (stopped by found.going))
 
     -- what is kept where a commit failed
     pub still_either : (new : Opened D) (told : Stored) (left : D) → told ≡ next → left ≡ new.disk → (Keeps (device s.disk).file s.sequence s.«record» → KeepsEither (device new.disk).file s.sequence s.«record» told) → (n : ℕ) (r : Stored) → Keeps (device disk).file n r → KeepsEither (device left).file n r (next_of r (r.epoch + 1) r.outcome)

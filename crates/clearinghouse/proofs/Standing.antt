@@ -1,6 +1,7 @@
 -- An open clearinghouse stays one by each step.
 use Rattle.std.proofs.Common.{◌≡◌, ℕ, List, None, refl, sym, ap, ◌∙◌, subst, false}
 use Rattle.checkpoint.specs.Store.{Opened}
+use Rattle.codec.specs.Table.{PacketOf}
 use Rattle.serial_meaning.specs.Job.{JobOf}
 use Rattle.clearinghouse.specs.Cases.{on_packet}
 use Rattle.clearinghouse.specs.Calls.{passes}
@@ -23,13 +24,13 @@ module _ {D : Type 0} (job : JobOf) (store : Opened D) (h : HouseOf) (is : IsOpe
         stored = is.stored ∙ ap (λ (k : Kept). record store { «record» = record_of job k; sequence = k.sequence; ended = false }) (sym same);
       }
 
-  pub sent_stands : (a : Answer) → ((s : StepOf) → a ≡ Does s → Keeps h s) → (sent : List (List ℕ)) (new : HouseOf) → IsSent a sent new → IsOpen job store new
+  pub sent_stands : (a : Answer) → ((s : StepOf) → a ≡ Does s → Keeps h s) → (sent : List PacketOf) (new : HouseOf) → IsSent a sent new → IsOpen job store new
   sent_stands Ignored keeps sent new is_sent = absurd is_sent
   sent_stands (Refused e) keeps sent new is_sent = absurd is_sent
   sent_stands (Does s) keeps sent new is_sent = rw is_sent.2 (stands s (keeps s refl) is_sent.0)
 
-  pub packet_stands : (p : _) (sent : List (List ℕ)) (new : HouseOf) → IsSent (on_packet job p h) sent new → IsOpen job store new
+  pub packet_stands : (p : _) (sent : List PacketOf) (new : HouseOf) → IsSent (on_packet job p h) sent new → IsOpen job store new
   packet_stands p = sent_stands (on_packet job p h) (packet_keeps job p h)
 
-  pub moment_stands : (now : ℕ) (sent : List (List ℕ)) (new : HouseOf) → IsSent (Does (passes job now h)) sent new → IsOpen job store new
+  pub moment_stands : (now : ℕ) (sent : List PacketOf) (new : HouseOf) → IsSent (Does (passes job now h)) sent new → IsOpen job store new
   moment_stands now = sent_stands (Does (passes job now h)) (λ s same. subst (Keeps h) (step_of (passes job now h) s same) (moment_keeps job now h))

@@ -1,6 +1,6 @@
 -- What a call of the clearinghouse answers, and what it leaves of it and of its checkpoint.
-use Rattle.std.specs.Prelude.{◌≡◌, ◌⊎◌, ◌+◌, ◌<◌, ◌^◌, ◌++◌, ℕ, true, false, List, [], map, Option, None, Some, Result, Ok, Err}
-use Rattle.codec.specs.Table.{PacketOf, packet as spelling}
+use Rattle.std.specs.Prelude.{◌≡◌, ◌⊎◌, ◌+◌, ◌<◌, ◌^◌, ◌++◌, ℕ, true, false, List, [], Option, None, Some, Result, Ok, Err}
+use Rattle.codec.specs.Table.{PacketOf}
 use Rattle.disk.specs.Device.{Device}
 use Rattle.disk.specs.File.{bytes_of}
 use Rattle.checkpoint.specs.Calls.{Call, Passed, Stopped as HasStopped}
@@ -24,21 +24,17 @@ use Rattle.clearinghouse.specs.declared.parts.HouseStep.{HouseStep}
 use Rattle.clearinghouse.specs.declared.parts.Stop.{Stop}
 use Rattle.clearinghouse.specs.declared.parts.Stop.TheVariants as by
 
--- packets, as they are sent
-abbrev pub spelled : List PacketOf → List (List ℕ)
-spelled sent = map spelling.write sent
-
 -- of an answer that commits nothing: what is sent, and the clearinghouse after it
-abbrev pub IsSent : Answer → List (List ℕ) → HouseOf → Type 0
+abbrev pub IsSent : Answer → List PacketOf → HouseOf → Type 0
 IsSent Ignored sent new = ⊥
 IsSent (Refused e) sent new = ⊥
-IsSent (Does s) sent new = (s.commits ≡ None) × (sent ≡ spelled s.sent) × (new ≡ s.after)
+IsSent (Does s) sent new = (s.commits ≡ None) × (sent ≡ s.sent) × (new ≡ s.after)
 
 -- of an answer that records an outcome: that one, and what is sent
-abbrev pub IsRecorded : Answer → Outcome → List (List ℕ) → HouseOf → Type 0
+abbrev pub IsRecorded : Answer → Outcome → List PacketOf → HouseOf → Type 0
 IsRecorded Ignored o sent old = ⊥
 IsRecorded (Refused e) o sent old = ⊥
-IsRecorded (Does s) o sent old = (s ≡ Moves.records o s.sent old) × (sent ≡ spelled s.sent)
+IsRecorded (Does s) o sent old = (s ≡ Moves.records o s.sent old) × (sent ≡ s.sent)
 
 -- what is to be done by an answer; what is to be committed isn't done yet. Want of memory may leave a part of it
 abbrev pub Acts : Answer → Result Act HouseError → HouseOf → HouseOf → Type 0
@@ -110,7 +106,7 @@ module _ {D : Type 0} (device : D → Device) (planned : D → ℕ → Option (L
   abbrev pub Carries : Answer → HouseStep → (old new : HouseOn D) → Type 0
   Carries Ignored step old new = (step ≡ record { sent = []; ignored = true }) × (new ≡ old)
   Carries (Refused e) step old new = ⊥
-  Carries (Does s) step old new = (step ≡ record { sent = spelled s.sent; ignored = false }) × (new ≡ record old { state = Open s.after; store = new.store }) × Stores s.commits old new
+  Carries (Does s) step old new = (step ≡ record { sent = s.sent; ignored = false }) × (new ≡ record old { state = Open s.after; store = new.store }) × Stores s.commits old new
 
   -- a commit failed: what was to be done isn't, and nothing is sent
   abbrev pub FailsToCommit : Option Kept → (old new : HouseOn D) → Type 0
@@ -139,6 +135,8 @@ module _ {D : Type 0} (device : D → Device) (planned : D → ℕ → Option (L
   pub record IsOpened (job : JobOf) (limit : ℕ) (disk : D) (sequence : ℕ) (r : Stored) (new : HouseOn D) : Type 0 where
     pub found : Reads (bytes_of (device disk).file) sequence r
     pub own : r.job ≡ job.number
+    -- an epoch and a commit were left
+    pub begins : can_begin (kept_in sequence r) ≡ true
     pub house : new ≡ record { job = job; state = Open (opened limit (next_epoch (kept_in sequence r))); store = new.store }
     pub stored : new.store ≡ record { disk = new.store.disk; «record» = record_of job (next_epoch (kept_in sequence r)); sequence = sequence + 1; ended = false }
     pub calls : (calls : List Call) × IsCommit (bytes_of (device disk).file) sequence r (record_of job (next_epoch (kept_in sequence r))) calls × Passed (opening ++ calls) (planned disk) (device disk) (device new.store.disk)
@@ -159,6 +157,8 @@ module _ {D : Type 0} (device : D → Device) (planned : D → ℕ → Option (L
     pub found : Stored
     pub reads : Reads (bytes_of (device disk).file) sequence found
     pub own : found.job ≡ job.number
+    -- an epoch and a commit were left
+    pub begins : can_begin (kept_in sequence found) ≡ true
     pub calls : (calls : List Call) × IsCommit (bytes_of (device disk).file) sequence found (record_of job (next_epoch (kept_in sequence found))) calls × HasStopped (opening ++ calls) (planned disk) (device disk) (device left)
 
   -- why a clearinghouse isn't opened over a file, and what was done to it

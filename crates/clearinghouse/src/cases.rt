@@ -3,22 +3,24 @@ ghost use Rattle.std.specs.Prelude.{◌≡◌, ◌+◌, ◌<◌, ◌≤◌, ◌^
 ghost use Rattle.ids.specs.Members.{is_live, status_in};
 ghost use Rattle.ids.specs.Names.{house_of};
 ghost use Rattle.ids.specs.declared.work.Task.{Task as TaskOf};
-ghost use Rattle.codec.specs.Table.{is_packet, is_short, packet as spelling};
+ghost use Rattle.codec.specs.Table.{is_packet, is_short};
 ghost use Rattle.codec.specs.declared.body.Body.TheVariants as body;
 ghost use Rattle.steal_protocol.specs.Replies.{put_reply};
 ghost use Rattle.clearinghouse.specs.Calls.{passes};
 ghost use Rattle.clearinghouse.specs.Cases as cases;
 ghost use Rattle.clearinghouse.specs.House.{members_of};
 ghost use Rattle.clearinghouse.specs.Laws.{IsHouse, IsListing};
-ghost use Rattle.clearinghouse.specs.Meeting.{Acts, IsSent, spelled};
+ghost use Rattle.clearinghouse.specs.Meeting.{Acts, IsSent};
 ghost use Rattle.clearinghouse.specs.Moves as moves;
 ghost use Rattle.clearinghouse.specs.Steps.{Does};
 
 use crate::book::Book;
 use crate::error::HouseError;
 use crate::parts::{Act, RootGrant};
-use crate::sending::{alone, roster_alone, send_abort};
-use codec::{Beat, Body, Grant, Join, Leave, Packet, Refuse, ResultAck, Steal, TaskResult};
+use crate::sending::{roster_alone, send_abort};
+use codec::{
+    Beat, Body, Datagram, Grant, Join, Leave, Packet, Refuse, ResultAck, Steal, TaskResult, alone,
+};
 use ids::{Address, GrantId, Incarnation, Listed, Outcome, Place, Status, Task};
 use kind_check::accepted_threads_are_few;
 use serial_meaning::Job;
@@ -184,9 +186,9 @@ impl Book {
         alloc: Global,
         steal: Steal,
         packet: Packet,
-    ) -> Result<Listed<Listed<u8>>, AllocError>
+    ) -> Result<Listed<Datagram>, AllocError>
         requires { IsTrue (is_short packet.body) }
-        ensures sent { IfOk result (λ sent. sent ≡ spelled (packet ∷ [])) }
+        ensures sent { IfOk result (λ sent. sent ≡ packet ∷ []) }
         ensures kept { OnOk result (self.new ≡ record self.old { replies = put_reply (record { thief = steal.from; seq = steal.seq; packet = packet }) self.old.replies }) }
     {
         let sent = alone(alloc, &packet)?;
@@ -255,11 +257,11 @@ impl Book {
         &mut self,
         alloc: Global,
         job: &Job,
-        sent: &mut Listed<Listed<u8>>,
+        sent: &mut Listed<Datagram>,
     ) -> Result<(), AllocError>
         requires { IsListing self.old.version self.old.workers }
         ensures after { OnOk result (self.new ≡ (moves.settles job.now self.old).after) }
-        ensures sent { OnOk result (sent.new ≡ sent.old ++ spelled (moves.settles job.now self.old).sent) }
+        ensures sent { OnOk result (sent.new ≡ sent.old ++ (moves.settles job.now self.old).sent) }
     {
         let Some(root) = self.root else {
             return Ok(());
@@ -332,7 +334,7 @@ impl Book {
         alloc: Global,
         job: &Job,
         now: u64,
-    ) -> Result<Listed<Listed<u8>>, AllocError>
+    ) -> Result<Listed<Datagram>, AllocError>
         requires { IsHouse self.old }
         ensures { IfOk result (λ sent. IsSent (Does (passes job.now now self.old)) sent self.new) }
     {

@@ -18,7 +18,7 @@ use crate::book::Book;
 use crate::error::HouseError;
 use crate::parts::{Act, HouseStep, Stop};
 use checkpoint::{LastEpoch, Store, StoreError};
-use codec::{ReadError, decode};
+use codec::{Datagram, ReadError, decode};
 use disk::Disk;
 use ids::{Epoch, Listed, Outcome};
 use serial_meaning::Job;
@@ -62,7 +62,7 @@ fn ignored(alloc: Global) -> HouseStep
 }
 
 /// Packets are sent.
-fn sends(sent: Listed<Listed<u8>>) -> HouseStep
+fn sends(sent: Listed<Datagram>) -> HouseStep
     ensures { result ≡ record { sent = sent; ignored = false } }
 {
     HouseStep {

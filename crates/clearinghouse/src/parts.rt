@@ -1,6 +1,7 @@
 ghost use Rattle.clearinghouse.specs.House.{name_of_enlisted};
 
 use crate::error::HouseError;
+use codec::Datagram;
 use ids::{GrantId, Incarnation, Listed, Named, Outcome, Status};
 
 /// A worker of a roster: what is said of it, and the moment at which it was last heard.
@@ -49,11 +50,11 @@ impl Stop {
     }
 }
 
-/// What a call of the clearinghouse did: the packets that it sends, as bytes, in their order, and whether it ignored a packet,
+/// What a call of the clearinghouse did: the packets that it sends, in their order, and whether it ignored a packet,
 /// which changes nothing.
 #[derive(Drop)]
 pub struct HouseStep {
-    pub sent: Listed<Listed<u8>>,
+    pub sent: Listed<Datagram>,
     pub ignored: bool,
 }
 
@@ -62,6 +63,6 @@ pub struct HouseStep {
 #[derive(Drop)]
 pub enum Act {
     Ignored,
-    Sends(Listed<Listed<u8>>),
-    Records(Outcome, Listed<Listed<u8>>),
+    Sends(Listed<Datagram>),
+    Records(Outcome, Listed<Datagram>),
 }

@@ -2,4 +2,5 @@ pub mod TableLaws
 pub mod Written
 pub mod Lengths
 pub mod Rosters
+pub mod Datagrams
 mod Rising

@@ -373,7 +373,7 @@ reading_found bytes p fits e =
     (subst (λ (q : PacketOf). packet.Spelled bytes [] q) ended.1 (subst (λ (to : List ℕ). packet.Spelled bytes to read.0.0) nothing s), ltb-false 1048576 (length bytes) short.0)
 
 -- what is spelled so is the answer
-reading_only : (bytes : List ℕ) (p : PacketOf) → Spells bytes p → reading bytes ≡ Ok p
+pub reading_only : (bytes : List ℕ) (p : PacketOf) → Spells bytes p → reading bytes ≡ Ok p
 unfolding reading
 reading_only bytes p s = rw (le-ltb 1048576 (length bytes) s.1, packet_lawful.only bytes [] p s.0) refl
 

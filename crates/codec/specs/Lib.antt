@@ -1,5 +1,6 @@
 pub mod Table
 pub mod Rosters
+pub mod Datagrams
 pub mod Errors
 pub use Rattle.packet_fields.specs.Format
 pub use Rattle.packet_fields.specs.Fields

@@ -2,6 +2,7 @@
 #![tactic(auto)]
 
 mod body;
+mod datagram;
 mod decoding;
 mod encoding;
 mod fields;
@@ -13,6 +14,7 @@ pub use body::{
     Abort, Beat, Body, Grant, Join, Leave, Offer, OfferAck, Refuse, ResultAck, Roster, Steal,
     TaskResult,
 };
+pub use datagram::{Datagram, alone, send};
 pub use decoding::decode;
 pub use encoding::{EncodeError, encode, encode_short};
 pub use laws::{one_to_one, rosters_rise};

@@ -4,7 +4,7 @@ use Rattle.std.specs.List.{AllByRecursion, list_any}
 use Rattle.ids.specs.Members.{is_live}
 use Rattle.ids.specs.declared.member.Member.{Member}
 use Rattle.task_syntax.specs.declared.tree.Program.{Program}
-use Rattle.codec.specs.Table.{PacketOf, packet as spelling}
+use Rattle.codec.specs.Table.{PacketOf}
 use Rattle.subcomputation.specs.Fitting.{Fits}
 use Rattle.subcomputation.specs.Subs.{SubOf}
 use Rattle.departure.specs.Offers.{offer, is_last_hop, is_too_big}
@@ -29,12 +29,9 @@ refusal m pending members subs =
     else if list_any is_too_big (offers m subs) then Some error.TooBig
     else None
 
-abbrev pub spelled : List PacketOf → List (List ℕ)
-spelled sent = map spelling.write sent
-
 -- the Offers are made where nothing is in the way. Want of memory comes behind all refusals but that of too many bytes
-abbrev pub Freezes : Option FreezeError → List PacketOf → Result (List (List ℕ)) FreezeError → Type 0
-Freezes refused offers (Ok sent) = (refused ≡ None) × (sent ≡ spelled offers)
+abbrev pub Freezes : Option FreezeError → List PacketOf → Result (List PacketOf) FreezeError → Type 0
+Freezes refused offers (Ok sent) = (refused ≡ None) × (sent ≡ offers)
 Freezes refused offers (Err error.Pending) = refused ≡ Some error.Pending
 Freezes refused offers (Err error.NoHeir) = refused ≡ Some error.NoHeir
 Freezes refused offers (Err error.HopSpent) = refused ≡ Some error.HopSpent

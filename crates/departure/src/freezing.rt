@@ -3,15 +3,14 @@ ghost use Rattle.std.specs.Prelude.{◌≡◌, ◌<◌, ◌^◌, true, false, If
 ghost use Rattle.std.specs.List.{AllByRecursion, list_all, list_any};
 ghost use Rattle.ids.specs.Members.{is_live};
 ghost use Rattle.packet_fields.specs.Fields as field;
-ghost use Rattle.codec.specs.Table.{packet as spelling};
 ghost use Rattle.codec.specs.declared.encoding.EncodeError.TheVariants.{TooBig};
 ghost use Rattle.sub_rules.specs.declared.content.Content as declared;
 ghost use Rattle.subcomputation.specs.Fitting.{Fits};
 ghost use Rattle.departure.specs.Offers.{offer, offer_of, is_last_hop, is_too_big};
-ghost use Rattle.departure.specs.Freezing.{AllFit, AreMovable, Freezes, lacks_heir, offers, refusal, spelled};
+ghost use Rattle.departure.specs.Freezing.{AllFit, AreMovable, Freezes, lacks_heir, offers, refusal};
 ghost use Rattle.departure.specs.Typed.{FrameTyped, IsFew, RecordTyped, SubTyped};
 
-use codec::{Body, EncodeError, Offer, Packet};
+use codec::{Body, Datagram, EncodeError, Offer, Packet};
 use frames::Frames;
 use ids::{Actor, Address, Frame, Incarnation, Listed, Member, Outcome, Record, Status, Store};
 use kind_check::Checked;
@@ -74,7 +73,7 @@ impl Move {
         is_pending: bool,
         members: &[Member],
         subs: &Store<Sub>,
-    ) -> Result<Listed<Listed<u8>>, FreezeError>
+    ) -> Result<Listed<Datagram>, FreezeError>
         requires { AllFit checked.now subs.now }
         ensures answer { Freezes (refusal self.now is_pending members.now subs.now) (offers self.now subs.now) result }
         ensures movable { IfOk result (λ _. AreMovable self.now subs.now) }
@@ -101,10 +100,10 @@ impl Move {
         alloc: Global,
         checked: &Checked,
         subs: &Store<Sub>,
-    ) -> Result<Listed<Listed<u8>>, AllocError>
+    ) -> Result<Listed<Datagram>, AllocError>
         requires fits { AllFit checked.now subs.now }
         requires movable { AreMovable self.now subs.now }
-        ensures { IfOk result (λ sent. sent ≡ spelled (offers self.now subs.now)) }
+        ensures { IfOk result (λ sent. sent ≡ offers self.now subs.now) }
     {
         match self.spelled(alloc, checked, subs) {
             Ok(again) => Ok(again),
@@ -126,10 +125,10 @@ impl Move {
         alloc: Global,
         checked: &Checked,
         subs: &Store<Sub>,
-    ) -> Result<Listed<Listed<u8>>, EncodeError>
+    ) -> Result<Listed<Datagram>, EncodeError>
         requires fits { AllFit checked.now subs.now }
         requires hops { list_any is_last_hop subs.now ≡ false }
-        ensures ok { IfOk result (λ sent. sent ≡ spelled (offers self.now subs.now)) }
+        ensures ok { IfOk result (λ sent. sent ≡ offers self.now subs.now) }
         ensures small { OnOk result (list_any is_too_big (offers self.now subs.now) ≡ false) }
         ensures big { IsErrOf result TooBig → list_any is_too_big (offers self.now subs.now) ≡ true }
     {
@@ -146,15 +145,15 @@ impl Move {
         alloc: Global,
         checked: &Checked,
         sub: &Sub,
-    ) -> Result<Listed<u8>, EncodeError>
+    ) -> Result<Datagram, EncodeError>
         requires fits { Fits checked.now sub.now.content }
         requires hop { is_last_hop sub.now ≡ false }
-        ensures ok { IfOk result (λ bytes. bytes ≡ spelling.write (offer self.now.job self.now.from self.now.heir sub.now)) }
+        ensures ok { IfOk result (λ d. d ≡ offer self.now.job self.now.from self.now.heir sub.now) }
         ensures small { OnOk result (is_too_big (offer self.now.job self.now.from self.now.heir sub.now) ≡ false) }
         ensures big { IsErrOf result TooBig → is_too_big (offer self.now.job self.now.from self.now.heir sub.now) ≡ true }
     {
         let packet = self.packet(alloc, checked, sub)?;
-        Ok(Listed::from_vec(codec::encode(alloc, &packet)?))
+        Datagram::of(alloc, &packet)
     }
 
     /// The packet that offers a subcomputation.

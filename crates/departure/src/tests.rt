@@ -2,7 +2,7 @@ ghost use Rattle.std.specs.Prelude.{IfSome};
 ghost use Rattle.departure.specs.Freezing.{AllFit};
 
 use crate::{FreezeError, Move};
-use codec::{Body, Offer, decode};
+use codec::{Body, Datagram, Offer, decode};
 use ids::{Actor, GrantId, Hop, Incarnation, Listed, Member, Place, Status, Store, Task};
 use kind_check::{Checked, check};
 use std::alloc::Global;
@@ -72,9 +72,9 @@ fn offered(alloc: Global) -> Result<(Offer, Offer), Fail> {
 }
 
 /// The one Offer among packets to worker 9, in job 5.
-fn the_offer(alloc: Global, sent: &Listed<Listed<u8>>) -> Result<Offer, Fail> {
-    let bytes = sent.get(0).ok_or("an Offer")?;
-    let packet = decode(alloc, bytes.as_slice())?;
+fn the_offer(alloc: Global, sent: &Listed<Datagram>) -> Result<Offer, Fail> {
+    let sent_first = sent.get(0).ok_or("an Offer")?;
+    let packet = decode(alloc, sent_first.as_bytes())?;
     if sent.len() != 1 || packet.job() != 5 || packet.to().word() != 9 {
         return Err("one Offer to worker 9")?;
     }

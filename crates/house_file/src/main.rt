@@ -39,7 +39,7 @@ fn answer<D: Disk>(alloc: Global, house: &mut House<'_, D>, packet: Packet) -> R
     let bytes = encode(alloc, &packet)?;
     let step = house.on_bytes(alloc, &bytes)?;
     let sent = step.sent.get(0).context("an answer")?;
-    Ok(decode(alloc, sent.as_slice())?)
+    Ok(decode(alloc, sent.as_bytes())?)
 }
 
 /// A worker joins: the epoch that it is told.

@@ -3,8 +3,8 @@
 use crate::made::{Said, bytes_of, fib};
 use crate::world::{formatted, opened};
 use clearinghouse::{House, HouseError};
+use codec::Datagram;
 use disk::MemDisk;
-use ids::Listed;
 use serial_meaning::Job;
 use std::alloc::Global;
 use std::test::Fail;
@@ -12,13 +12,13 @@ use std::test::Fail;
 /// The number by which a packet is refused, and the length of the one that is sent; 0 where there is none.
 fn answer(alloc: Global, house: &mut House<'_, MemDisk>, said: Said) -> Result<(u8, usize), Fail> {
     Ok(match house.on_bytes(alloc, &bytes_of(alloc, said)?) {
-        Ok(step) => (0, step.sent.get(0).map_or(0, Listed::len)),
+        Ok(step) => (0, step.sent.get(0).map_or(0, |sent| sent.as_bytes().len())),
         Err(error) => (error.number(), 0),
     })
 }
 
-/// The bytes of the only packet that answers one.
-fn roster(alloc: Global, house: &mut House<'_, MemDisk>, said: Said) -> Result<Listed<u8>, Fail> {
+/// The only packet that answers one.
+fn roster(alloc: Global, house: &mut House<'_, MemDisk>, said: Said) -> Result<Datagram, Fail> {
     let step = house.on_bytes(alloc, &bytes_of(alloc, said)?)?;
     let mut sent = step.sent.into_vec();
     Ok(sent.pop().ok_or("a packet")?)
@@ -47,7 +47,7 @@ fn is_kept(alloc: Global, house: &mut House<'_, MemDisk>) -> Result<bool, Fail> 
     let before = roster(alloc, house, Said::Beat(3, 1))?;
     let refused = house.on_bytes(alloc, &bytes_of(alloc, Said::Join(4097))?);
     let after = roster(alloc, house, Said::Beat(3, 1))?;
-    Ok(matches!(refused, Err(HouseError::RosterFull)) && before.as_slice() == after.as_slice())
+    Ok(matches!(refused, Err(HouseError::RosterFull)) && before.as_bytes() == after.as_bytes())
 }
 
 #[test]

@@ -209,7 +209,7 @@ fn epoch_of<D: Disk>(alloc: Global, house: &mut House<'_, D>) -> Result<u64, Fai
     let step = house.on_bytes(alloc, &bytes_of(alloc, Join(3))?)?;
     let mut seen = Vec::new(alloc);
     for sent in step.sent.as_slice() {
-        add_packet(&mut seen, &decode(alloc, sent.as_slice())?)?;
+        add_packet(&mut seen, &decode(alloc, sent.as_bytes())?)?;
     }
     match seen.first() {
         Some(Seen::Tells(3, epoch, 2)) => Ok(*epoch),

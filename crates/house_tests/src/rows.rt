@@ -54,7 +54,7 @@ fn is_answered(
     let step = house.on_bytes(alloc, &bytes(alloc, said)?)?;
     let wanted = bytes(alloc, wanted)?;
     Ok(match step.sent.as_slice() {
-        [sent] => !step.ignored && sent.as_slice() == wanted.as_slice(),
+        [sent] => !step.ignored && sent.as_bytes() == wanted.as_slice(),
         _ => false,
     })
 }
@@ -109,7 +109,7 @@ fn stopping(alloc: Global, job: &Job) -> Result<Vec<u8>, Fail> {
     let step = house.tick(alloc, 501)?;
     let mut all = Vec::new(alloc);
     for sent in step.sent.as_slice() {
-        all.extend_from_slice(sent.as_slice())?;
+        all.extend_from_slice(sent.as_bytes())?;
     }
     Ok(all)
 }

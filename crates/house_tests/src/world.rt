@@ -4,9 +4,8 @@ use crate::made::{Said, bytes, bytes_of, bytes_to, fib};
 use crate::seen::{Seen, add_packet, of_outcome};
 use checkpoint::format;
 use clearinghouse::{House, HouseError, HouseStep};
-use codec::decode;
+use codec::{Datagram, decode};
 use disk::{Disk, MemDisk};
-use ids::Listed;
 use serial_meaning::Job;
 use std::alloc::Global;
 use std::test::Fail;
@@ -32,7 +31,7 @@ pub enum Event {
 #[derive(Drop)]
 struct World<'a> {
     house: House<'a, MemDisk>,
-    sent: Vec<Listed<u8>>,
+    sent: Vec<Datagram>,
     seen: Vec<Seen>,
 }
 
@@ -56,9 +55,9 @@ pub fn opened<D: Disk + Drop>(
 }
 
 /// Whether two packets have the same bytes.
-fn are_alike(sent: &[Listed<u8>], first: usize, second: usize) -> bool {
+fn are_alike(sent: &[Datagram], first: usize, second: usize) -> bool {
     match (sent.get(first), sent.get(second)) {
-        (Some(a), Some(b)) => a.as_slice() == b.as_slice(),
+        (Some(a), Some(b)) => a.as_bytes() == b.as_bytes(),
         _ => false,
     }
 }
@@ -78,16 +77,16 @@ impl<'a> World<'a> {
     }
 
     /// A packet is sent.
-    fn sends(&mut self, alloc: Global, bytes: Listed<u8>) -> Result<(), Fail> {
-        add_packet(&mut self.seen, &decode(alloc, bytes.as_slice())?)?;
-        self.sent.push(bytes)?;
+    fn sends(&mut self, alloc: Global, sent: Datagram) -> Result<(), Fail> {
+        add_packet(&mut self.seen, &decode(alloc, sent.as_bytes())?)?;
+        self.sent.push(sent)?;
         Ok(())
     }
 
     /// Packets are sent.
-    fn sends_all(&mut self, alloc: Global, all: Vec<Listed<u8>>) -> Result<(), Fail> {
-        for bytes in all {
-            self.sends(alloc, bytes)?;
+    fn sends_all(&mut self, alloc: Global, all: Vec<Datagram>) -> Result<(), Fail> {
+        for sent in all {
+            self.sends(alloc, sent)?;
         }
         Ok(())
     }

@@ -77,7 +77,7 @@ fn bytes_of(step: &HouseStep) -> Result<u64> {
     }
     let mut total = 0u64;
     for sent in step.sent.as_slice() {
-        total = total.wrapping_add(sent.len() as u64);
+        total = total.wrapping_add(sent.as_bytes().len() as u64);
     }
     Ok(total)
 }

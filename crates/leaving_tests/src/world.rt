@@ -3,8 +3,8 @@
 use crate::made::{ALL, Made, fib, from_house};
 use crate::player::{Call, Player};
 use crate::seen::{Kind, Name, Seen, What, kind_and_address, name_of, of_packet};
-use codec::decode;
-use ids::{FrameNo, Listed, Progress};
+use codec::{Datagram, decode};
+use ids::{FrameNo, Progress};
 use node_core::{Fill, Node, NodeError, Step, SubView, Work};
 use serial_meaning::Job;
 use std::alloc::Global;
@@ -41,7 +41,7 @@ struct Sent {
     kind: Kind,
     from: u64,
     to: u64,
-    bytes: Listed<u8>,
+    datagram: Datagram,
 }
 
 /// The nodes of a job, all packets that they sent, and what was seen.
@@ -73,7 +73,7 @@ fn last_of(sent: &[Sent], below: usize, (kind, from, to): (Kind, u64, u64)) -> O
 /// Whether two packets have the same bytes.
 fn are_alike(sent: &[Sent], first: usize, second: usize) -> bool {
     match (sent.get(first), sent.get(second)) {
-        (Some(a), Some(b)) => a.bytes.as_slice() == b.bytes.as_slice(),
+        (Some(a), Some(b)) => a.datagram.as_bytes() == b.datagram.as_bytes(),
         _ => false,
     }
 }
@@ -192,27 +192,27 @@ impl<'a> World<'a> {
     fn bytes_of(&self, alloc: Global, which: (Kind, u64, u64)) -> Result<Vec<u8>, Fail> {
         let at = last_of(&self.sent, self.sent.len(), which).ok_or("a packet")?;
         let sent = self.sent.get(at).ok_or("a packet")?;
-        Ok(Vec::from_slice(alloc, sent.bytes.as_slice())?)
+        Ok(Vec::from_slice(alloc, sent.datagram.as_bytes())?)
     }
 
     /// A packet is sent.
-    fn sends(&mut self, alloc: Global, from: u64, bytes: Listed<u8>) -> Result<(), Fail> {
-        let seen = of_packet(&decode(alloc, bytes.as_slice())?);
+    fn sends(&mut self, alloc: Global, from: u64, datagram: Datagram) -> Result<(), Fail> {
+        let seen = of_packet(&decode(alloc, datagram.as_bytes())?);
         let (kind, to) = kind_and_address(seen);
         self.seen.push(seen)?;
         self.sent.push(Sent {
             kind,
             from,
             to,
-            bytes,
+            datagram,
         })?;
         Ok(())
     }
 
     /// Packets are sent.
-    fn sends_all(&mut self, alloc: Global, from: u64, all: Vec<Listed<u8>>) -> Result<(), Fail> {
-        for bytes in all {
-            self.sends(alloc, from, bytes)?;
+    fn sends_all(&mut self, alloc: Global, from: u64, all: Vec<Datagram>) -> Result<(), Fail> {
+        for datagram in all {
+            self.sends(alloc, from, datagram)?;
         }
         Ok(())
     }

@@ -34,7 +34,7 @@ use Rattle.node_state.specs.Parts.{HasNoNewRecord, MayCome, PartsOf, put_some, r
 use Rattle.node_state.specs.Posts.{posts_after}
 use Rattle.node_core.proofs.Keeping.{FitsIf}
 use Rattle.node_core.proofs.Stopping.{all_stops}
-use Rattle.node_core.specs.Meeting.{NodeOn, comes, spelled}
+use Rattle.node_core.specs.Meeting.{NodeOn, comes}
 use Rattle.node_core.specs.Cases.{Choice, is_above, on_body}
 use Rattle.node_core.specs.Moves.{aborts, acknowledges, stops}
 use Rattle.node_core.specs.Steps.{Does}
@@ -119,9 +119,9 @@ module _ (r : Roster) (s : SubOf) (o : Option SubOf) (told : List Readied) where
   abbrev pub alone : Recovery
   alone = recovered r.members (s.grant ∷ []) (s ∷ [])
 
-  pub sent_of : (job : JobOf) (n : NodeOf) (stopped : List Stopped) (law : Beside) → sub_in s.grant n.subs ≡ None → AreForeign s.content.records n.subs → stopped ≡ map stop_of alone.stopped → spelled (map (stops job) stopped) ≡ spelled (comes job r s n).sent
+  pub sent_of : (job : JobOf) (n : NodeOf) (stopped : List Stopped) (law : Beside) → sub_in s.grant n.subs ≡ None → AreForeign s.content.records n.subs → stopped ≡ map stop_of alone.stopped → map (stops job) stopped ≡ (comes job r s n).sent
   sent_of job n stopped law absent foreign is =
-      ap spelled (ap (map (stops job)) is ∙ (all_stops job alone.stopped ∙ ap (λ (x : Recovery). aborts job x.stopped) (sym (law r.members s n.subs absent foreign))))
+      ap (map (stops job)) is ∙ (all_stops job alone.stopped ∙ ap (λ (x : Recovery). aborts job x.stopped) (sym (law r.members s n.subs absent foreign)))
 
   pub came_view : (v w : NodeOn) (p : PartsOf) (law : Beside) → v ≡ w → p ≡ with_posts (came_to s o v.node) (ready_of s.grant told) v.posts → sub_in s.grant w.node.subs ≡ None → AreForeign s.content.records w.node.subs → those o ≡ alone.subs → all_in s.grant told ≡ ready_frames s ++ alone.again → on v.job p ≡ record w { node = (comes w.job r s w.node).after; posts = posts_after (comes w.job r s w.node).after (comes w.job r s w.node).ready w.posts }
   came_view v w p law same is absent foreign left ready =

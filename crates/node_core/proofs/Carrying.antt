@@ -22,7 +22,7 @@ use Rattle.node_core.specs.declared.error.NodeError.{NodeError}
 use Rattle.node_core.specs.declared.error.NodeError.TheVariants as error
 use Rattle.node_core.specs.declared.parts.Step.{Step}
 
-joined : (st : State) (member : Roster → Answer) (leaving : Roster → ℕ → Answer) (other a : Answer) → IsMember st → ((r : Roster) → member r ≡ a) → by_state st other member leaving other ≡ a
+pub joined : (st : State) (member : Roster → Answer) (leaving : Roster → ℕ → Answer) (other a : Answer) → IsMember st → ((r : Roster) → member r ≡ a) → by_state st other member leaving other ≡ a
 unfolding by_state
 joined Joining member leaving other a is h = absurd is
 joined (Member r) member leaving other a is h = h r
@@ -33,7 +33,7 @@ at_sub : (job : JobOf) (d : DoneOf) (g : Grant) (f : ℕ) (n : NodeOf) (s : SubO
 at_sub job d g f n s c (Ok change) is = let equal : changed s change ≡ c = cc in ap (λ k. Does (changes_of job k n)) equal
 at_sub job d g f n s c (Err e) is = cc
 
-found : (job : JobOf) (d : DoneOf) (g : Grant) (f : ℕ) (n : NodeOf) (s : SubOf) (a : Answer) → sub_in g n.subs ≡ Some s → calls.changed job s n (carry d f s.content) ≡ a → by_option (sub_in g n.subs) (Refused error.Stale) (λ t. calls.changed job t n (carry d f t.content)) ≡ a
+pub found : (job : JobOf) (d : DoneOf) (g : Grant) (f : ℕ) (n : NodeOf) (s : SubOf) (a : Answer) → sub_in g n.subs ≡ Some s → calls.changed job s n (carry d f s.content) ≡ a → by_option (sub_in g n.subs) (Refused error.Stale) (λ t. calls.changed job t n (carry d f t.content)) ≡ a
 unfolding by_option
 found job d g f n s a there is = rw there is
 

@@ -11,3 +11,6 @@ pub mod Carrying
 pub mod Stopping
 mod Arriving
 mod Offering
+mod Chosen
+mod Evaluating
+mod Naming

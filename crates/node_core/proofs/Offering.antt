@@ -11,7 +11,7 @@ use Rattle.node_state.specs.Parts.{IsMember, PartsOf, with_posts}
 use Rattle.node_state.specs.declared.parts.State.{State}
 use Rattle.node_state.specs.declared.parts.State.TheVariants as stands
 use Rattle.node_core.specs.Cases.{Choice, confirms, is_released, left_behind, on_body}
-use Rattle.node_core.specs.Meeting.{CanLeave, CanOffer, Carries, NodeOn, spelled}
+use Rattle.node_core.specs.Meeting.{CanLeave, CanOffer, Carries, NodeOn}
 use Rattle.node_core.specs.declared.parts.Step.{Step}
 use Rattle.node_core.specs.Moves
 
@@ -39,5 +39,5 @@ pub confirmed : (job : JobOf) (choice : Option Choice) (b : OfferAck) (n : NodeO
 unfolding on_body by_state
 confirmed job choice b n r heir at not_so is = rw at (rw not_so (rw is refl))
 
-pub behind_view : (v w : NodeOn) (p : PartsOf) (f : NodeOf → NodeOf) (r : Roster) (heir : ℕ) (step : Step) → v ≡ w → p ≡ with_posts (f v.node) [] v.posts → step ≡ record { sent = spelled (Moves.leaves v.job r heir p.node); fills = []; ignored = false } → Carries (left_behind w.job r heir (f w.node)) step w (record { job = v.job; node = p.node; posts = p.posts })
+pub behind_view : (v w : NodeOn) (p : PartsOf) (f : NodeOf → NodeOf) (r : Roster) (heir : ℕ) (step : Step) → v ≡ w → p ≡ with_posts (f v.node) [] v.posts → step ≡ record { sent = Moves.leaves v.job r heir p.node; fills = []; ignored = false } → Carries (left_behind w.job r heir (f w.node)) step w (record { job = v.job; node = p.node; posts = p.posts })
 behind_view v w p f r heir step same is told = rw (← same) (rw is at told, rw is refl)

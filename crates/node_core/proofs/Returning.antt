@@ -1,7 +1,7 @@
 -- What an outcome that comes leads to.
 use Rattle.std.proofs.Common.{◌≡◌, ℕ, ◌+◌, arith, List, [], ◌∷◌, Option, Some, None, Result, Ok, Err, refl, sym, ap, ◌∙◌}
 use Rattle.ids.specs.Names.{Grant}
-use Rattle.codec.specs.Table.{PacketOf, packet as spelling}
+use Rattle.codec.specs.Table.{PacketOf}
 use Rattle.codec.specs.declared.body.Body.TheVariants as body
 use Rattle.codec.specs.declared.body.TaskResult.{TaskResult}
 use Rattle.codec.specs.declared.body.Roster.{Roster}
@@ -74,7 +74,7 @@ result_known job choice b n s c member there is = by_member n.state (λ r. retur
     by_record (Some x) found at = let equal : changed s (closed x b.outcome s.content) ≡ c = cc in closes_some job b n s x there found ∙ ap (λ d. Does (behind (ack_of job b) (changes_of job d n))) equal
 
 -- what is answered behind a packet
-pub meets_behind : (p : PacketOf) (s : StepOf) (result : Result Step NodeError) (old new : NodeOn) → MeetsBehind (spelling.write p ∷ []) s result old new → Meets (Does (behind p s)) result old new
+pub meets_behind : (p : PacketOf) (s : StepOf) (result : Result Step NodeError) (old new : NodeOn) → MeetsBehind (p ∷ []) s result old new → Meets (Does (behind p s)) result old new
 meets_behind p s (Ok step) old new meets = meets
 meets_behind p s (Err error.Memory) old new meets = meets.1
 meets_behind p s (Err (error.Bytes fault)) old new meets = let wrong = meets.0 in cc

@@ -15,7 +15,7 @@ use Rattle.node_state.specs.Parts.{PartsOf, with_posts}
 use Rattle.node_state.specs.Posts.{posts_after}
 use Rattle.node_state.specs.declared.parts.State.TheVariants.{Member}
 use Rattle.node_core.specs.Cases.{recovers_by}
-use Rattle.node_core.specs.Meeting.{NodeOn, spelled}
+use Rattle.node_core.specs.Meeting.{NodeOn}
 use Rattle.node_core.specs.Moves.{aborts, status_of, stops}
 
 -- the holders that are told to stop are those of the records
@@ -23,8 +23,8 @@ pub all_stops : (job : JobOf) (records : List Record) → map (stops job) (map s
 all_stops job [] = refl
 all_stops job (r ∷ rs) = ap (λ sent. stops job (stop_of r) ∷ sent) (all_stops job rs)
 
-pub stops_sent : (job : JobOf) (records : List Record) (stopped : List Stopped) → stopped ≡ map stop_of records → spelled (map (stops job) stopped) ≡ spelled (aborts job records ++ [])
-stops_sent job records stopped is = ap spelled (ap (map (stops job)) is ∙ all_stops job records ∙ sym (append-nil (aborts job records)))
+pub stops_sent : (job : JobOf) (records : List Record) (stopped : List Stopped) → stopped ≡ map stop_of records → map (stops job) stopped ≡ aborts job records ++ []
+stops_sent job records stopped is = ap (map (stops job)) is ∙ all_stops job records ∙ sym (append-nil (aborts job records))
 
 -- a node that keeps a roster and recovered by it
 abbrev recovers_to : Roster → Option Status → NodeOf → NodeOf

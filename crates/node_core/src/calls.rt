@@ -6,16 +6,16 @@ ghost use Rattle.ids.specs.Ordered.{AreInOrder};
 ghost use Rattle.node_core.specs.Calls as calls;
 ghost use Rattle.node_core.specs.Moves as moves;
 ghost use Rattle.node_state.specs.Node.{NodeOf};
-ghost use Rattle.node_core.specs.Meeting.{MayStarve, Meets, spelled};
+ghost use Rattle.node_core.specs.Meeting.{MayStarve, Meets};
 ghost use Rattle.node_core.specs.declared.error.NodeError.TheVariants.{Memory};
 
 use crate::error::NodeError;
 use crate::node::Node;
 use crate::parts::{Step, Victim};
 use crate::rosters::{says_live, status_of};
-use crate::sending::{alone, send, send_results, sends};
+use crate::sending::{send_results, sends};
 use body_eval::Done;
-use codec::{Beat, Join, Packet, Roster, Steal};
+use codec::{Beat, Datagram, Join, Packet, Roster, Steal, alone, send};
 use ids::{Actor, Count, FrameNo, GrantId, Incarnation, Listed};
 use node_state::{Parts, State};
 use serial_meaning::Job;
@@ -126,8 +126,8 @@ impl<'a> Node<'a> {
     }
 
     /// What a member sends again.
-    fn unanswered(&self, alloc: Global, roster: &Roster) -> Result<Listed<Listed<u8>>, NodeError>
-        ensures sent { IfOk result (λ sent. sent ≡ spelled (calls.member_resend self.now.job self.now.node roster.now)) }
+    fn unanswered(&self, alloc: Global, roster: &Roster) -> Result<Listed<Datagram>, NodeError>
+        ensures sent { IfOk result (λ sent. sent ≡ calls.member_resend self.now.job self.now.node roster.now) }
         ensures memory { IfErr result (λ e. e ≡ Memory) }
     {
         let beat = Beat {
@@ -180,11 +180,11 @@ fn address_of(roster: &Roster, own: Incarnation, victim: Victim) -> Option<Actor
 fn send_all_results(
     alloc: Global,
     job: &Job,
-    sent: &mut Listed<Listed<u8>>,
+    sent: &mut Listed<Datagram>,
     from: Incarnation,
     parts: &Parts,
 ) -> Result<(), AllocError>
-    ensures { OnOk result (sent.new ≡ sent.old ++ spelled (flat_map (moves.results job.now from) parts.now.node.subs)) }
+    ensures { OnOk result (sent.new ≡ sent.old ++ flat_map (moves.results job.now from) parts.now.node.subs) }
 {
     for sub in parts.subs() {
         send_results(alloc, job, sent, from, sub)?;

@@ -10,8 +10,8 @@ ghost use Rattle.node_core.specs.Meeting.{Meets, MeetsBehind, changes_of};
 use crate::error::NodeError;
 use crate::node::Node;
 use crate::parts::Step;
-use crate::sending::{alone, fills_of, ignored, send_aborts, send_results, sends};
-use codec::{Abort, Packet, ResultAck, TaskResult};
+use crate::sending::{fills_of, ignored, send_aborts, send_results, sends};
+use codec::{Abort, Datagram, Packet, ResultAck, TaskResult, alone};
 use ids::Listed;
 use std::alloc::Global;
 use subcomputation::Changed;
@@ -49,7 +49,7 @@ impl<'a> Node<'a> {
     pub(crate) fn change(
         &mut self,
         alloc: Global,
-        before: Listed<Listed<u8>>,
+        before: Listed<Datagram>,
         changed: Changed,
     ) -> Result<Step, NodeError>
         requires next { IsNext self.old.node changed.after changed.ready }

@@ -14,7 +14,7 @@ ghost use Rattle.node_state.specs.declared.parts.State.TheVariants.{Member, Leav
 ghost use Rattle.node_core.specs.Calls as calls;
 ghost use Rattle.node_core.specs.Cases as cases;
 ghost use Rattle.node_core.specs.Choosing.{own_choice};
-ghost use Rattle.node_core.specs.Meeting.{MayStarve, Meets, spelled};
+ghost use Rattle.node_core.specs.Meeting.{MayStarve, Meets};
 ghost use Rattle.node_core.specs.Moves as moves;
 ghost use Rattle.node_core.specs.declared.error.NodeError.TheVariants.{Memory};
 
@@ -22,8 +22,10 @@ use crate::error::NodeError;
 use crate::node::Node;
 use crate::parts::Step;
 use crate::rosters::{News, news_of, says_live, status_of};
-use crate::sending::{alone, ignored, quiet, send, send_on, sends};
-use codec::{Beat, Body, Grant, Leave, Offer, OfferAck, Packet, Roster, Steal};
+use crate::sending::{ignored, quiet, send_on, sends};
+use codec::{
+    Beat, Body, Datagram, Grant, Leave, Offer, OfferAck, Packet, Roster, Steal, alone, send,
+};
 use departure::{FreezeError, Move};
 use ids::{Actor, GrantId, Incarnation, Listed, Named, Store};
 use node_state::{Confirmed, State};
@@ -53,7 +55,7 @@ impl<'a> Node<'a> {
     }
 
     /// What is sent where a member leaves to an heir, or why it may not leave.
-    fn farewell(&self, alloc: Global, heir: Incarnation) -> Result<Listed<Listed<u8>>, FreezeError>
+    fn farewell(&self, alloc: Global, heir: Incarnation) -> Result<Listed<Datagram>, FreezeError>
         requires { IsMember self.now.node.state }
         ensures answer { (r : declared.Roster) → self.now.node.state ≡ Member r → Freezes (refusal (moves.move_to self.now.job heir self.now.node) (is_some self.now.node.asker.pending) r.members self.now.node.subs) (calls.departs self.now.job r heir self.now.node).sent result }
         ensures movable { IfOk result (λ _. AreMovable (moves.move_to self.now.job heir self.now.node) self.now.node.subs) }
@@ -222,9 +224,9 @@ impl<'a> Node<'a> {
     }
 
     /// A leaving node sends its Leave if nothing is held and nobody awaited any more.
-    fn left_behind(&self, alloc: Global, leave: Listed<Listed<u8>>) -> Step
+    fn left_behind(&self, alloc: Global, leave: Listed<Datagram>) -> Step
         requires { IsLeaving self.now.node.state }
-        ensures { (r : declared.Roster) (heir : _) → self.now.node.state ≡ Leaving r heir → leave ≡ spelled (moves.leave self.now.job self.now.node.incarnation r heir ∷ []) → result ≡ record { sent = spelled (moves.leaves self.now.job r heir self.now.node); fills = []; ignored = false } }
+        ensures { (r : declared.Roster) (heir : _) → self.now.node.state ≡ Leaving r heir → leave ≡ moves.leave self.now.job self.now.node.incarnation r heir ∷ [] → result ≡ record { sent = moves.leaves self.now.job r heir self.now.node; fills = []; ignored = false } }
     {
         let State::Leaving(roster, _) = self.parts.state() else {
             return quiet(alloc);
@@ -243,9 +245,9 @@ impl<'a> Node<'a> {
         alloc: Global,
         roster: &Roster,
         heir: Incarnation,
-    ) -> Result<Listed<Listed<u8>>, NodeError>
+    ) -> Result<Listed<Datagram>, NodeError>
         requires { self.now.node.state ≡ Leaving roster.now heir }
-        ensures sent { IfOk result (λ sent. sent ≡ spelled (calls.leaving_resend self.now.job self.now.node roster.now heir)) }
+        ensures sent { IfOk result (λ sent. sent ≡ calls.leaving_resend self.now.job self.now.node roster.now heir) }
         ensures memory { IfErr result (λ e. e ≡ Memory) }
     {
         let mut sent = self.beat(alloc, roster)?;
@@ -262,8 +264,8 @@ impl<'a> Node<'a> {
     }
 
     /// The Beat.
-    fn beat(&self, alloc: Global, roster: &Roster) -> Result<Listed<Listed<u8>>, AllocError>
-        ensures { IfOk result (λ sent. sent ≡ spelled (moves.beat self.now.job self.now.node.incarnation roster.now ∷ [])) }
+    fn beat(&self, alloc: Global, roster: &Roster) -> Result<Listed<Datagram>, AllocError>
+        ensures { IfOk result (λ sent. sent ≡ moves.beat self.now.job self.now.node.incarnation roster.now ∷ []) }
     {
         let beat = Beat {
             from: self.parts.incarnation(),
@@ -276,13 +278,13 @@ impl<'a> Node<'a> {
     fn send_leave(
         &self,
         alloc: Global,
-        sent: &mut Listed<Listed<u8>>,
+        sent: &mut Listed<Datagram>,
         roster: &Roster,
         heir: Incarnation,
     ) -> Result<(), AllocError>
         requires other { nat_eq heir self.now.node.incarnation ≡ false }
         requires rising { AreInOrder name_of_member roster.now.members }
-        ensures { OnOk result (sent.new ≡ sent.old ++ spelled (moves.leaves self.now.job roster.now heir self.now.node)) }
+        ensures { OnOk result (sent.new ≡ sent.old ++ moves.leaves self.now.job roster.now heir self.now.node) }
     {
         if !self.is_done(roster) {
             return Ok(());
@@ -433,10 +435,10 @@ fn confirms(ack: &OfferAck, reply: &Reply) -> bool
 /// Adds the Grants, in their order.
 fn send_grants(
     alloc: Global,
-    sent: &mut Listed<Listed<u8>>,
+    sent: &mut Listed<Datagram>,
     given: &Store<Given>,
 ) -> Result<(), AllocError>
-    ensures { OnOk result (sent.new ≡ sent.old ++ spelled (map (λ (g : moves.Given). g.packet) given.now)) }
+    ensures { OnOk result (sent.new ≡ sent.old ++ map (λ (g : moves.Given). g.packet) given.now) }
 {
     for one in given.values() {
         send(alloc, sent, one.packet)?;

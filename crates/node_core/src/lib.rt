@@ -6,12 +6,14 @@ mod changes;
 mod departing;
 mod error;
 mod grants;
+mod named;
 mod node;
 mod offers;
 mod parts;
 mod requests;
 mod rosters;
 mod sending;
+mod turns;
 mod views;
 
 pub use error::NodeError;

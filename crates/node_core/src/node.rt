@@ -9,8 +9,8 @@ ghost use Rattle.serial_meaning.specs.Job.{meaning_of};
 ghost use Rattle.steal_protocol.specs.declared.asker.Request as asking;
 ghost use Rattle.node_core.specs.Calls as calls;
 ghost use Rattle.node_core.specs.Cases as cases;
-ghost use Rattle.node_core.specs.Choosing.{own_choice};
-ghost use Rattle.node_core.specs.Meeting.{Meets, spelled};
+ghost use Rattle.node_core.specs.Choosing.{MayChoose, own_choice};
+ghost use Rattle.node_core.specs.Meeting.{Meets};
 ghost use Rattle.node_core.specs.declared.error.NodeError.TheVariants.{Memory};
 ghost use Rattle.node_core.specs.Moves as moves;
 ghost use Rattle.node_core.specs.Steps.{Does, quiet};
@@ -18,8 +18,8 @@ ghost use Rattle.node_core.specs.Steps.{Does, quiet};
 use crate::error::NodeError;
 use crate::parts::Step;
 use crate::rosters::status_of;
-use crate::sending::{alone, ignored};
-use codec::{Body, Join, Packet, ReadError, Roster, decode};
+use crate::sending::ignored;
+use codec::{Body, Join, Packet, ReadError, Roster, alone, decode};
 use ids::{Incarnation, Listed, Status};
 use node_state::{Parts, State};
 use serial_meaning::Job;
@@ -82,7 +82,7 @@ impl<'a> Node<'a> {
         incarnation: Incarnation,
     ) -> Result<(Node<'a>, Step), NodeError>
         ensures node { IfOk result (λ r. r.0 ≡ record { job = job.now; node = (calls.start job.now incarnation).after; posts = [] }) }
-        ensures step { IfOk result (λ r. r.1 ≡ record { sent = spelled (calls.start job.now incarnation).sent; fills = []; ignored = false }) }
+        ensures step { IfOk result (λ r. r.1 ≡ record { sent = (calls.start job.now incarnation).sent; fills = []; ignored = false }) }
         ensures memory { IfErr result (λ e. e ≡ Memory) }
     {
         let join = Packet::join(job.number(), Join { from: incarnation });
@@ -150,5 +150,12 @@ impl<'a> Node<'a> {
         ensures leaving { (r : declared.Roster) (heir : _) → self.now.node.state ≡ Leaving r heir → AreInOrder name_of_member r.members }
     {
         let _ = &self.parts;
+    }
+
+    /// The frame that a thief would be granted now is one that is ready, and none only where none is. Does nothing.
+    pub fn may_choose(&self)
+        ensures { MayChoose self.now.node (own_choice self.now.posts) }
+    {
+        let _ = self.parts.posts();
     }
 }

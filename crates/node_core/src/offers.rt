@@ -11,14 +11,14 @@ ghost use Rattle.node_state.specs.Parts.{IsMember, IsJoined, HasNoNewRecord};
 ghost use Rattle.node_state.specs.declared.parts.State.TheVariants.{Member};
 ghost use Rattle.node_core.specs.Cases as cases;
 ghost use Rattle.node_core.specs.Choosing.{own_choice};
-ghost use Rattle.node_core.specs.Meeting.{Meets, MeetsBehind, comes, spelled};
+ghost use Rattle.node_core.specs.Meeting.{Meets, MeetsBehind, comes};
 ghost use Rattle.node_core.specs.Moves as moves;
 
 use crate::error::NodeError;
 use crate::node::Node;
 use crate::parts::Step;
-use crate::sending::{alone, ignored, send_stops, sends};
-use codec::{Offer, OfferAck, Packet};
+use crate::sending::{ignored, send_stops, sends};
+use codec::{Datagram, Offer, OfferAck, Packet, alone};
 use departure::accept_offer;
 use ids::Listed;
 use node_state::State;
@@ -56,7 +56,7 @@ impl<'a> Node<'a> {
     fn accept(
         &mut self,
         alloc: Global,
-        before: Listed<Listed<u8>>,
+        before: Listed<Datagram>,
         sub: Sub,
     ) -> Result<Step, NodeError>
         requires member { IsMember self.old.node.state }
@@ -103,8 +103,8 @@ impl<'a> Node<'a> {
         &self,
         alloc: Global,
         offer: &Offer,
-    ) -> Result<Listed<Listed<u8>>, AllocError>
-        ensures { IfOk result (λ sent. sent ≡ spelled (moves.acknowledges self.now.job offer.now self.now.node ∷ [])) }
+    ) -> Result<Listed<Datagram>, AllocError>
+        ensures { IfOk result (λ sent. sent ≡ moves.acknowledges self.now.job offer.now self.now.node ∷ []) }
     {
         let ack = OfferAck {
             from: self.parts.incarnation(),

@@ -1,12 +1,10 @@
-//! Packets on their way, as bytes.
+//! Packets on their way.
 ghost use Rattle.std.specs.Prelude.{◌≡◌, ◌++◌, OnOk, IfOk, IsTrue, true, false, [], ◌∷◌, map};
-ghost use Rattle.node_core.specs.Meeting.{spelled};
 ghost use Rattle.node_core.specs.Moves as moves;
 ghost use Rattle.node_core.specs.Steps.{fills_of};
-ghost use Rattle.codec.specs.Table.{is_short, packet as spelling};
 
 use crate::parts::{Fill, Step};
-use codec::{Abort, Packet, TaskResult, encode_short};
+use codec::{Abort, Datagram, Packet, TaskResult, send};
 use ids::{GrantId, Incarnation, Listed, Progress};
 use recovery::Stopped;
 use serial_meaning::Job;
@@ -15,42 +13,24 @@ use sub_rules::Filling;
 use subcomputation::Sub;
 use victim_records::Records;
 
-/// Adds a packet, which is no offer, to those that are sent.
-pub fn send(alloc: Global, sent: &mut Listed<Listed<u8>>, packet: &Packet) -> Result<(), AllocError>
-    requires { IsTrue (is_short packet.now.body) }
-    ensures { OnOk result (sent.new ≡ sent.old ++ spelling.write packet.now ∷ []) }
-{
-    sent.push(Listed::from_vec(encode_short(alloc, packet)?))
-}
-
 /// Adds packets that are made already, in their order.
-pub fn send_on(sent: &mut Listed<Listed<u8>>, more: Listed<Listed<u8>>) -> Result<(), AllocError>
+pub fn send_on(sent: &mut Listed<Datagram>, more: Listed<Datagram>) -> Result<(), AllocError>
     ensures { OnOk result (sent.new ≡ sent.old ++ more) }
 {
-    for bytes in more.into_vec() {
-        sent.push(bytes)?;
+    for packet in more.into_vec() {
+        sent.push(packet)?;
     }
     Ok(())
-}
-
-/// A packet alone.
-pub fn alone(alloc: Global, packet: &Packet) -> Result<Listed<Listed<u8>>, AllocError>
-    requires { IsTrue (is_short packet.now.body) }
-    ensures { IfOk result (λ sent. sent ≡ spelling.write packet.now ∷ []) }
-{
-    let mut sent = Listed::new(alloc);
-    send(alloc, &mut sent, packet)?;
-    Ok(sent)
 }
 
 /// Adds an Abort to the holder of each record that was dropped, by rising grant.
 pub fn send_aborts(
     alloc: Global,
     job: &Job,
-    sent: &mut Listed<Listed<u8>>,
+    sent: &mut Listed<Datagram>,
     dropped: &Records,
 ) -> Result<(), AllocError>
-    ensures { OnOk result (sent.new ≡ sent.old ++ spelled (moves.aborts job.now dropped.now)) }
+    ensures { OnOk result (sent.new ≡ sent.old ++ moves.aborts job.now dropped.now) }
 {
     for record in dropped.values() {
         let abort = Abort {
@@ -69,10 +49,10 @@ pub fn send_aborts(
 pub fn send_stops(
     alloc: Global,
     job: &Job,
-    sent: &mut Listed<Listed<u8>>,
+    sent: &mut Listed<Datagram>,
     stopped: &[Stopped],
 ) -> Result<(), AllocError>
-    ensures { OnOk result (sent.new ≡ sent.old ++ spelled (map (moves.stops job.now) stopped.now)) }
+    ensures { OnOk result (sent.new ≡ sent.old ++ map (moves.stops job.now) stopped.now) }
 {
     for stop in stopped {
         let abort = Abort { grant: stop.grant };
@@ -89,11 +69,11 @@ pub fn send_stops(
 pub fn send_results(
     alloc: Global,
     job: &Job,
-    sent: &mut Listed<Listed<u8>>,
+    sent: &mut Listed<Datagram>,
     from: Incarnation,
     sub: &Sub,
 ) -> Result<(), AllocError>
-    ensures { OnOk result (sent.new ≡ sent.old ++ spelled (moves.results job.now from sub.now)) }
+    ensures { OnOk result (sent.new ≡ sent.old ++ moves.results job.now from sub.now) }
 {
     let content = sub.content();
     if let Progress::Finished(outcome) = content.progress {
@@ -151,7 +131,7 @@ pub fn quiet(alloc: Global) -> Step
 }
 
 /// Packets are sent, and no slot is filled.
-pub fn sends(alloc: Global, sent: Listed<Listed<u8>>) -> Step
+pub fn sends(alloc: Global, sent: Listed<Datagram>) -> Step
     ensures { result ≡ record { sent = sent; fills = []; ignored = false } }
 {
     Step {

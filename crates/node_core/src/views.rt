@@ -69,7 +69,7 @@ impl<'a> Node<'a> {
 }
 
 /// The work of a frame, if it is ready.
-fn work_in(
+pub fn work_in(
     alloc: Global,
     grant: GrantId,
     sub: &Sub,

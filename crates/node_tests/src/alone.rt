@@ -111,7 +111,7 @@ fn requests(alloc: Global) -> Result<Vec<Vec<u8>>, Fail> {
 fn answer(alloc: Global, node: &mut Node<'_>, bytes: &[u8]) -> Result<Vec<u8>, Fail> {
     let step = node.on_bytes(alloc, bytes)?;
     let sent = step.sent.get(0).ok_or("a packet")?;
-    Ok(Vec::from_slice(alloc, sent.as_slice())?)
+    Ok(Vec::from_slice(alloc, sent.as_bytes())?)
 }
 
 /// Whether the same request gets the same answer again.

@@ -65,7 +65,7 @@ fn runs(alloc: Global, job: &Job, node: &mut Node<'_>) -> Result<Step, Fail>
 /// The first packet of a step.
 fn first(alloc: Global, step: &Step) -> Result<Vec<u8>, Fail> {
     let sent = step.sent.get(0).ok_or("a packet")?;
-    Ok(Vec::from_slice(alloc, sent.as_slice())?)
+    Ok(Vec::from_slice(alloc, sent.as_bytes())?)
 }
 
 /// A worker that is a member.

@@ -123,7 +123,7 @@ fn seen(step: &Step) -> u8 {
         return IGNORED;
     }
     match step.sent.get(0) {
-        Some(bytes) => kind_of(bytes.as_slice()),
+        Some(sent) => kind_of(sent.as_bytes()),
         None => 0,
     }
 }

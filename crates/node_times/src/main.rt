@@ -221,8 +221,8 @@ fn give(alloc: Global, node: &mut Node<'_>, count: u32) -> Result<Vec<GrantId>> 
     for number in 0..count {
         let request = steal(alloc, 4, number)?;
         let answered = node.on_bytes(alloc, &request)?;
-        let bytes = answered.sent.get(0).context("an answer is wanted")?;
-        grants.push(granted(alloc, bytes.as_slice())?)?;
+        let sent = answered.sent.get(0).context("an answer is wanted")?;
+        grants.push(granted(alloc, sent.as_bytes())?)?;
     }
     Ok(grants)
 }
@@ -244,8 +244,8 @@ fn give_each(alloc: Global, node: &mut Node<'_>, count: u32) -> Result<Vec<Grant
     for number in 0..count {
         let request = steal(alloc, u64::from(number).wrapping_add(4), 0)?;
         let answered = node.on_bytes(alloc, &request)?;
-        let bytes = answered.sent.get(0).context("an answer is wanted")?;
-        grants.push(granted(alloc, bytes.as_slice())?)?;
+        let sent = answered.sent.get(0).context("an answer is wanted")?;
+        grants.push(granted(alloc, sent.as_bytes())?)?;
     }
     Ok(grants)
 }

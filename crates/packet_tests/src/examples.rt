@@ -1,5 +1,6 @@
 //! Each kind of packet, written out by hand from the table of packets, and the faults of each field.
 
+mod datagrams;
 mod longest;
 mod made;
 mod makers;

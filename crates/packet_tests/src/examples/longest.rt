@@ -1,7 +1,7 @@
 ghost use Rattle.std.specs.Prelude.{◌<◌, ◌≤◌, length, IfOk};
 
 use super::example;
-use codec::{Body, Grant, Packet, decode, encode, encode_short};
+use codec::{Body, Datagram, Grant, Packet, decode, encode, encode_short};
 use ids::{Actor, Count, GrantId, Incarnation, Listed, Place, Task};
 use std::alloc::Global;
 use std::test::Fail;
@@ -24,7 +24,7 @@ fn worker(word: u64) -> Result<Incarnation, Fail> {
     Ok(Incarnation::worker(word).ok_or("a worker")?)
 }
 
-/// Its grant, written by both calls: how many bytes each makes, if they are the same.
+/// Its grant, written by both calls and in a datagram: how many bytes each makes, if they are the same.
 fn longest_grant(alloc: Global) -> Result<Option<usize>, Fail> {
     let task = longest_task(alloc)?;
     let grant = GrantId::of(Actor::worker(worker(3)?), 5).ok_or("a grant")?;
@@ -32,7 +32,9 @@ fn longest_grant(alloc: Global) -> Result<Option<usize>, Fail> {
     let packet = Packet::grant(7, worker(4)?, Grant { seq, grant, task });
     let short = encode_short(alloc, &packet)?;
     let bytes = encode(alloc, &packet)?;
-    Ok((short.as_slice() == bytes.as_slice()).then_some(short.len()))
+    let datagram = Datagram::short(alloc, &packet)?;
+    let is_same = short.as_slice() == bytes.as_slice() && datagram.as_bytes() == bytes.as_slice();
+    Ok(is_same.then_some(short.len()))
 }
 
 /// A roster as long as one can be, by hand: 4,096 members who left, each to the next.
@@ -57,7 +59,10 @@ fn longest_roster(alloc: Global) -> Result<Option<usize>, Fail> {
     };
     let short = encode_short(alloc, &packet)?;
     let bytes = encode(alloc, &packet)?;
-    let is_same = short.as_slice() == bytes.as_slice() && short.as_slice() == by_hand.as_slice();
+    let datagram = Datagram::short(alloc, &packet)?;
+    let is_same = short.as_slice() == bytes.as_slice()
+        && short.as_slice() == by_hand.as_slice()
+        && datagram.as_bytes() == by_hand.as_slice();
     Ok(is_same.then_some(short.len()))
 }
 

@@ -2,8 +2,8 @@
 
 use super::{answer, example, is_kept};
 use codec::{
-    Abort, Beat, Body, EncodeError, Grant, Join, Leave, Offer, OfferAck, Packet, Refuse, ResultAck,
-    Roster, Steal, TaskResult, decode, encode,
+    Abort, Beat, Body, Datagram, EncodeError, Grant, Join, Leave, Offer, OfferAck, Packet, Refuse,
+    ResultAck, Roster, Steal, TaskResult, decode, encode,
 };
 use ids::{
     Actor, Address, Count, Epoch, Frame, FrameNo, GrantId, Hop, Incarnation, Listed, Member,
@@ -427,10 +427,18 @@ fn long_bytes(alloc: Global, last: usize) -> Result<Vec<u8>, Fail> {
     Ok(encode(alloc, &packet)?)
 }
 
-/// Whether such an offer is too big to be written.
+/// Whether a datagram of such an offer has these bytes.
+fn is_in_datagram(alloc: Global, last: usize, bytes: &[u8]) -> Result<bool, Fail> {
+    let packet = long_offer(alloc, last).ok_or("a packet")?;
+    Ok(Datagram::of(alloc, &packet)?.as_bytes() == bytes)
+}
+
+/// Whether such an offer is too big to be written, in a datagram too.
 fn is_too_big(alloc: Global, last: usize) -> Result<bool, Fail> {
     let packet = long_offer(alloc, last).ok_or("a packet")?;
-    Ok(encode(alloc, &packet).err() == Some(EncodeError::TooBig))
+    let in_datagram = Datagram::of(alloc, &packet).err();
+    let written = encode(alloc, &packet).err();
+    Ok(in_datagram == Some(EncodeError::TooBig) && written == Some(EncodeError::TooBig))
 }
 
 /// The spelling of the offer whose last place has 955 steps, with one step more in that place.
@@ -448,6 +456,7 @@ fn a_packet_has_at_most_1048576_bytes(rt: HostRuntime) -> Result<(), Fail> {
     let bytes = long_bytes(alloc, 955)?;
     assert_eq!(rt; bytes.len(), 1_048_576);
     assert!(rt; is_kept(alloc, bytes.as_slice())?);
+    assert!(rt; is_in_datagram(alloc, 955, bytes.as_slice())?);
     let longer = one_step_more(alloc, bytes.as_slice()).ok_or("bytes")?;
     assert_eq!(rt; longer.len(), 1_048_577);
     assert_eq!(rt; answer(alloc, longer.as_slice())?.as_str(), "E30");

@@ -1,5 +1,5 @@
 use Rattle.std.proofs.Common.{◌≡◌, ◌++◌}
 use Rattle.node_core.proofs.sending.send_on.Given as goal
 
-abbrev pub invariant-loop-bytes : goal.invariant-loop-bytes
-invariant-loop-bytes l = l.sent ++ l.bytes-iterator.rest.items ≡ l.fn.sent ++ l.fn.more
+abbrev pub invariant-loop-packet : goal.invariant-loop-packet
+invariant-loop-packet l = l.sent ++ l.packet-iterator.rest.items ≡ l.fn.sent ++ l.fn.more

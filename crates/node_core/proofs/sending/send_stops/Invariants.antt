@@ -1,7 +1,6 @@
 use Rattle.std.proofs.Common.{◌≡◌, ◌++◌, drop, map}
-use Rattle.node_core.specs.Meeting.{spelled}
 use Rattle.node_core.specs.Moves.{stops}
 use Rattle.node_core.proofs.sending.send_stops.Given as goal
 
 abbrev pub invariant-loop-stop : goal.invariant-loop-stop
-invariant-loop-stop l = l.sent ++ spelled (map (stops l.job) (drop l.stop-index l.stopped)) ≡ l.fn.sent ++ spelled (map (stops l.job) l.stopped)
+invariant-loop-stop l = l.sent ++ map (stops l.job) (drop l.stop-index l.stopped) ≡ l.fn.sent ++ map (stops l.job) l.stopped

@@ -1,7 +1,8 @@
 use Rattle.std.proofs.Common.{◌+◌, inl, ap, sym, ◌∙◌}
 use Rattle.checkpoint.specs.Commit.{next_of}
+use Rattle.checkpoint.specs.declared.record.StoreError.TheVariants as store_error
 use Rattle.clearinghouse.specs.House.{opened}
-use Rattle.clearinghouse.proofs.Opening.{an_epoch, either_kept, found_by, is_open, is_opened, is_refused, kept_is, last, next_is, no_epoch, refused_alone, refused_store, still_either, still_kept, told_alone}
+use Rattle.clearinghouse.proofs.Opening.{an_epoch, begins, either_kept, found_by, is_open, is_opened, is_refused, kept_is, last, next_is, no_epoch, not_refused, refused_alone, refused_store, still_either, still_kept, told_alone}
 use Rattle.clearinghouse.proofs.house.House.open.Goals as goal
 
 pub returns-in-Err-clause-refused : goal.returns-in-Err-clause-refused
@@ -45,7 +46,8 @@ returns-in-Ok-commit-clause-opened g c =
     let next = next_is g.D.Disk.device g.D.Disk.planned c.args.job.now c.args.disk s found c.record-kept.result c.at.result c.in-Some.epoch c.record-kept.ensures.same c.at.ensures epoch in
     let told = next_of s.«record» c.at.result c.record-kept.result.outcome in
     let house = c.opened.ensures ∙ ap (opened c.args.limit) (kept_is g.D.Disk.device g.D.Disk.planned c.args.job.now c.args.disk s found c.record-kept.result c.sequence-sequence.result c.in-Some.epoch c.record-kept.ensures.same c.sequence-sequence.ensures epoch) in
-    (s.sequence, s.«record», is_opened g.D.Disk.device g.D.Disk.planned c.args.job.now c.args.disk s found c.commit.new.self told next c.args.limit c.opened.result house c.in-Ok-commit.ensures.ok c.in-Ok-commit.ensures.calls c.in-Ok-commit.ensures.plan c.in-Ok-commit.ensures.kept)
+    let begun = begins g.D.Disk.device g.D.Disk.planned c.args.job.now c.args.disk s found c.in-Some.epoch c.sequence-sequence.result (rw c.record-kept.ensures.same at c.in-Some.ensures) c.sequence-sequence.ensures c.sequence-sequence.type_inv in
+    (s.sequence, s.«record», is_opened g.D.Disk.device g.D.Disk.planned c.args.job.now c.args.disk s found c.commit.new.self told next c.args.limit c.opened.result house c.in-Ok-commit.ensures.ok c.in-Ok-commit.ensures.calls c.in-Ok-commit.ensures.plan c.in-Ok-commit.ensures.kept (begun (λ spent. not_refused store_error.Spent (c.in-Ok-commit.ensures.spent.1 spent))))
 
 pub returns-in-Err-commit-clause-refused : goal.returns-in-Err-commit-clause-refused
 returns-in-Err-commit-clause-refused g c =
@@ -54,8 +56,9 @@ returns-in-Err-commit-clause-refused g c =
     let epoch = an_epoch c.record-kept.result.epoch c.in-Some.epoch c.in-Some.ensures in
     let next = next_is g.D.Disk.device g.D.Disk.planned c.args.job.now c.args.disk s found c.record-kept.result c.at.result c.in-Some.epoch c.record-kept.ensures.same c.at.ensures epoch in
     let told = next_of s.«record» c.at.result c.record-kept.result.outcome in
+    let begun = begins g.D.Disk.device g.D.Disk.planned c.args.job.now c.args.disk s found c.in-Some.epoch c.sequence-sequence.result (rw c.record-kept.ensures.same at c.in-Some.ensures) c.sequence-sequence.ensures c.sequence-sequence.type_inv in
     let said = c.in-Err-commit.ensures in
-    rw c.from-in-Err-commit.ensures (is_refused g.D.Disk.device g.D.Disk.planned c.args.job.now c.args.disk s found c.commit.new.self told next c.in-Err-commit.fault c.into_disk-in-Err-commit.result c.into_disk-in-Err-commit.ensures said.refused said.spent.0 said.unchanged said.stopped)
+    rw c.from-in-Err-commit.ensures (is_refused g.D.Disk.device g.D.Disk.planned c.args.job.now c.args.disk s found c.commit.new.self told next c.in-Err-commit.fault c.into_disk-in-Err-commit.result c.into_disk-in-Err-commit.ensures said.refused said.spent begun said.unchanged said.stopped)
 
 pub returns-in-Err-commit-clause-alone : goal.returns-in-Err-commit-clause-alone
 returns-in-Err-commit-clause-alone g c n r reads own = rw c.from-in-Err-commit.ensures (refused_alone c.in-Err-commit.fault c.in-Err-commit.ensures.refused)

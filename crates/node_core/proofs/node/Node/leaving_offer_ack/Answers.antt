@@ -5,7 +5,6 @@ use Rattle.node_state.specs.Node.{NodeOf, put_confirmed}
 use Rattle.node_state.specs.declared.parts.State.TheVariants.{Leaving}
 use Rattle.node_core.specs.Cases.{confirms, is_released}
 use Rattle.node_core.specs.Choosing.{own_choice}
-use Rattle.node_core.specs.Meeting.{spelled}
 use Rattle.node_core.specs.Moves.{awaited, leave, leaves}
 use Rattle.node_core.proofs.Keeping.{gone, kept, same_leaving}
 use Rattle.node_core.proofs.Offering.{behind_view, confirmed, released}
@@ -19,9 +18,9 @@ returns-then-is_released c =
     let at : c.args.self.now.node.state ≡ Leaving c.in-Leaving.roster c.in-Leaving.heir = search rules in
     let is : is_released c.in-Leaving.heir c.args.ack (sub_in c.args.ack.grant c.args.self.now.node.subs) ≡ true = search rules in
     let here : c.self.inside.parts.node.state ≡ Leaving c.in-Leaving.roster c.in-Leaving.heir = search rules in
-    let sent : c.in_ok-sent.sent ≡ spelled (leave c.args.self.now.job c.args.self.now.node.incarnation c.in-Leaving.roster c.in-Leaving.heir ∷ []) = search rules in
-    let made : c.in_ok-sent.sent ≡ spelled (leave c.self.inside.job.now c.self.inside.parts.node.incarnation c.in-Leaving.roster c.in-Leaving.heir ∷ []) = rw (← c.self.view_is) at sent in
-    let told : c.left_behind.result ≡ record { sent = spelled (leaves c.self.inside.job.now c.in-Leaving.roster c.in-Leaving.heir c.remove.new.self.node); fills = []; ignored = false } = c.left_behind.ensures c.in-Leaving.roster c.in-Leaving.heir (rw c.remove.ensures here) (rw c.remove.ensures made) in
+    let sent : c.in_ok-sent.sent ≡ leave c.args.self.now.job c.args.self.now.node.incarnation c.in-Leaving.roster c.in-Leaving.heir ∷ [] = search rules in
+    let made : c.in_ok-sent.sent ≡ leave c.self.inside.job.now c.self.inside.parts.node.incarnation c.in-Leaving.roster c.in-Leaving.heir ∷ [] = rw (← c.self.view_is) at sent in
+    let told : c.left_behind.result ≡ record { sent = leaves c.self.inside.job.now c.in-Leaving.roster c.in-Leaving.heir c.remove.new.self.node; fills = []; ignored = false } = c.left_behind.ensures c.in-Leaving.roster c.in-Leaving.heir (rw c.remove.ensures here) (rw c.remove.ensures made) in
     rw (released c.args.self.now.job (own_choice c.args.self.now.posts) c.args.ack c.args.self.now.node c.in-Leaving.roster c.in-Leaving.heir at is)
     (behind_view _ c.args.self.now c.remove.new.self (λ n. record n { subs = without_sub c.args.ack.grant n.subs }) c.in-Leaving.roster c.in-Leaving.heir c.left_behind.result c.self.view_is c.remove.ensures told)
 
@@ -37,8 +36,8 @@ returns-then-is_confirmed c =
     let not_so : is_released c.in-Leaving.heir c.args.ack (sub_in c.args.ack.grant c.args.self.now.node.subs) ≡ false = search rules in
     let is : (nat_eq c.args.ack.hop 0 && list_any (confirms c.args.ack) (awaited c.in-Leaving.roster c.args.self.now.node)) ≡ true = search rules in
     let here : c.self.inside.parts.node.state ≡ Leaving c.in-Leaving.roster c.in-Leaving.heir = search rules in
-    let sent : c.in_ok-sent.sent ≡ spelled (leave c.args.self.now.job c.args.self.now.node.incarnation c.in-Leaving.roster c.in-Leaving.heir ∷ []) = search rules in
-    let made : c.in_ok-sent.sent ≡ spelled (leave c.self.inside.job.now c.self.inside.parts.node.incarnation c.in-Leaving.roster c.in-Leaving.heir ∷ []) = rw (← c.self.view_is) at sent in
-    let told : c.left_behind-then-is_confirmed.result ≡ record { sent = spelled (leaves c.self.inside.job.now c.in-Leaving.roster c.in-Leaving.heir c.confirm.new.self.node); fills = []; ignored = false } = c.left_behind-then-is_confirmed.ensures c.in-Leaving.roster c.in-Leaving.heir (rw c.in_ok-confirm.ensures.ok here) (rw c.in_ok-confirm.ensures.ok made) in
+    let sent : c.in_ok-sent.sent ≡ leave c.args.self.now.job c.args.self.now.node.incarnation c.in-Leaving.roster c.in-Leaving.heir ∷ [] = search rules in
+    let made : c.in_ok-sent.sent ≡ leave c.self.inside.job.now c.self.inside.parts.node.incarnation c.in-Leaving.roster c.in-Leaving.heir ∷ [] = rw (← c.self.view_is) at sent in
+    let told : c.left_behind-then-is_confirmed.result ≡ record { sent = leaves c.self.inside.job.now c.in-Leaving.roster c.in-Leaving.heir c.confirm.new.self.node; fills = []; ignored = false } = c.left_behind-then-is_confirmed.ensures c.in-Leaving.roster c.in-Leaving.heir (rw c.in_ok-confirm.ensures.ok here) (rw c.in_ok-confirm.ensures.ok made) in
     rw (confirmed c.args.self.now.job (own_choice c.args.self.now.posts) c.args.ack c.args.self.now.node c.in-Leaving.roster c.in-Leaving.heir at not_so is)
     (behind_view _ c.args.self.now c.confirm.new.self (λ n. record n { confirmed = put_confirmed (record { thief = c.args.ack.from; grant = c.args.ack.grant }) n.confirmed }) c.in-Leaving.roster c.in-Leaving.heir c.left_behind-then-is_confirmed.result c.self.view_is c.in_ok-confirm.ensures.ok told)

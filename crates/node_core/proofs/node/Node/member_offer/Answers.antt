@@ -1,5 +1,4 @@
 use Rattle.std.proofs.Common.{◌≡◌, true, [], ◌∷◌, Some, None, rules}
-use Rattle.codec.specs.Table.{packet as spelling}
 use Rattle.departure.specs.Offers.{accepted, offered}
 use Rattle.subcomputation.specs.Subs.{sub_in}
 use Rattle.node_state.specs.Node.{hop_in}
@@ -24,7 +23,7 @@ returns-in-Some c =
     let has = has_roster c.args.self.now.node.state c.requires.member in
     let above : is_above c.args.offer.hop (hop_in c.args.offer.grant c.args.self.now.node.seen) ≡ true = search rules in
     let absent : sub_in c.args.offer.grant c.args.self.now.node.subs ≡ None = search rules in
-    let sent : c.in_ok-sent.sent ≡ spelling.write (acknowledges c.args.self.now.job c.args.offer c.args.self.now.node) ∷ [] = search rules in
-    let told : MeetsBehind (spelling.write (acknowledges c.args.self.now.job c.args.offer c.args.self.now.node) ∷ []) (comes c.args.self.now.job has.roster c.in-Some.sub c.args.self.now.node) c.accept.result c.args.self.now c.accept.new.self = rw sent at (c.accept.ensures has.roster has.is) in
+    let sent : c.in_ok-sent.sent ≡ acknowledges c.args.self.now.job c.args.offer c.args.self.now.node ∷ [] = search rules in
+    let told : MeetsBehind (acknowledges c.args.self.now.job c.args.offer c.args.self.now.node ∷ []) (comes c.args.self.now.job has.roster c.in-Some.sub c.args.self.now.node) c.accept.result c.args.self.now c.accept.new.self = rw sent at (c.accept.ensures has.roster has.is) in
     rw (offer_taken c.args.self.now.job (own_choice c.args.self.now.posts) c.args.offer c.args.self.now.node has.roster has.is above absent taken.fits)
     (meets_behind (acknowledges c.args.self.now.job c.args.offer c.args.self.now.node) (comes c.args.self.now.job has.roster (offered c.args.offer) c.args.self.now.node) c.accept.result c.args.self.now c.accept.new.self (rw taken.same at told))

@@ -1,5 +1,4 @@
 use Rattle.std.proofs.Common.{◌≡◌, ◌∙◌, [], ◌∷◌, Some, sym, rules}
-use Rattle.codec.specs.Table.{packet as spelling}
 use Rattle.sub_rules.specs.Changes.{closed_in}
 use Rattle.victim_records.specs.Records.{record_in}
 use Rattle.subcomputation.specs.Subs.{host_in, sub_in}
@@ -25,6 +24,6 @@ pub returns : goal.returns
 returns c =
     let host : host_in c.args.outcome.grant c.args.self.now.node.subs ≡ Some c.in-Some.host.now = search rules in
     let is : Some c.in-Some-2.changed ≡ changed_by c.in-Some.host.now (closed_in c.args.outcome.outcome c.in-Some.host.now.content (record_in c.args.outcome.grant c.in-Some.host.now.content.records)) = sym c.in-Some-2.is ∙ c.in_ok-changed.ensures.change in
-    let sent : c.in_ok-sent.sent ≡ spelling.write (ack_of c.args.self.now.job c.args.outcome) ∷ [] = search rules in
-    let behind : MeetsBehind (spelling.write (ack_of c.args.self.now.job c.args.outcome) ∷ []) (changes_of c.args.self.now.job c.in-Some-2.changed c.args.self.now.node) c.change.result c.args.self.now c.change.new.self = rw sent at c.change.ensures in
+    let sent : c.in_ok-sent.sent ≡ ack_of c.args.self.now.job c.args.outcome ∷ [] = search rules in
+    let behind : MeetsBehind (ack_of c.args.self.now.job c.args.outcome ∷ []) (changes_of c.args.self.now.job c.in-Some-2.changed c.args.self.now.node) c.change.result c.args.self.now c.change.new.self = rw sent at c.change.ensures in
     rw (result_known c.args.self.now.job (own_choice c.args.self.now.posts) c.args.outcome c.args.self.now.node c.in-Some.host.now c.in-Some-2.changed c.requires host is) (meets_behind (ack_of c.args.self.now.job c.args.outcome) (changes_of c.args.self.now.job c.in-Some-2.changed c.args.self.now.node) c.change.result c.args.self.now c.change.new.self behind)

@@ -3,7 +3,6 @@ use Rattle.recovery.specs.Plans.{IsPlan, stop_of}
 use Rattle.subcomputation.specs.Recovering.{recovered}
 use Rattle.subcomputation.specs.Subs.{grants_of}
 use Rattle.node_state.specs.Parts.{PartsOf}
-use Rattle.node_core.specs.Meeting.{spelled}
 use Rattle.node_core.specs.Moves.{stops}
 use Rattle.node_core.proofs.Stopping.{recovered_view, stops_sent}
 use Rattle.node_core.proofs.node.Node.recover.Goals as goal
@@ -20,7 +19,7 @@ pub returns : goal.returns
 returns c =
     let plan : IsPlan c.args.roster.members c.args.self.now.node.subs c.in_ok-plan.plan = search rules in
     let told : c.stopped.result.now ≡ map stop_of (recovered c.args.roster.members (grants_of c.args.self.now.node.subs) c.args.self.now.node.subs).stopped = c.stopped.ensures ∙ plan.stopped in
-    let sent : c.send_stops.new.sent ≡ spelled (map (stops c.args.self.now.job) c.stopped.result.now) = search rules in (
+    let sent : c.send_stops.new.sent ≡ map (stops c.args.self.now.job) c.stopped.result.now = search rules in (
       c.sends.ensures ∙ ap (λ bytes. record { sent = bytes; fills = []; ignored = false }) (sent ∙ stops_sent c.args.self.now.job (recovered c.args.roster.members (grants_of c.args.self.now.node.subs) c.args.self.now.node.subs).stopped c.stopped.result.now told),
       recovered_view _ c.args.self.now c.recover.new.self c.args.roster c.victim_status-victim.result c.self.view_is c.in_ok-recover.ensures.ok c.victim_status-victim.ensures,
     )

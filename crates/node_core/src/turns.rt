@@ -1,0 +1,49 @@
+//! A node evaluates a frame itself.
+ghost use Rattle.std.specs.Prelude.{◌≡◌, IsErrOf};
+ghost use Rattle.node_core.specs.Calls as calls;
+ghost use Rattle.node_core.specs.Meeting.{MayStarve, Meets};
+ghost use Rattle.node_core.specs.declared.error.NodeError.TheVariants.{Memory};
+
+use crate::error::NodeError;
+use crate::node::Node;
+use crate::parts::Step;
+use crate::views::work_in;
+use body_eval::Done;
+use ids::{FrameNo, GrantId};
+use node_state::State;
+use std::alloc::Global;
+
+impl<'a> Node<'a> {
+    /// Evaluates a ready frame of a grant's subcomputation, and carries it out by that turn. E60 where the node isn't joined or
+    /// has ended; E40 where the frame isn't ready here, as none is at a leaving node; E62 where no frame numbers are left; E63
+    /// where there is no memory. A refusal changes nothing.
+    #[tactic(auto, unfolding(crate::specs::Cases::by_option, node_state::specs::Node::by_state))]
+    pub fn exec_ready(
+        &mut self,
+        alloc: Global,
+        grant: GrantId,
+        frame: FrameNo,
+    ) -> Result<Step, NodeError>
+        ensures answer { Meets (calls.exec_ready self.old.job grant frame self.old.node) result self.old self.new }
+        ensures starved { IsErrOf result Memory → MayStarve (calls.exec_ready self.old.job grant frame self.old.node) }
+    {
+        match self.parts.state() {
+            State::Member(_) => {}
+            State::Leaving(_, _) => return Err(NodeError::Stale),
+            State::Joining | State::Ended => return Err(NodeError::NotJoined),
+        }
+        let Some(sub) = self.parts.sub(grant) else {
+            return Err(NodeError::Stale);
+        };
+        if !sub.is_ready(frame) {
+            return Err(NodeError::Stale);
+        }
+        let checked = self.job.checked();
+        let _program = checked.program();
+        let Some(work) = work_in(alloc, grant, sub, frame)? else {
+            return Err(NodeError::Stale);
+        };
+        let done = Done::of(alloc, checked, work.thread, work.numbers.into_vec())?;
+        self.exec(alloc, grant, frame, &done)
+    }
+}
