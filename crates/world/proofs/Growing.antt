@@ -1,7 +1,10 @@
 -- The net, the fills and the used words only grow, whatever happens.
-use Rattle.std.proofs.Common.{◌≡◌, inl, inr, refl, sym, ◌∙◌, subst, ℕ, Bool, true, false, not, ◌&&◌, cond, List, [], ◌∷◌, ◌++◌, Option, None, Some, is_some}
+use Rattle.std.proofs.Common.{◌≡◌, inl, inr, refl, sym, ap, ◌∙◌, subst, ℕ, Bool, true, false, not, ◌&&◌, cond, List, [], ◌∷◌, ◌++◌, Option, None, Some, is_some, Ordering, Less, Equal, Greater}
 use Rattle.body_eval.specs.Done.{DoneOf}
 use Rattle.codec.specs.Table.{PacketOf}
+use Rattle.ids.proofs.KeyedLaws.{put_found}
+use Rattle.ids.proofs.NameOrder.{equal_to_itself, exact_names, names_total}
+use Rattle.ids.specs.Named.{item_in, name_cmp, put_in}
 use Rattle.ids.specs.Names.{is_worker}
 use Rattle.node_core.specs.Calls.{start}
 use Rattle.serial_meaning.specs.Job.{JobOf}
@@ -17,26 +20,26 @@ use Rattle.event_script.specs.declared.event.HouseEvent.{HouseEvent}
 use Rattle.event_script.specs.declared.event.HouseEvent.TheVariants as at_house
 use Rattle.event_script.specs.declared.event.NodeEvent.{NodeEvent}
 use Rattle.event_script.specs.declared.event.NodeEvent.TheVariants.{Deliver, Exec, Ask, Resend, Depart}
+use Rattle.subcomputation.proofs.Others.{put_other}
 use Rattle.world.specs.Answers.{Outturn, Unfit, answered, same, stepped, with_some}
 use Rattle.world.specs.Houses.{Ends, Halts, RestartHalts, Restarts, house_answer}
-use Rattle.world.specs.Nodes.{at_node, is_used}
+use Rattle.world.specs.Nodes.{at_node}
 use Rattle.world.specs.Steps.{CarriedOut, DeviceFails, HouseEnds, HouseHalts, IfApplies, Step, ThenStopped, house_crash}
-use Rattle.world.specs.World.{Down, HouseAt, IsUp, WorldOf, node_in}
+use Rattle.world.specs.World.{Down, HouseAt, IsUp, WorldOf, is_used, name_of_word, node_in, with_used}
 
 pub record Grown (w : WorldOf) (o : Outturn) : Type 0 where
   pub sent : List PacketOf
   pub net : o.world.net ≡ w.net ++ sent
   pub filled : List Fill
   pub fills : o.world.fills ≡ w.fills ++ filled
-  pub words : List ℕ
-  pub used : o.world.used ≡ words ++ w.used
+  pub used : (word : ℕ) → is_used word w ≡ true → is_used word o.world ≡ true
 
 nothing : {A : Type 0} (xs : List A) → xs ≡ xs ++ []
 nothing [] = refl
 nothing (x ∷ xs) = λ i. x ∷ nothing xs i
 
 no_more : (w : WorldOf) (o : Outturn) → o.world.net ≡ w.net → o.world.fills ≡ w.fills → o.world.used ≡ w.used → Grown w o
-no_more w o p q r = record { sent = []; net = p ∙ nothing w.net; filled = []; fills = q ∙ nothing w.fills; words = []; used = r }
+no_more w o p q r = record { sent = []; net = p ∙ nothing w.net; filled = []; fills = q ∙ nothing w.fills; used = λ word was. subst (λ (words : List ℕ). is_some (item_in name_of_word (name_of_word word) words) ≡ true) (sym r) was }
 
 is : (w : WorldOf) (o x : Outturn) → o ≡ x → Grown w x → Grown w o
 is w o x p grown = subst (Grown w) (sym p) grown
@@ -53,16 +56,33 @@ by_some w (Some a) f p = p a
 answers : (a : ℕ) (s : node.Answer) (w : WorldOf) → Grown w (answered a s w)
 answers a node.Ignored w = no_more w _ refl refl refl
 answers a (node.Refused e) w = no_more w _ refl refl refl
-answers a (node.Does s) w = record { sent = s.sent; net = refl; filled = s.fills; fills = refl; words = []; used = refl }
+answers a (node.Does s) w = record { sent = s.sent; net = refl; filled = s.fills; fills = refl; used = λ word was. was }
 
-started : (word a : ℕ) (s : node.StepOf) (w : WorldOf) → Grown w (stepped a s (record w { used = word ∷ w.used }))
-started word a s w = record { sent = s.sent; net = refl; filled = s.fills; fills = refl; words = word ∷ []; used = refl }
+-- a used word stays used where another is
+stays : (word other : ℕ) (words : List ℕ) → is_some (item_in name_of_word (name_of_word other) words) ≡ true → is_some (item_in name_of_word (name_of_word other) (put_in name_of_word word words)) ≡ true
+stays word other words was = by_order (name_cmp (name_of_word other) (name_of_word word)) refl
+  where
+    differ : (r : Ordering) → name_cmp (name_of_word other) (name_of_word word) ≡ r → (r ≡ Equal → ⊥) → name_of_word other ≡ name_of_word word → ⊥
+    differ r is apart same = let equal : name_cmp (name_of_word other) (name_of_word word) ≡ Equal = ap (name_cmp (name_of_word other)) (sym same) ∙ equal_to_itself (name_of_word other) in apart (sym is ∙ equal)
+
+    passed : (name_of_word other ≡ name_of_word word → ⊥) → is_some (item_in name_of_word (name_of_word other) (put_in name_of_word word words)) ≡ true
+    passed apart = ap is_some (put_other name_of_word (name_of_word other) word words apart) ∙ was
+
+    by_order : (r : Ordering) → name_cmp (name_of_word other) (name_of_word word) ≡ r → is_some (item_in name_of_word (name_of_word other) (put_in name_of_word word words)) ≡ true
+    by_order Less is = passed (differ Less is (λ e. cc))
+    by_order Equal is =
+        ap (λ n. is_some (item_in name_of_word n (put_in name_of_word word words))) (exact_names (name_of_word other) (name_of_word word) is)
+        ∙ ap is_some (put_found name_of_word name_cmp names_total word words)
+    by_order Greater is = passed (differ Greater is (λ e. cc))
+
+started : (word a : ℕ) (s : node.StepOf) (w : WorldOf) → Grown w (stepped a s (with_used word w))
+started word a s w = record { sent = s.sent; net = refl; filled = s.fills; fills = refl; used = λ other was. stays word other w.used was }
 
 -- to be stopped leaves them
 then_stopped : (w : WorldOf) (P : Outturn → Type 0) (o : Outturn) → ((x : Outturn) → P x → Grown w x) → ThenStopped P o → Grown w o
 then_stopped w P o p s =
     let before = p s.0 s.1 in
-    is w o _ s.2 (record { sent = before.sent; net = before.net; filled = before.filled; fills = before.fills; words = before.words; used = before.used })
+    is w o _ s.2 (record { sent = before.sent; net = before.net; filled = before.filled; fills = before.fills; used = before.used })
 
 crash_of : (h : HouseAt) (w : WorldOf) → Grown w (house_crash h w)
 crash_of Down w = no_more w _ refl refl refl
@@ -83,19 +103,19 @@ module _ (job : JobOf) where
   ends : (h : _) (a : house.Answer) (w : WorldOf) (o : Outturn) → Ends job h a w o → Grown w o
   ends h house.Ignored w o s = is w o _ s (no_more w _ refl refl refl)
   ends h (house.Refused e) w o s = is w o _ s (no_more w _ refl refl refl)
-  ends h (house.Does d) w o s = is w o _ s.2 (record { sent = d.sent; net = refl; filled = []; fills = nothing w.fills; words = []; used = refl })
+  ends h (house.Does d) w o s = is w o _ s.2 (record { sent = d.sent; net = refl; filled = []; fills = nothing w.fills; used = λ word was. was })
 
   halts : (h : _) (a : house.Answer) (k : ℕ) (bytes : List ℕ) (w : WorldOf) (o : Outturn) → Halts job h a k bytes w o → Grown w o
   halts h house.Ignored k bytes w o s = absurd s
   halts h (house.Refused e) k bytes w o s = absurd s
-  halts h (house.Does d) k bytes w o s = is w o _ s.3 (record { sent = []; net = refl; filled = []; fills = nothing w.fills; words = []; used = refl })
+  halts h (house.Does d) k bytes w o s = is w o _ s.3 (record { sent = []; net = refl; filled = []; fills = nothing w.fills; used = λ word was. was })
 
   restarts : (w : WorldOf) (o : Outturn) → Restarts job w o → Grown w o
-  restarts w o (inl s) = is w o _ s.1 (record { sent = []; net = refl; filled = []; fills = nothing w.fills; words = []; used = refl })
+  restarts w o (inl s) = is w o _ s.1 (record { sent = []; net = refl; filled = []; fills = nothing w.fills; used = λ word was. was })
   restarts w o (inr s) = is w o _ s.2 (no_more w _ refl refl refl)
 
   restart_halts : (k : ℕ) (bytes : List ℕ) (w : WorldOf) (o : Outturn) → RestartHalts job k bytes w o → Grown w o
-  restart_halts k bytes w o s = is w o _ s.3 (record { sent = []; net = refl; filled = []; fills = nothing w.fills; words = []; used = refl })
+  restart_halts k bytes w o s = is w o _ s.3 (record { sent = []; net = refl; filled = []; fills = nothing w.fills; used = λ word was. was })
 
   house_ends : (e : HouseEvent) (h : HouseAt) (w : WorldOf) (o : Outturn) → HouseEnds job e h w o → Grown w o
   house_ends e (IsUp (Open h)) w o s = applied _ _ _ (house_answer job e h w) (λ a. ends h a w o) (λ p. is w o _ p (no_more w _ refl refl refl)) s

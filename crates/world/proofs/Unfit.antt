@@ -15,9 +15,9 @@ use Rattle.event_script.specs.declared.event.HouseEvent.TheVariants as at_house
 use Rattle.event_script.specs.declared.event.NodeEvent.TheVariants.{Deliver}
 use Rattle.world.specs.Answers.{Outturn, Unfit, house_same, same, with_some}
 use Rattle.world.specs.Houses.{house_answer}
-use Rattle.world.specs.Nodes.{at_node, is_used}
+use Rattle.world.specs.Nodes.{at_node}
 use Rattle.world.specs.Steps.{Applies, HouseEnds, HouseHalts, IfApplies, Step, ThenStopped}
-use Rattle.world.specs.World.{Down, HouseAt, IsUp, WorldOf, node_in}
+use Rattle.world.specs.World.{Down, HouseAt, IsUp, WorldOf, is_used, node_in}
 
 if_not : {A : Type 0} (a b c : Bool) (x y : A) → (a ≡ false) ⊎ ((b ≡ true) ⊎ (c ≡ true)) → cond (a && not b && not c) x y ≡ y
 if_not true true true x y p = refl

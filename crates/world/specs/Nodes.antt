@@ -1,6 +1,5 @@
 -- What events of nodes do. The frame that a Steal is granted is left open: it may be any that is ready.
-use Rattle.std.specs.Prelude.{ℕ, ◌&&◌, Bool, not, nat_eq, if◌then◌else◌, [], ◌∷◌, Option, None, Some, is_some, slice_get}
-use Rattle.std.specs.List.{list_any}
+use Rattle.std.specs.Prelude.{ℕ, ◌&&◌, Bool, not, if◌then◌else◌, [], Option, None, Some, is_some, slice_get}
 use Rattle.ids.specs.Names.{Grant, is_worker}
 use Rattle.body_eval.specs.Done.{DoneOf}
 use Rattle.serial_meaning.specs.Job.{JobOf}
@@ -18,10 +17,7 @@ use Rattle.event_script.specs.declared.event.FrameOf.{FrameOf}
 use Rattle.event_script.specs.declared.event.NodeEvent.{NodeEvent}
 use Rattle.event_script.specs.declared.event.NodeEvent.TheVariants.{Deliver, Exec, Ask, Resend, Depart}
 use Rattle.world.specs.Answers.{Did, Outturn, Unfit, answered, same, stepped, with_some}
-use Rattle.world.specs.World.{WorldOf, node_in, without_node}
-
-abbrev pub is_used : ℕ → WorldOf → Bool
-is_used word w = list_any (nat_eq word) w.used
+use Rattle.world.specs.World.{WorldOf, is_used, node_in, with_used, without_node}
 
 -- whom a node asks
 abbrev pub victim_of : Asked → Victim
@@ -53,7 +49,7 @@ module _ (job : JobOf) where
   abbrev pub starts : ℕ → ℕ → WorldOf → Outturn
   starts a word w =
       if can_start a word w
-      then stepped a (call.start job word) (record w { used = word ∷ w.used })
+      then stepped a (call.start job word) (with_used word w)
       else same Unfit w
 
   -- a frame is carried out by its own turn, or by one that was evaluated before

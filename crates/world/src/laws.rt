@@ -15,10 +15,9 @@ ghost use Rattle.event_script.specs.declared.event.NodeEvent.TheVariants as node
 ghost use Rattle.world.specs.Agrees.{Agrees};
 ghost use Rattle.world.specs.Answers.{Outturn, Unfit, house_same, same};
 ghost use Rattle.world.specs.Lost.{NothingLost};
-ghost use Rattle.world.specs.Nodes.{is_used};
 ghost use Rattle.world.specs.Safe.{SafeWorld};
 ghost use Rattle.world.specs.Steps.{Applies, Step};
-ghost use Rattle.world.specs.World.{IsUp, WorldOf, first_over, node_in, recorded};
+ghost use Rattle.world.specs.World.{IsUp, WorldOf, first_over, is_used, node_in, recorded};
 
 /// The first world is safe, all in it agrees, and nothing is lost. Does nothing.
 pub fn the_first_world()
@@ -32,7 +31,7 @@ pub fn the_first_world()
 pub fn nothing_is_taken_back()
     ensures net { (job : JobOf) (turn : Option DoneOf) (e : Event) (w : WorldOf) (o : Outturn) → Step job turn e w o → (sent : List PacketOf) × (o.world.net ≡ w.net ++ sent) }
     ensures fills { (job : JobOf) (turn : Option DoneOf) (e : Event) (w : WorldOf) (o : Outturn) → Step job turn e w o → (filled : List Fill) × (o.world.fills ≡ w.fills ++ filled) }
-    ensures used { (job : JobOf) (turn : Option DoneOf) (e : Event) (w : WorldOf) (o : Outturn) → Step job turn e w o → (words : List ℕ) × (o.world.used ≡ words ++ w.used) }
+    ensures used { (job : JobOf) (turn : Option DoneOf) (e : Event) (w : WorldOf) (o : Outturn) (word : ℕ) → Step job turn e w o → is_used word w ≡ true → is_used word o.world ≡ true }
 {}
 
 /// A node starts with a new start word of a worker, at a place where none is up; else nothing changes. Does nothing.

@@ -1,9 +1,18 @@
-//! The world, whose nodes and clearinghouse go by lists of events: today its definitions, and first laws of them. What holds of
-//! whole runs is stated, and not proved yet.
+//! The world: the nodes and the clearinghouse of a job, all that was ever sent, and how they go by lists of events.
 #![tactic(auto)]
 
+mod kept;
 mod laws;
+mod nodes;
+mod parts;
+mod runs;
+mod seat;
+mod world;
 
+pub use event_script::line;
 pub use laws::{
     a_cut_stops, nothing_is_taken_back, starts_are_new, the_first_world, unfit_changes_nothing,
 };
+pub use parts::{NoMemory, Told};
+pub use runs::{ReplayError, RunEnd, replay, run};
+pub use world::World;

@@ -8,4 +8,4 @@ pub returns-clause-fills : goal.returns-clause-fills
 returns-clause-fills c = λ job turn e w o s. let grown = grows job turn e w o s in (grown.filled, grown.fills)
 
 pub returns-clause-used : goal.returns-clause-used
-returns-clause-used c = λ job turn e w o s. let grown = grows job turn e w o s in (grown.words, grown.used)
+returns-clause-used c = λ job turn e w o word s. (grows job turn e w o s).used word

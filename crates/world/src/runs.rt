@@ -1,0 +1,116 @@
+//! Runs of a world, by lists of events and by scripts.
+ghost use Rattle.std.specs.Prelude.{◌≡◌, ◌+◌, ◌<◌, ◌^◌, IfErr, IfOk, Ok, Err, List, None, Some, false, true};
+ghost use Rattle.disk.specs.Device.{Device};
+ghost use Rattle.event_script.specs.Scripts.{script};
+ghost use Rattle.event_script.specs.declared.event.Event.{Event as EventOf};
+ghost use Rattle.world.specs.Answers.{Outturn};
+ghost use Rattle.world.specs.Calls.{IsRun, IsStarved};
+ghost use Rattle.world.specs.Runs.{CanBegin};
+ghost use Rattle.world.specs.Steps.{Step as StepOf};
+ghost use Rattle.world.specs.World.{first_over};
+ghost use Rattle.world.specs.declared.parts.NoMemory.{NoMemory as NoMemoryOf};
+ghost use Rattle.world.specs.declared.runs.ReplayError.TheVariants as replay_error;
+
+use crate::parts::NoMemory;
+use crate::world::World;
+use event_script::{Event, Line, Script};
+use serial_meaning::Job;
+use std::alloc::Global;
+use thiserror::Error;
+
+/// Where a run ended: the world to which it led, how many events were carried out, and E9 where the next one found no memory.
+#[derive(Drop)]
+pub struct RunEnd<'a> {
+    pub world: World<'a>,
+    pub done: usize,
+    pub stopped: Option<NoMemory>,
+}
+
+/// Why a script isn't replayed; no event was carried out.
+#[derive(Clone, Copy, Debug, PartialEq, Eq, Error)]
+pub enum ReplayError {
+    /// A line that isn't an event's.
+    #[error("{0}")]
+    Line(Line),
+    /// E9: there is no memory for a first world.
+    #[error("E9")]
+    Memory,
+}
+
+/// Events are carried out one after another, from the first world of a job on. Refused where there is no memory for that world
+/// alone (E9).
+pub fn run<'a>(alloc: Global, job: &'a Job, events: &[Event]) -> Result<RunEnd<'a>, NoMemory>
+    ensures { IfOk result (λ r. IsRun job.now events.now r.done r.stopped r.world.world) }
+{
+    let mut run = begun(alloc, job)?;
+    for event in events {
+        if !run.carry_on(alloc, event) {
+            return Ok(run);
+        }
+    }
+    Ok(run)
+}
+
+/// The events of a script are carried out one after another, as `run` does. Refused by the first line that isn't of the form of
+/// `Script::new`, and no event is carried out then; and where there is no memory for the first world (E9). E9 may stop it at a Cut
+/// too, for whose bytes there is no memory.
+pub fn replay<'a>(alloc: Global, job: &'a Job, text: &[u8]) -> Result<RunEnd<'a>, ReplayError>
+    ensures run { IfOk result (λ r. (events : List EventOf) × (script text.now ≡ Ok events) × IsRun job.now events r.done r.stopped r.world.world) }
+    ensures line { (l : _) → result ≡ Err (replay_error.Line l) → script text.now ≡ Err l }
+{
+    let mut script = match Script::new(text) {
+        Ok(script) => script,
+        Err(line) => return Err(ReplayError::Line(line)),
+    };
+    let Ok(mut run) = begun(alloc, job) else {
+        return Err(ReplayError::Memory);
+    };
+    loop {
+        match script.next(alloc) {
+            Ok(Some(event)) => {
+                if !run.carry_on(alloc, &event) {
+                    return Ok(run);
+                }
+            }
+            Ok(None) => return Ok(run),
+            Err(_) => {
+                run.stopped = Some(NoMemory);
+                return Ok(run);
+            }
+        }
+    }
+}
+
+/// A run that has just begun.
+fn begun<'a>(alloc: Global, job: &'a Job) -> Result<RunEnd<'a>, NoMemory>
+    ensures job { IfOk result (λ r. r.world.job ≡ job.now) }
+    ensures first { IfOk result (λ r. (d : Device) × CanBegin job.now d × (r.world.world ≡ first_over d)) }
+    ensures none { IfOk result (λ r. (r.done ≡ 0) × (r.stopped ≡ None)) }
+{
+    Ok(RunEnd {
+        world: World::new(alloc, job)?,
+        done: 0,
+        stopped: None,
+    })
+}
+
+impl<'a> RunEnd<'a> {
+    /// An event is carried out; whether it found memory.
+    fn carry_on(&mut self, alloc: Global, event: &Event) -> bool
+        requires { self.old.done + 1 < 2 ^ 64 }
+        ensures job { self.new.world.job ≡ self.old.world.job }
+        ensures carried { result ≡ true → (o : Outturn) × StepOf self.old.world.job None event.now self.old.world.world o × (self.new.world.world ≡ o.world) × (self.new.done ≡ self.old.done + 1) × (self.new.stopped ≡ self.old.stopped) }
+        ensures starved { result ≡ false → (o : Outturn) × IsStarved None event.now self.old.world o × (self.new.world.world ≡ o.world) × (self.new.done ≡ self.old.done) × (lacks : NoMemoryOf) × (self.new.stopped ≡ Some lacks) }
+    {
+        match self.world.step(alloc, event, None) {
+            Ok(_) => {
+                self.done += 1;
+                true
+            }
+            Err(lacks) => {
+                self.stopped = Some(lacks);
+                false
+            }
+        }
+    }
+}
