@@ -1,5 +1,10 @@
 -- The statuses that the program ends with.
 use Rattle.std.specs.Prelude.{ℕ}
+use Rattle.replaying.specs.Status as replays
+use Rattle.replaying.specs.declared.fault.FileFault.{FileFault}
+use Rattle.replaying.specs.declared.fault.FileFault.TheVariants as file
+use Rattle.replaying.specs.declared.words.WordsFault.{WordsFault}
+use Rattle.replaying.specs.declared.words.WordsFault.TheVariants as words
 use Rattle.cilknow.specs.declared.command.CommandFault.{CommandFault}
 use Rattle.cilknow.specs.declared.command.CommandFault.TheVariants as command
 use Rattle.cilknow.specs.declared.fault.SoloFault.{SoloFault}
@@ -14,9 +19,21 @@ status_of_run solo.TurnsSpent = 3
 status_of_run solo.NumbersSpent = 3
 status_of_run solo.Memory = 3
 
--- words that ask for nothing that is there are 2, and a file that can't be read or written is 4
+-- words that ask for nothing that is there are 2, a file that can't be read or written is 4, and what isn't replayed has its own
+-- status
 abbrev pub status_of : CommandFault → ℕ
 status_of command.Usage = 2
 status_of command.File = 4
 status_of (command.Run fault) = status_of_run fault
 status_of command.TurnsSpent = 3
+status_of (command.Replay fault) = replays.status_of fault
+
+-- a file that isn't read
+abbrev pub of_file : FileFault → CommandFault
+of_file file.Unreadable = command.File
+of_file file.Memory = command.Run solo.Memory
+
+-- words that ask for no answer
+abbrev pub of_words : WordsFault → CommandFault
+of_words words.Usage = command.Usage
+of_words words.Memory = command.Run solo.Memory

@@ -1,22 +1,22 @@
 ghost use Rattle.std.specs.Prelude.{◌≡◌};
-ghost use Rattle.cilknow.specs.Status.{status_of};
+ghost use Rattle.cilknow.specs.Status.{of_file, of_words, status_of};
 
 use crate::fault::SoloFault;
 use crate::solo::solo;
 use crate::words::{JobWords, Request, read_words};
-use clap::error::ErrorKind;
 use kind_check::{Checked, check};
+use replaying::{
+    FileFault, ReplayFault, ReplayWords, WordsFault, help_of, replay_files, text_bytes,
+    write_replayed,
+};
 use serial_meaning::{Job, Outcome, SerialError, serial};
 use std::alloc::Global;
 use std::convert::AsStr;
-use std::io::{self, Read, Write};
+use std::fmt;
+use std::io::{self, Write};
 use std::rt::Files;
-use std::{fmt, fs};
-use task_syntax::{LONGEST_TEXT, parse};
+use task_syntax::parse;
 use thiserror::Error;
-
-/// One byte more than the longest text.
-const MOST_BYTES: u64 = LONGEST_TEXT as u64 + 1;
 
 /// Why a command ends without its answer.
 #[derive(Clone, Copy, Debug, PartialEq, Eq, Error)]
@@ -33,11 +33,14 @@ pub enum CommandFault {
     /// E20: more turns than `--turns` would be needed.
     #[error("{spent}", spent = SerialError::TurnsSpent)]
     TurnsSpent,
+    /// A script isn't replayed.
+    #[error(transparent)]
+    Replay(ReplayFault),
 }
 
 impl CommandFault {
-    /// The status that the program ends with: 1 for a text or an input that is refused, 2 for the words, 3 for a run without
-    /// outcome, 4 for a file.
+    /// The status that the program ends with: 1 for a text, an input or a script that is refused, 2 for the words, 3 for a run
+    /// without outcome, 4 for a file.
     pub fn status(self) -> u8
         ensures { result ≡ status_of self }
     {
@@ -47,25 +50,31 @@ impl CommandFault {
             CommandFault::Run(SoloFault::Parse(_) | SoloFault::Kind(_) | SoloFault::Input(_)) => 1,
             CommandFault::Usage => 2,
             CommandFault::File => 4,
+            CommandFault::Replay(fault) => fault.status(),
         }
     }
 }
 
-/// The bytes of a file, up to one more than a text can have.
-fn file_bytes<R: Files + AllocGlobal>(rt: &R, file: &str) -> Result<Vec<u8>, CommandFault> {
-    let mut bytes = Vec::new(rt.alloc());
-    match read_most(rt, file, &mut bytes) {
-        Ok(()) => Ok(bytes),
-        Err(e) if e.kind() == io::ErrorKind::OutOfMemory => Err(CommandFault::Run(
-            SoloFault::Memory,
-        )),
-        Err(_) => Err(CommandFault::File),
+impl From<FileFault> for CommandFault {
+    ghost from_gives = { λ e f. f ≡ of_file e };
+
+    fn from(e: FileFault) -> CommandFault {
+        match e {
+            FileFault::Unreadable => CommandFault::File,
+            FileFault::Memory => CommandFault::Run(SoloFault::Memory),
+        }
     }
 }
 
-fn read_most<R: Files>(rt: &R, file: &str, bytes: &mut Vec<u8>) -> io::Result<()> {
-    fs::open(rt, file)?.take(MOST_BYTES).read_to_end(bytes)?;
-    Ok(())
+impl From<WordsFault> for CommandFault {
+    ghost from_gives = { λ e f. f ≡ of_words e };
+
+    fn from(e: WordsFault) -> CommandFault {
+        match e {
+            WordsFault::Usage => CommandFault::Usage,
+            WordsFault::Memory => CommandFault::Run(SoloFault::Memory),
+        }
+    }
 }
 
 /// The accepted program of a text.
@@ -104,6 +113,18 @@ fn write_line<O: Write>(out: &mut O, text: impl fmt::Display + Drop) -> io::Resu
     out.flush()
 }
 
+/// What a replay comes to.
+fn answer_replay<R: Files + AllocGlobal, O: Write>(
+    rt: &R,
+    words: ReplayWords<'_>,
+    out: &mut O,
+) -> Result<(), CommandFault> {
+    let replayed = replay_files(rt, words.file, words.script, words.input, words.job).map_err(
+        CommandFault::Replay,
+    )?;
+    write_replayed(out, &replayed).map_err(|_| CommandFault::File)
+}
+
 fn answer<R: Files + AllocGlobal, O: Write>(
     rt: &R,
     request: Request<'_>,
@@ -112,37 +133,36 @@ fn answer<R: Files + AllocGlobal, O: Write>(
     let alloc = rt.alloc();
     let written = match request {
         Request::Check(file) => {
-            let text = file_bytes(rt, file)?;
+            let text = text_bytes(rt, file)?;
             let threads = checked(alloc, text.as_slice())
                 .map_err(CommandFault::Run)?
                 .threads();
             write_line(out, format_args!("ok {threads} threads"))
         }
         Request::Serial(words) => {
-            let text = file_bytes(rt, words.file)?;
+            let text = text_bytes(rt, words.file)?;
             write_outcome(out, serial_outcome(alloc, text.as_slice(), words)?)
         }
         Request::Run(words) => {
-            let text = file_bytes(rt, words.file)?;
+            let text = text_bytes(rt, words.file)?;
             let outcome = solo(alloc, text.as_slice(), words.input, words.job, words.turns).map_err(
                 CommandFault::Run,
             )?;
             write_outcome(out, outcome)
         }
+        Request::Replay(words) => return answer_replay(rt, words, out),
     };
     written.map_err(|_| CommandFault::File)
 }
 
 /// What is told of a command line that asks for no answer: a fault, or a text to be shown.
 fn shown<O: Write>(error: clap::Error, out: &mut O) -> Result<(), CommandFault> {
-    match error.kind() {
-        ErrorKind::DisplayHelp | ErrorKind::DisplayVersion => {
-            write!(out, "{error}").map_err(|_| CommandFault::File)?;
-            out.flush().map_err(|_| CommandFault::File)
-        }
-        ErrorKind::OutOfMemory => Err(CommandFault::Run(SoloFault::Memory)),
-        _ => Err(CommandFault::Usage),
-    }
+    let help = match help_of(error) {
+        Ok(help) => help,
+        Err(fault) => return Err(CommandFault::from(fault)),
+    };
+    write!(out, "{help}").map_err(|_| CommandFault::File)?;
+    out.flush().map_err(|_| CommandFault::File)
 }
 
 /// Carries out a command line, the program's own name its first word: answers go to `out`, and a fault goes to `err` as one

@@ -8,6 +8,7 @@
 mod calls;
 mod faults;
 mod outcomes;
+mod replays;
 mod usage;
 mod writers;
 

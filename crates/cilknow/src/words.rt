@@ -1,4 +1,7 @@
-use clap::{Arg, ArgAction, ArgMatches, Command, Error, value_parser};
+use clap::{ArgMatches, Command, Error};
+use replaying::{
+    ReplayWords, file_word, input_of, input_word, number_word, replay_words_of, with_replay_words,
+};
 use std::alloc::{AllocError, Global};
 use std::convert::AsStr;
 
@@ -11,6 +14,8 @@ pub enum Request<'a> {
     Serial(JobWords<'a>),
     /// A run of a job.
     Run(JobWords<'a>),
+    /// A replay of a script on a job.
+    Replay(ReplayWords<'a>),
 }
 
 /// The job of a request, and the turns that it may take.
@@ -30,41 +35,23 @@ const SERIAL: &str = "Prints the outcome of a program, evaluated serially";
 
 const RUN: &str = "Runs a program and prints its outcome";
 
+const REPLAY: &str = "Replays a script of events on a program and prints what it came to";
+
 const AFTER: &str =
-    "A program's text is a file of task threads. An input is a signed 64-bit number; write `--` before a \
-                     negative one. Status: 0 done, 1 program or input refused, 2 usage, 3 no outcome, 4 file.";
+    "A program's text is a file of task threads, and a script a file of events, one a line. An input is a signed 64-bit \
+                     number; write `--` before a negative one. Status: 0 done, 1 program, input or script refused, 2 usage, \
+                     3 no outcome, 4 file.";
 
 const TURNS: &str = "1000000000";
 
-fn file_word<'a>(alloc: Global) -> Arg<'a> {
-    Arg::new(alloc, "FILE")
-        .required(true)
-        .action(ArgAction::Set)
-        .help("The file of the program's text")
-}
-
-fn number_word<'a>(alloc: Global, name: &'a str, usual: &'a str, help: &'a str) -> Arg<'a> {
-    Arg::new(alloc, name)
-        .long(name)
-        .action(ArgAction::Set)
-        .value_parser(value_parser!(u64))
-        .default_value(usual)
-        .help(help)
-}
-
 /// A subcommand that takes a job: a file, the turns, the job's number and the input.
 fn job_words<'a>(alloc: Global, name: &'a str, about: &'a str) -> Result<Command<'a>, AllocError> {
-    let input = Arg::new(alloc, "INPUT")
-        .action(ArgAction::Append)
-        .num_args(0..)
-        .value_parser(value_parser!(i64))
-        .help("The numbers that the thread `main` runs on");
     Command::new(alloc, name)
         .about(about)
         .arg(file_word(alloc))?
         .arg(number_word(alloc, "turns", TURNS, "At most so many turns"))?
         .arg(number_word(alloc, "job", "1", "The job's number"))?
-        .arg(input)
+        .arg(input_word(alloc))
 }
 
 fn all_words<'a>(alloc: Global) -> Result<Command<'a>, AllocError> {
@@ -79,20 +66,15 @@ fn all_words<'a>(alloc: Global) -> Result<Command<'a>, AllocError> {
                 .arg(file_word(alloc))?,
         )?
         .subcommand(job_words(alloc, "serial", SERIAL)?)?
-        .subcommand(job_words(alloc, "run", RUN)?)
+        .subcommand(job_words(alloc, "run", RUN)?)?
+        .subcommand(with_replay_words(alloc, Command::new(alloc, "replay").about(REPLAY))?)
 }
 
 /// The words of a job; none where they don't have what `job_words` asks for.
 fn job_of<'a>(alloc: Global, matches: &ArgMatches<'a>) -> Result<Option<JobWords<'a>>, AllocError> {
-    let mut input = Vec::new(alloc);
-    if let Some(numbers) = matches.get_many::<i64>("INPUT") {
-        for number in numbers {
-            let Ok(number) = number else {
-                return Ok(None);
-            };
-            input.push(number)?;
-        }
-    }
+    let Some(input) = input_of(alloc, matches)? else {
+        return Ok(None);
+    };
     let (Some(file), Some(turns), Some(job)) = (
         matches.get_str("FILE"),
         matches.get_one("turns"),
@@ -119,6 +101,7 @@ pub fn read_words<'a, S: AsStr>(
         Some(("check", inner)) => Ok(inner.get_str("FILE").map(Request::Check)),
         Some(("serial", inner)) => Ok(job_of(alloc, inner)?.map(Request::Serial)),
         Some(("run", inner)) => Ok(job_of(alloc, inner)?.map(Request::Run)),
+        Some(("replay", inner)) => Ok(replay_words_of(alloc, inner)?.map(Request::Replay)),
         _ => Ok(None),
     }
 }

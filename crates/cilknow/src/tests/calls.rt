@@ -1,6 +1,7 @@
 use crate::{CommandFault, SoloFault};
 use body_eval::{Slot, Turn, turn};
 use kind_check::{Checked, KindError, KindFault, check};
+use replaying::ReplayFault;
 use serial_meaning::{Job, JobError, Outcome, SerialError, serial};
 use std::alloc::Global;
 use std::test::Fail;
@@ -110,6 +111,12 @@ fn refusals_are_printed(rt: HostRuntime) -> Result<(), Fail> {
         (CommandFault::Usage, "usage"),
         (CommandFault::File, "file"),
         (CommandFault::TurnsSpent, "E20"),
+        (CommandFault::Replay(ReplayFault::File), "file"),
+        (CommandFault::Replay(ReplayFault::Memory), "E9"),
+        (
+            CommandFault::Replay(ReplayFault::Input(JobError::InputArity)),
+            "E21",
+        ),
     ] {
         assert_eq!(rt; format!(in alloc; "{fault}")?.as_str(), want);
     }

@@ -6,7 +6,8 @@ use std::test::Fail;
 
 /// Words that are refused.
 const WORDS: &str =
-    " => 2 usage|frobnicate F => 2 usage|check => 2 usage|serial => 2 usage|run => 2 usage|\
+    " => 2 usage|frobnicate F => 2 usage|check => 2 usage|serial => 2 usage|run => 2 usage|replay => 2 usage|\
+    replay F => 2 usage|replay F F --turns 5 2 => 2 usage|replay F F x => 2 usage|replay F F -3 => 2 usage|\
     check F 1 => 2 usage|check F --job 1 => 2 usage|check F --turns 1 => 2 usage|\
     serial F --frobnicate 1 => 2 usage|serial F --nodes 2 1 => 2 usage|run F --nodes 2 1 => 2 usage";
 
@@ -38,9 +39,9 @@ const BETWEEN: &str = "serial F 7 --turns 1 5 => 0 value 2|run F 7 --turns=1 5 =
 /// On a file that can't be read.
 const UNREADABLE: &str =
     "serial F x => 2 usage|run F --turns x => 2 usage|serial F 1 => 4 file|run F 1 => 4 file|\
-    check F => 4 file";
+    check F => 4 file|replay F F x => 2 usage|replay F F 1 => 4 file";
 
-const HELP: &str = "--help|-h|help|help run|run --help";
+const HELP: &str = "--help|-h|help|help run|run --help|help replay|replay --help";
 
 #[test]
 fn refused_words(rt: HostRuntime) -> Result<(), Fail> {

@@ -56,7 +56,7 @@ fn is_whole(rt: &HostRuntime, words: &[&str], length: usize, room: usize) -> boo
 }
 
 /// Whether words whose answer can't be handed on are told of the file.
-fn is_stuck(rt: &HostRuntime, words: &[&str]) -> bool {
+pub fn is_stuck(rt: &HostRuntime, words: &[&str]) -> bool {
     let mut err = Vec::new(rt.alloc());
     command(rt, words, &mut Stuck, &mut err) == 4 && err.as_slice() == b"cilknow: file\n".as_slice()
 }

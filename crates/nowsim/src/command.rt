@@ -1,0 +1,103 @@
+ghost use Rattle.std.specs.Prelude.{◌≡◌};
+ghost use Rattle.nowsim.specs.Status.{of_words, status_of};
+
+use crate::words::read_words;
+use replaying::{ReplayFault, ReplayWords, WordsFault, help_of, replay_files, write_replayed};
+use std::convert::AsStr;
+use std::fmt;
+use std::io::{self, Write};
+use std::rt::Files;
+use thiserror::Error;
+
+/// Why the program ends without telling what a run came to.
+#[derive(Clone, Copy, Debug, PartialEq, Eq, Error)]
+pub enum SimFault {
+    /// The words ask for nothing that is there.
+    #[error("usage")]
+    Usage,
+    /// The files aren't replayed, or the answer can't be written.
+    #[error(transparent)]
+    Replay(ReplayFault),
+}
+
+impl SimFault {
+    /// The status that the program ends with: 1 for a text, an input or a script that is refused, 2 for the words, 3 for want of
+    /// memory, 4 for a file.
+    pub fn status(self) -> u8
+        ensures { result ≡ status_of self }
+    {
+        match self {
+            SimFault::Usage => 2,
+            SimFault::Replay(fault) => fault.status(),
+        }
+    }
+}
+
+impl From<WordsFault> for SimFault {
+    ghost from_gives = { λ e f. f ≡ of_words e };
+
+    fn from(e: WordsFault) -> SimFault {
+        match e {
+            WordsFault::Usage => SimFault::Usage,
+            WordsFault::Memory => SimFault::Replay(ReplayFault::Memory),
+        }
+    }
+}
+
+/// What the words of a replay give.
+fn answer<R: Files + AllocGlobal, O: Write>(
+    rt: &R,
+    words: ReplayWords<'_>,
+    out: &mut O,
+) -> Result<(), SimFault> {
+    let replayed = replay_files(rt, words.file, words.script, words.input, words.job).map_err(
+        SimFault::Replay,
+    )?;
+    write_replayed(out, &replayed).map_err(|_| SimFault::Replay(ReplayFault::File))
+}
+
+/// What is told of a command line that asks for no replay: a fault, or a text to be shown.
+fn shown<O: Write>(error: clap::Error, out: &mut O) -> Result<(), SimFault> {
+    let help = match help_of(error) {
+        Ok(help) => help,
+        Err(fault) => return Err(SimFault::from(fault)),
+    };
+    write_help(out, &help).map_err(|_| SimFault::Replay(ReplayFault::File))
+}
+
+fn write_help<O: Write>(out: &mut O, help: &clap::Error) -> io::Result<()> {
+    write!(out, "{help}")?;
+    out.flush()
+}
+
+/// Carries out a command line, the program's own name its first word: what a run came to goes to `out`, and a fault goes to
+/// `err` as one line. The status to end with is 0 where all was done, and else that of the fault.
+pub fn command<R: Files + AllocGlobal, S: AsStr, O: Write, E: Write>(
+    rt: &R,
+    words: &[S],
+    out: &mut O,
+    err: &mut E,
+) -> u8 {
+    let done = match read_words(rt.alloc(), words) {
+        Ok(Some(words)) => answer(rt, words, out),
+        Ok(None) => Err(SimFault::Usage),
+        Err(error) => shown(error, out),
+    };
+    match done {
+        Ok(()) => 0,
+        Err(fault) => refused(fault, err),
+    }
+}
+
+/// Writes a fault to `err` as one line; the status to end with.
+pub fn refused<E: Write>(fault: SimFault, err: &mut E) -> u8
+    ensures { result ≡ status_of fault }
+{
+    let _ = write_line(err, format_args!("nowsim: {fault}"));
+    fault.status()
+}
+
+fn write_line<O: Write>(out: &mut O, text: impl fmt::Display + Drop) -> io::Result<()> {
+    writeln!(out, "{text}")?;
+    out.flush()
+}

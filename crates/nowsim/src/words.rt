@@ -1,0 +1,30 @@
+use clap::{Command, Error};
+use replaying::{ReplayWords, replay_words_of, with_replay_words};
+use std::alloc::{AllocError, Global};
+use std::convert::AsStr;
+
+const ABOUT: &str =
+    "Replays a script of events on a functional Cilk program: nodes, a clearinghouse and the packets between them.";
+
+const AFTER: &str =
+    "A program's text is a file of task threads, and a script a file of events, one a line. An input is a signed 64-bit \
+                     number; write `--` before a negative one. Status: 0 done, 1 program, input or script refused, 2 usage, \
+                     3 no memory, 4 file.";
+
+fn all_words<'a>(alloc: Global) -> Result<Command<'a>, AllocError> {
+    let command = Command::new(alloc, "nowsim")
+        .version("0.1.0")
+        .about(ABOUT)
+        .after_help(AFTER);
+    with_replay_words(alloc, command)
+}
+
+/// What the words ask for, the program's own name first; none where they ask for nothing that is there. The `Err` is a
+/// fault of usage, want of memory, or the text of the help or the version where they ask for that.
+pub fn read_words<'a, S: AsStr>(
+    alloc: Global,
+    words: &'a [S],
+) -> Result<Option<ReplayWords<'a>>, Error> {
+    let matches = all_words(alloc)?.try_get_matches_from(words)?;
+    Ok(replay_words_of(alloc, &matches)?)
+}

@@ -1,0 +1,15 @@
+//! Replaying files: a program's text and a script of events, from the files that hold them to what the run came to.
+#![tactic(auto)]
+
+mod fault;
+mod files;
+mod replayed;
+mod words;
+
+pub use fault::{FileFault, ReplayFault};
+pub use files::{replay_files, text_bytes};
+pub use replayed::{Replayed, job_of, replay_script, write_replayed};
+pub use words::{
+    ReplayWords, WordsFault, file_word, help_of, input_of, input_word, number_word, own_words,
+    replay_words_of, with_replay_words,
+};

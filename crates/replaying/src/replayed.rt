@@ -1,0 +1,62 @@
+ghost use Rattle.std.specs.Prelude.{IfErr, IfOk};
+ghost use Rattle.replaying.specs.Replays.{IsJobOf, IsJobRefusal, IsReplayOf, IsScriptRefusal};
+
+use crate::fault::ReplayFault;
+use kind_check::check;
+use serial_meaning::{Job, Outcome};
+use std::alloc::Global;
+use std::io::{self, Write};
+use task_syntax::parse;
+use world::replay;
+
+/// What a run came to: how many events were carried out, how many packets were sent, how many values were put into slots, and
+/// the outcome that an open clearinghouse has recorded.
+#[derive(Clone, Copy, Debug, PartialEq, Eq)]
+pub struct Replayed {
+    pub events: usize,
+    pub packets: usize,
+    pub fills: usize,
+    pub outcome: Option<Outcome>,
+}
+
+/// The job of a program's text, an input and a number. Refused by the text (E2 to E6), its kinds (E10 to E18) or the count of
+/// inputs (E21), in this order, and for want of memory (E9).
+pub fn job_of(alloc: Global, text: &[u8], input: Vec<i64>, number: u64) -> Result<Job, ReplayFault>
+    ensures job { IfOk result (λ j. IsJobOf text.now input.items number j) }
+    ensures refused { IfErr result (IsJobRefusal text.now input.items) }
+{
+    let program = parse(alloc, text)?;
+    let checked = check(alloc, program)?;
+    Ok(Job::new(checked, input, number)?)
+}
+
+/// Replays a script on a job, from its first world on. Refused by the first line that isn't an event's, before any event, and
+/// where an event or the first world finds no memory (E9).
+pub fn replay_script(alloc: Global, job: &Job, script: &[u8]) -> Result<Replayed, ReplayFault>
+    ensures run { IfOk result (λ r. IsReplayOf job.now script.now r) }
+    ensures refused { IfErr result (IsScriptRefusal script.now) }
+{
+    let end = replay(alloc, job, script)?;
+    if end.stopped.is_some() {
+        return Err(ReplayFault::Memory);
+    }
+    Ok(Replayed {
+        events: end.done,
+        packets: end.world.packets(),
+        fills: end.world.fills(),
+        outcome: end.world.outcome(),
+    })
+}
+
+/// Writes what a run came to as four lines, each with its end, and hands them on.
+pub fn write_replayed<O: Write>(out: &mut O, replayed: &Replayed) -> io::Result<()> {
+    writeln!(out, "events {}", replayed.events)?;
+    writeln!(out, "packets {}", replayed.packets)?;
+    writeln!(out, "fills {}", replayed.fills)?;
+    match replayed.outcome {
+        Some(Outcome::Value(value)) => writeln!(out, "outcome value {value}")?,
+        Some(Outcome::TooDeep) => writeln!(out, "outcome too deep")?,
+        None => writeln!(out, "outcome none")?,
+    }
+    out.flush()
+}
