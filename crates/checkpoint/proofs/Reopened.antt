@@ -1,18 +1,18 @@
 -- An opening of what a commit left.
-use Rattle.std.proofs.Common.{◌≡◌, ◌≢◌, ◌⊎◌, inl, inr, ℕ, ◌+◌, true, false, IsTrue, List, Option, Result, Ok, Err, IfOk, IfErr, refl, sym, subst}
+use Rattle.std.proofs.Common.{◌≡◌, ◌≢◌, ◌⊎◌, inl, inr, ℕ, ◌+◌, true, false, IsTrue, List, Option, Result, Ok, Err, IfOk, IfErr, refl, sym, ◌∙◌, ap, subst}
 use Rattle.disk.specs.Crash.{Only}
-use Rattle.disk.specs.Device.{Device, armed_bytes, crashed}
+use Rattle.disk.specs.Device.{Device, Unarmed, armed_bytes, called, crashed}
 use Rattle.disk.specs.File.{CrashLeaves, bytes_of}
 use Rattle.disk.proofs.Bytes.{crash-leaves-settled}
 use Rattle.disk.proofs.Crashes.{crash-leaves-bytes_of, settled-only}
-use Rattle.checkpoint.specs.Calls.{Passed, after}
+use Rattle.checkpoint.specs.Calls.{Passed, Stopped, after}
 use Rattle.checkpoint.specs.Commit.{opening}
 use Rattle.checkpoint.specs.Format.{IsStore}
 use Rattle.checkpoint.specs.Moments.{KeepsEither}
 use Rattle.checkpoint.specs.Store.{IsRefused, Keeps, Opened, Reads}
 use Rattle.checkpoint.specs.declared.record.Record.{Record}
 use Rattle.checkpoint.specs.declared.record.StoreError.{StoreError}
-use Rattle.checkpoint.specs.declared.record.StoreError.TheVariants.{Device as DeviceError}
+use Rattle.checkpoint.specs.declared.record.StoreError.TheVariants.{Device as DeviceError, Spent, JobMismatch, Damaged, Version}
 use Rattle.checkpoint.proofs.Opened.{device_alone, one_reading}
 
 -- after a crash a read gives what it left
@@ -58,6 +58,40 @@ pub opened_one : {D : Type 0} (device : D → Device) (r : Result (Opened D) (St
 opened_one device (Ok s) d plan job sequence next is passed reads = one_reading (bytes_of d.file) s.sequence sequence s.«record» next (opened_reads device d plan job s is passed) reads
 opened_one device (Err e) d plan job sequence next is passed reads = tt
 
+-- what is opened after a crash isn't armed, and keeps what is read
+abbrev pub IsUnarmed : Device → Type 0
+IsUnarmed d = (d.arming ≡ Unarmed) × Only (bytes_of d.file) (CrashLeaves d.file)
+
+pub opened_crashed : {D : Type 0} (device : D → Device) (r : Result (Opened D) (StoreError × D)) (old new : Device) (plan : ℕ → Option (List ℕ)) →
+    new ≡ crashed old → IfOk r (λ s. Passed opening plan new (device s.disk)) → IfOk r (λ s. IsUnarmed (device s.disk))
+unfolding after
+opened_crashed device (Ok s) old new plan is passed =
+    let there : IsUnarmed (after (crashed old) opening) = (refl, settled-only old.file (armed_bytes old.arming)) in
+    subst IsUnarmed (sym passed.made) (subst (λ (d : Device). IsUnarmed (after d opening)) (sym is) there)
+opened_crashed device (Err e) old new plan is passed = tt
+
+abbrev pub IsRefusal : {D : Type 0} → (D → Device) → Device → (ℕ → Option (List ℕ)) → ℕ → StoreError × D → Type 0
+IsRefusal device d plan job e = e.0 ≢ DeviceError → IsRefused e.0 (bytes_of d.file) job × Passed opening plan d (device e.1)
+
+-- nor is what is given back
+unarmed_by : (e : StoreError) (old new given : Device) (plan : ℕ → Option (List ℕ)) → new ≡ crashed old →
+    (e ≢ DeviceError → Passed opening plan new given) → (e ≡ DeviceError → Stopped opening plan new given) → given.arming ≡ Unarmed
+unfolding after Stopped
+unarmed_by DeviceError old new given plan is refused stopped =
+    elim (stopped refl) as (λ s. given.arming ≡ Unarmed) [
+      | inl fails ↦ fails.failed.one_call ∙ ap (λ (d : Device). called d.arming) is
+      | inr none ↦ absurd none.1
+    ]
+unarmed_by Spent old new given plan is refused stopped = ap (λ (d : Device). d.arming) (refused (λ e. cc)).made ∙ ap (λ (d : Device). called d.arming) is
+unarmed_by JobMismatch old new given plan is refused stopped = ap (λ (d : Device). d.arming) (refused (λ e. cc)).made ∙ ap (λ (d : Device). called d.arming) is
+unarmed_by Damaged old new given plan is refused stopped = ap (λ (d : Device). d.arming) (refused (λ e. cc)).made ∙ ap (λ (d : Device). called d.arming) is
+unarmed_by Version old new given plan is refused stopped = ap (λ (d : Device). d.arming) (refused (λ e. cc)).made ∙ ap (λ (d : Device). called d.arming) is
+
+pub back_crashed : {D : Type 0} (device : D → Device) (r : Result (Opened D) (StoreError × D)) (old new : Device) (plan : ℕ → Option (List ℕ)) (job : ℕ) →
+    new ≡ crashed old → IfErr r (IsRefusal device new plan job) → IfErr r (λ e. e.0 ≡ DeviceError → Stopped opening plan new (device e.1)) → IfErr r (λ e. (device e.1).arming ≡ Unarmed)
+back_crashed device (Ok s) old new plan job is refused stopped = tt
+back_crashed device (Err e) old new plan job is refused stopped = unarmed_by e.0 old new (device e.1) plan is (λ n. (refused n).1) stopped
+
 abbrev pub IsOpenedAgain : {D : Type 0} → (D → Device) → Device → Opened D → Type 0
 IsOpenedAgain device d s = (n : ℕ) (r : Record) → Keeps d.file n r → Keeps (device s.disk).file s.sequence s.«record» × (s.«record» ≡ r)
 
@@ -66,9 +100,6 @@ pub opened_kept : {D : Type 0} (device : D → Device) (r : Result (Opened D) (S
 opened_kept device (Ok s) d n m before next kept (inl keeps) = (kept n before keeps).0
 opened_kept device (Ok s) d n m before next kept (inr keeps) = (kept m next keeps).0
 opened_kept device (Err e) d n m before next kept keeps = tt
-
-abbrev pub IsRefusal : {D : Type 0} → (D → Device) → Device → (ℕ → Option (List ℕ)) → ℕ → StoreError × D → Type 0
-IsRefusal device d plan job e = e.0 ≢ DeviceError → IsRefused e.0 (bytes_of d.file) job × Passed opening plan d (device e.1)
 
 pub refused_alone : {D : Type 0} (device : D → Device) (r : Result (Opened D) (StoreError × D)) (d : Device) (plan : ℕ → Option (List ℕ)) (job sequence : ℕ) (before next : Record) →
     IfErr r (IsRefusal device d plan job) → before.job ≡ job → next.job ≡ job → Reads (bytes_of d.file) sequence before ⊎ Reads (bytes_of d.file) (sequence + 1) next →

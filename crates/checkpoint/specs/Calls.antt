@@ -32,7 +32,7 @@ Tears Sync = Shrinks
 
 -- a call that may lack memory, or goes past the end
 abbrev pub Lacks : Call → List Cell → Type 0
-Lacks (Read most) file = Unit {0}
+Lacks (Read most) file = (0 < most) × (0 < length file)
 Lacks (Write at bytes) file = length file < at + length bytes
 Lacks (Cut len) file = length file < len
 Lacks Sync file = ⊥

@@ -1,4 +1,7 @@
 ghost use Rattle.std.specs.Prelude.{◌≡◌, ◌⊎◌, IsTrue, IsOk, IfOk, IfErr};
+ghost use Rattle.disk.specs.Crash.{Only};
+ghost use Rattle.disk.specs.Device.{Unarmed};
+ghost use Rattle.disk.specs.File.{CrashLeaves, bytes_of};
 ghost use Rattle.checkpoint.specs.Commit.{next_of};
 ghost use Rattle.checkpoint.specs.Store.{Keeps};
 
@@ -8,7 +11,8 @@ use ids::Outcome;
 use std::alloc::Global;
 
 /// Commits, whatever comes of it; then a crash; then opens. Answers what the commit answered, and what was opened: the record
-/// before or the new one, and the new one where the commit answered `Ok`. Only the device refuses it.
+/// before or the new one, and the new one where the commit answered `Ok`. Only the device refuses it. After the crash a device
+/// that can be cut isn't armed any more, and keeps what is read.
 pub fn commit_and_reopen<D: Disk>(
     alloc: Global,
     store: Store<D>,
@@ -21,6 +25,9 @@ pub fn commit_and_reopen<D: Disk>(
         IfOk result.1 (λ s. s.record ≡ next_of store.record epoch outcome) }
     ensures kept { Keeps (D.device store.disk).file store.sequence store.record → IsTrue (D.device store.disk).can_cut →
         IfOk result.1 (λ s. Keeps (D.device s.disk).file s.sequence s.record) }
+    ensures crashed { IsTrue (D.device store.disk).can_cut →
+        IfOk result.1 (λ s. ((D.device s.disk).arming ≡ Unarmed) × Only (bytes_of (D.device s.disk).file) (CrashLeaves (D.device s.disk).file)) }
+    ensures crashed_back { IsTrue (D.device store.disk).can_cut → IfErr result.1 (λ e. (D.device e.1).arming ≡ Unarmed) }
     ensures refused { Keeps (D.device store.disk).file store.sequence store.record → IfErr result.1 (λ e. e.0 ≡ StoreError.Device) }
 {
     let mut store = store;

@@ -4,8 +4,6 @@
 mod command;
 mod fault;
 mod solo;
-#[cfg(test)]
-mod tests;
 mod words;
 
 pub use command::{CommandFault, command, refused};

@@ -123,9 +123,13 @@ pub(crate) fn write(cells: &mut Vec<Cell>, at: usize, bytes: &[u8]) -> Result<()
     Ok(())
 }
 
-/// The first bytes, at most so many.
+/// The first bytes, at most so many. An `Err` comes only where there are some.
 pub(crate) fn read(alloc: Global, cells: &[Cell], most: usize) -> Result<Vec<u8>, AllocError>
-    ensures { IfOk result (λ bytes. bytes.items ≡ take most (bytes_of cells.now)) }
+    ensures bytes { IfOk result (λ bytes. bytes.items ≡ take most (bytes_of cells.now)) }
+    ensures growth { OnErr result (0 < most × 0 < length cells.now) }
 {
+    if most == 0 || cells.is_empty() {
+        return Ok(Vec::new(alloc));
+    }
     cells.iter().take(most).map(|cell| cell.byte).collect(alloc)
 }

@@ -33,6 +33,9 @@ pub trait Disk {
         ensures err { OnErr result (Failed (device self.old) (device self.new) (planned self.old 0)) }
         ensures crash { Shrinks (CrashLeaves (device self.old).file) (CrashLeaves (device self.new).file) }
         ensures passes { OnOk result (planned self.old 0 ≡ None) }
+
+        // A device that can be cut wants memory for the bytes alone.
+        ensures cause { OnErr result (IsTrue (device self.old).can_cut → IsSome (planned self.old 0) ⊎ (0 < most × 0 < length (device self.old).file)) }
         ensures plan { (i : ℕ) → planned self.new i ≡ planned self.old (suc i) };
 
     /// Writes bytes over those at a place, and past the end. It fails where that place is behind the end.

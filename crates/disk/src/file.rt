@@ -97,9 +97,10 @@ impl<F: FileExt + OpenFile + Drop> FileDisk<F> {
         self.count()
     }
 
-    // Whether so many bytes may be written at a place.
+    // Whether so many bytes may be written at a place: not behind the end, and within the first bytes that are the content.
     fn can_write(&self, at: usize, len: usize) -> bool
-        ensures { IsTrue result → at ≤ length self.now.cells.items }
+        ensures place { IsTrue result → at ≤ length self.now.cells.items }
+        ensures within { IsTrue result → at + len ≤ MOST }
     {
         self.usable && at <= self.cells.len() && at <= MOST && len <= MOST - at
     }

@@ -102,6 +102,7 @@ impl MemDisk {
         ensures bytes { IfOk result (λ bytes. bytes.items ≡ take most (bytes_of (device_of self.old).file)) }
         ensures ok { OnOk result (device_of self.new ≡ device_of self.old) }
         ensures err { OnErr result (device_of self.new ≡ failing (device_of self.old) (armed_bytes (device_of self.old).arming)) }
+        ensures cause { OnErr result (0 < most × 0 < length (device_of self.old).file) }
     {
         match cells::read(alloc, &self.cells, most) {
             Ok(bytes) => Ok(bytes),

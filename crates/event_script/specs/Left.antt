@@ -3,7 +3,7 @@ use Rattle.std.specs.Prelude.{ℕ, ◌+◌, Bool, false, true, if◌then◌else�
 use Rattle.std.specs.List.{list_all}
 use Rattle.event_script.specs.Lines.{Line, Skipped, Says, Refused, line_of}
 use Rattle.event_script.specs.declared.event.Event.{Event}
-use Rattle.event_script.specs.declared.event.Event.TheVariants.{Cut}
+use Rattle.event_script.specs.declared.event.Event.TheVariants.{Start, AtNode, Crash, AtHouse, HouseCrash, Cut}
 use Rattle.event_script.specs.declared.reading.Told.{Told}
 use Rattle.event_script.specs.declared.reading.Told.TheVariants as told
 use Rattle.event_script.specs.declared.reading.Found.{Found}
@@ -13,6 +13,20 @@ use Rattle.event_script.specs.declared.reading.Found.TheVariants as found
 abbrev pub told_event : Told → Event
 told_event (told.Stopped calls left e) = Cut (record { calls = calls; bytes = left; event = e })
 told_event (told.Whole e) = e
+
+-- whether an event is a Cut, whose bytes take memory when it is read
+abbrev pub is_cut : Event → Bool
+is_cut (Start a word) = false
+is_cut (AtNode a e) = false
+is_cut (Crash a) = false
+is_cut (AtHouse e) = false
+is_cut HouseCrash = false
+is_cut (Cut c) = true
+
+-- whether a Cut is the first of the events that are left
+abbrev pub is_cut_next : List Event → Bool
+is_cut_next [] = false
+is_cut_next (e ∷ rest) = is_cut e
 
 -- what a line was found to be
 abbrev pub found_line : Found → Line

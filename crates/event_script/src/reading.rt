@@ -1,6 +1,6 @@
-ghost use Rattle.std.specs.Prelude.{◌≡◌, ◌≤◌, option_map, IfOk};
+ghost use Rattle.std.specs.Prelude.{◌≡◌, ◌≤◌, option_map, true, IfOk, OnErr};
 ghost use Rattle.event_script.specs.Lines as defined;
-ghost use Rattle.event_script.specs.Left.{told_event, found_line};
+ghost use Rattle.event_script.specs.Left.{told_event, found_line, is_cut};
 
 use crate::event::{Asked, Cut, Event, FrameOf, HouseEvent, NodeEvent, NodePlace};
 use crate::numbers::{Hex, number};
@@ -24,9 +24,10 @@ pub enum Found<'a> {
 }
 
 impl<'a> Told<'a> {
-    /// The event; refused for want of memory alone.
+    /// The event; refused for want of memory alone, which the bytes of a Cut take.
     pub fn event(self, alloc: Global) -> Result<Event, AllocError>
-        ensures { IfOk result (λ event. event ≡ told_event self.entry) }
+        ensures event { IfOk result (λ event. event ≡ told_event self.entry) }
+        ensures cut { OnErr result (is_cut (told_event self.entry) ≡ true) }
     {
         match self {
             Told::Stopped(calls, hex, event) => Ok(Event::Cut(Cut {

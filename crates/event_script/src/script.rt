@@ -1,9 +1,9 @@
 //! Scripts of events: one event a line.
-ghost use Rattle.std.specs.Prelude.{◌≡◌, ◌≤◌, ◌<◌, IfOk, IfErr, OnErr, Ok, Err, false, true};
-ghost use Rattle.event_script.specs.Left.{all_read, events_of, is_read};
+ghost use Rattle.std.specs.Prelude.{◌≡◌, ◌≤◌, ◌<◌, IfOk, IfErr, OnErr, Ok, Err, true};
+ghost use Rattle.event_script.specs.Left.{all_read, events_of, is_cut_next, is_read};
 ghost use Rattle.event_script.specs.Lines.{line_of};
 ghost use Rattle.event_script.specs.Scripts.{script, places};
-ghost use Rattle.event_script.specs.Words.{lines, next_left, none_left};
+ghost use Rattle.event_script.specs.Words.{lines, next_left};
 
 use crate::event::{Event, PLACES};
 use crate::parts::Parts;
@@ -96,7 +96,7 @@ fn first_event<'a>(
     requires read { all_read places lines.now ≡ true }
     ensures first { IfOk result (λ r. next_left r.0 (events_of places lines.now) (events_of places r.1)) }
     ensures read { IfOk result (λ r. all_read places r.1 ≡ true) }
-    ensures left { OnErr result (none_left (events_of places lines.now) ≡ false) }
+    ensures cut { OnErr result (is_cut_next (events_of places lines.now) ≡ true) }
 {
     let mut left = lines.again();
     while let Some(line) = left.next() {
@@ -132,12 +132,12 @@ impl<'a> Script<'a> {
         })
     }
 
-    /// Takes the next event; none behind the last. Refused for want of memory alone, which the bytes of a Cut take: an event is
-    /// left then, and nothing changes.
+    /// Takes the next event; none behind the last. Refused for want of memory alone, which the bytes of a Cut take: the next event
+    /// is a Cut then, and nothing changes.
     pub fn next(&mut self, alloc: Global) -> Result<Option<Event>, AllocError>
         ensures next { IfOk result (λ event. next_left event self.old self.new) }
         ensures err { OnErr result (self.new ≡ self.old) }
-        ensures left { OnErr result (none_left self.old ≡ false) }
+        ensures cut { OnErr result (is_cut_next self.old ≡ true) }
     {
         let (event, left) = first_event(alloc, self.places, &self.lines)?;
         self.lines = left;

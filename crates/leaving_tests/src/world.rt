@@ -5,7 +5,7 @@ use crate::player::{Call, Player};
 use crate::seen::{Kind, Name, Seen, What, kind_and_address, name_of, of_packet};
 use codec::{Datagram, decode};
 use ids::{FrameNo, Progress};
-use node_core::{Fill, Node, NodeError, Step, SubView, Work};
+use node_core::{Fill, Node, NodeError, Step, SubState, SubView, Work};
 use serial_meaning::Job;
 use std::alloc::Global;
 use std::test::Fail;
@@ -122,9 +122,9 @@ fn of_work(work: &Work) -> Seen {
 
 /// What is seen of how far a subcomputation is, at its hop.
 fn of_progress(view: &SubView) -> Seen {
-    let what = match view.progress {
-        Progress::Active => What::Active,
-        Progress::Finished(_) => What::Finished,
+    let what = match view.state {
+        SubState::Active | SubState::Frozen(_, Progress::Active) => What::Active,
+        SubState::Finished(_) | SubState::Frozen(_, Progress::Finished(_)) => What::Finished,
     };
     Seen::Shows(what, name_of(view.grant), u64::from(view.hop.count()))
 }

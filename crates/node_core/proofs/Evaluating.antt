@@ -1,7 +1,8 @@
 -- What the turn of a ready frame itself leads to.
-use Rattle.std.proofs.Common.{◌≡◌, ℕ, ℤ, ◌^◌, Bool, true, false, cond, is_some, nat_lt, List, [], ◌∷◌, length, Option, Some, None, Result, Ok, Err, refl, sym, ap, ◌∙◌}
-use Rattle.std.proofs.lemmas.Bool.{eq-eqb}
-use Rattle.std.proofs.lemmas.Bool.Decides.{Decides-int_eq}
+use Rattle.std.proofs.Common.{◌≡◌, ℕ, ℤ, ◌^◌, Bool, true, false, cond, is_some, nat_eq, nat_lt, List, [], ◌∷◌, length, Option, Some, None, Result, Ok, Err, refl, sym, ap, ◌∙◌}
+use Rattle.std.proofs.lemmas.Bool.{and_parts, eq-eqb, not-false}
+use Rattle.std.proofs.lemmas.Bool.Decides.{Decides-eqb, Decides-int_eq}
+use Rattle.std.specs.Ordering.{int_eq}
 use Rattle.ids.specs.Names.{Grant}
 use Rattle.ids.specs.Options.{◌>>=◌}
 use Rattle.ids.specs.Slots.{numbers_in}
@@ -13,7 +14,7 @@ use Rattle.kind_check.specs.declared.turn.Turn.{Turn}
 use Rattle.body_eval.specs.Done.{DoneOf}
 use Rattle.frames.specs.Frames.{frame_in}
 use Rattle.serial_meaning.specs.Job.{JobOf}
-use Rattle.sub_rules.specs.Carrying.{exec as carry, executed, holds_numbers, is_turn_of, within_numbers}
+use Rattle.sub_rules.specs.Carrying.{exec as carry, executed, holds_numbers, is_stale_of, is_turn_of, within_numbers}
 use Rattle.sub_rules.specs.Changes.{granted_out, turned}
 use Rattle.sub_rules.specs.Content.{Ready, ready, ready_in, task_of}
 use Rattle.sub_rules.specs.declared.change.Change.{Change}
@@ -93,6 +94,38 @@ holds_same (Some v ∷ slots) numbers full = by_rest (λ vs is. holds_same slots
         let same : v ∷ vs ≡ numbers = cc in
         ap (holds_numbers (Some v ∷ slots)) (sym same) ∙ rw ((Decides-int_eq v v).1 refl, rest vs is) refl
 
+-- and slots that hold numbers are full of these
+held_numbers : (slots : List (Option ℤ)) (numbers : List ℤ) → holds_numbers slots numbers ≡ true → numbers_in slots ≡ Some numbers
+held_numbers [] [] holds = refl
+held_numbers [] (n ∷ ns) holds = cc
+held_numbers (None ∷ slots) [] holds = cc
+held_numbers (Some v ∷ slots) [] holds = cc
+held_numbers (None ∷ slots) (n ∷ ns) holds = cc
+held_numbers (Some v ∷ slots) (n ∷ ns) holds =
+    let both = and_parts (int_eq v n) (holds_numbers slots ns) holds in
+    let same : v ≡ n = (Decides-int_eq v n).0 both.0 in
+    let rest : numbers_in slots ≡ Some ns = held_numbers slots ns both.1 in
+    rw rest (ap (λ (k : ℤ). Some (k ∷ ns)) same)
+
+-- a turn that isn't stale is one of a ready frame, on its numbers
+record IsOwn (d : DoneOf) (f : ℕ) (c : Content) : Type 0 where
+  pub ready : Ready
+  pub there : ready_in f c ≡ Some ready
+  pub thread : d.thread ≡ ready.frame.thread
+  pub numbers : d.numbers ≡ ready.numbers
+
+fresh_is_own : (d : DoneOf) (f : ℕ) (c : Content) → is_stale_of d (frame_in f c.frames) ≡ false → IsOwn d f c
+fresh_is_own d f c fresh = by_frame (frame_in f c.frames) refl fresh
+  where
+    by_frame : (o : Option Frame) → frame_in f c.frames ≡ o → is_stale_of d o ≡ false → IsOwn d f c
+    by_frame None there is = absurd cc
+    by_frame (Some x) there is =
+        let own : is_turn_of d x ≡ true = not-false (is_turn_of d x) is in
+        let both = and_parts (nat_eq x.thread d.thread) (holds_numbers x.slots d.numbers) own in
+        let full : numbers_in x.slots ≡ Some d.numbers = held_numbers x.slots d.numbers both.1 in
+        let at : ready_in f c ≡ Some (record { frame = x; numbers = d.numbers }) = ap (λ (k : Option Frame). k >>= ready) there ∙ ap (λ (k : Option (List ℤ)). k >>= λ (ns : List ℤ). Some (record { frame = x; numbers = ns })) full in
+        record { ready = record { frame = x; numbers = d.numbers }; there = at; thread = sym ((Decides-eqb x.thread d.thread).0 both.0); numbers = refl }
+
 -- a ready frame by its parts
 record IsFull (f : ℕ) (c : Content) (r : Ready) : Type 0 where
   pub there : frame_in f c.frames ≡ Some r.frame
@@ -146,6 +179,12 @@ module _ (job : JobOf) (g : Grant) (f : ℕ) (n : NodeOf) (s : SubOf) (member : 
       let x : ReadyFrame = record { sub = s; ready = r } in
       joined n.state _ _ (Refused error.NotJoined) (calls.exec job d g f n) member (λ _.
       both_there (ready_at n g f) x d (λ (k : ReadyFrame). calls.own_turn job.program k.ready) (Refused error.Stale) (λ _ (e : DoneOf). calls.exec job e g f n) (ready_here (Some r) is) own)
+
+  -- so it is by one that isn't stale
+  pub fresh_known : (d : DoneOf) → d.program ≡ job.program → turn_of d.program d.thread d.numbers ≡ Some d.turn → is_stale_of d (frame_in f s.content.frames) ≡ false → calls.exec_ready job g f n ≡ calls.exec job d g f n
+  fresh_known d program reached fresh =
+      let own = fresh_is_own d f s.content fresh in
+      ready_known own.ready d own.there program own.thread own.numbers reached
 
   -- of a frame that is ready the turn is evaluated, and it isn't refused as stale
   turned_starves : (change : Change) → MayStarve (calls.changed job s n (within_numbers change))

@@ -108,18 +108,6 @@ none_there a none some is = rw is refl
 pub ready_unnamed : (job : JobOf) (g : Grant) (f : ℕ) (n : NodeOf) → HasNoFrame g f n.subs → calls.exec_ready job g f n ≡ Refused (unnamed n.state)
 ready_unnamed job g f n none = stale_by n.state _ _ (λ r. none_there (ready_at n g f) (Refused error.Stale) _ (none_live g f n.subs n.state none)) (λ r heir. refl)
 
-stale_there : (job : JobOf) (d : DoneOf) (g : Grant) (f : ℕ) (n : NodeOf) (subs : List SubOf) → HasNoFrame g f subs → by_option (sub_in g subs) (Refused error.Stale) (λ s. calls.changed job s n (carry d f s.content)) ≡ Refused error.Stale
-unfolding by_option
-stale_there job d g f n subs none = by_sub (sub_in g subs) refl
-  where
-    by_sub : (o : Option SubOf) → sub_in g subs ≡ o → by_option o (Refused error.Stale) (λ s. calls.changed job s n (carry d f s.content)) ≡ Refused error.Stale
-    by_sub None is = refl
-    by_sub (Some s) is = ap (λ (o : Option Frame). calls.changed job s n (executed d s.content o)) (none s is)
-
-pub exec_unnamed : (job : JobOf) (d : DoneOf) (g : Grant) (f : ℕ) (n : NodeOf) → HasNoFrame g f n.subs → calls.exec job d g f n ≡ Refused (unnamed n.state)
-unfolding calls.exec
-exec_unnamed job d g f n none = stale_by n.state _ _ (λ r. stale_there job d g f n n.subs none) (λ r heir. refl)
-
 -- a victim, or an heir, that no roster shows live
 not_asked : (b live : Bool) → live ≡ false → (b && live) ≡ false
 not_asked true live is = is

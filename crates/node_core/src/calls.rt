@@ -6,7 +6,7 @@ ghost use Rattle.ids.specs.Ordered.{AreInOrder};
 ghost use Rattle.node_core.specs.Calls as calls;
 ghost use Rattle.node_core.specs.Moves as moves;
 ghost use Rattle.node_state.specs.Node.{NodeOf};
-ghost use Rattle.node_core.specs.Meeting.{MayStarve, Meets};
+ghost use Rattle.node_core.specs.Meeting.{MayStarve, Meets, StarvesLast};
 ghost use Rattle.node_core.specs.declared.error.NodeError.TheVariants.{Memory};
 
 use crate::error::NodeError;
@@ -23,12 +23,12 @@ use std::alloc::{AllocError, Global};
 
 impl<'a> Node<'a> {
     /// Asks a victim for work, which is another worker that the roster shows live, or the clearinghouse. E60 where the node isn't
-    /// joined or has ended, or the victim isn't such a one; E61 where a request is pending, or the node leaves; E62 where no count of requests is
-    /// left; E63 where there is no memory. A refusal changes nothing.
+    /// joined or has ended, or the victim isn't such a one; E61 where a request is pending, or the node leaves; E62 where no count of
+    /// requests is left; E63 where there is no memory, behind all of these. A refusal changes nothing.
     #[tactic(auto, unfolding(crate::specs::Calls::ask, node_state::specs::Node::by_state))]
     pub fn ask(&mut self, alloc: Global, victim: Victim) -> Result<Step, NodeError>
         ensures answer { Meets (calls.ask self.old.job victim self.old.node) result self.old self.new }
-        ensures starved { IsErrOf result Memory → MayStarve (calls.ask self.old.job victim self.old.node) }
+        ensures starved { IsErrOf result Memory → StarvesLast (calls.ask self.old.job victim self.old.node) }
     {
         self.roster_rises();
         let roster = match self.parts.state() {

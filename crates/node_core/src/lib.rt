@@ -19,4 +19,4 @@ mod views;
 pub use error::NodeError;
 pub use node::Node;
 pub use parts::{Fill, Step, Victim};
-pub use views::{SubView, Work};
+pub use views::{SubState, SubView, Work};

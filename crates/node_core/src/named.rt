@@ -10,7 +10,7 @@ ghost use Rattle.subcomputation.specs.Subs.{SubOf, sub_in};
 ghost use Rattle.node_state.specs.Node.{by_state};
 ghost use Rattle.node_state.specs.declared.parts.State.TheVariants as state;
 ghost use Rattle.node_core.specs.Calls as calls;
-ghost use Rattle.node_core.specs.Meeting.{MayStarve, Meets};
+ghost use Rattle.node_core.specs.Meeting.{MayStarve, Meets, StarvesLast};
 ghost use Rattle.node_core.specs.declared.error.NodeError.TheVariants.{Memory, NotJoined, Stale, Busy, Pending, NoHeir};
 ghost use Rattle.node_core.specs.declared.parts.Victim.TheVariants as victim;
 
@@ -41,8 +41,8 @@ impl<'a> Node<'a> {
         }
     }
 
-    /// As `exec`, for a grant and a frame by their numbers: E40 too where these name none, at a node that is joined.
-    pub fn exec_named(
+    /// As `exec_turn`, for a grant and a frame by their numbers: E40 too where these name none, at a node that is joined.
+    pub fn exec_turn_named(
         &mut self,
         alloc: Global,
         minter: u64,
@@ -51,11 +51,11 @@ impl<'a> Node<'a> {
         done: &Done,
     ) -> Result<Step, NodeError>
         requires { done.now.program ≡ self.old.job.program }
-        ensures answer { Meets (calls.exec self.old.job done.now (record { minter = minter; number = number }) frame self.old.node) result self.old self.new }
-        ensures starved { IsErrOf result Memory → MayStarve (calls.exec self.old.job done.now (record { minter = minter; number = number }) frame self.old.node) }
+        ensures answer { Meets (calls.exec_ready self.old.job (record { minter = minter; number = number }) frame self.old.node) result self.old self.new }
+        ensures starved { IsErrOf result Memory → MayStarve (calls.exec_ready self.old.job (record { minter = minter; number = number }) frame self.old.node) }
     {
         match self.named(minter, number, frame) {
-            Some((grant, frame)) => self.exec(alloc, grant, frame, done),
+            Some((grant, frame)) => self.exec_turn(alloc, grant, frame, done),
             None => Err(self.unnamed()),
         }
     }
@@ -86,7 +86,7 @@ impl<'a> Node<'a> {
     /// As `ask`, for a worker by its start word: E60 too for a word that is no worker's.
     pub fn ask_named(&mut self, alloc: Global, word: u64) -> Result<Step, NodeError>
         ensures answer { Meets (calls.ask self.old.job (victim.Worker word) self.old.node) result self.old self.new }
-        ensures starved { IsErrOf result Memory → MayStarve (calls.ask self.old.job (victim.Worker word) self.old.node) }
+        ensures starved { IsErrOf result Memory → StarvesLast (calls.ask self.old.job (victim.Worker word) self.old.node) }
     {
         match Incarnation::worker(word) {
             Some(worker) => self.ask(alloc, Victim::Worker(worker)),

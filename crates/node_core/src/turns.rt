@@ -1,5 +1,5 @@
-//! A node evaluates a frame itself.
-ghost use Rattle.std.specs.Prelude.{◌≡◌, IsErrOf};
+//! A node carries out a ready frame by that frame's own turn.
+ghost use Rattle.std.specs.Prelude.{◌≡◌, true, IsErrOf};
 ghost use Rattle.node_core.specs.Calls as calls;
 ghost use Rattle.node_core.specs.Meeting.{MayStarve, Meets};
 ghost use Rattle.node_core.specs.declared.error.NodeError.TheVariants.{Memory};
@@ -12,6 +12,7 @@ use body_eval::Done;
 use ids::{FrameNo, GrantId};
 use node_state::State;
 use std::alloc::Global;
+use sub_rules::is_stale;
 
 impl<'a> Node<'a> {
     /// Evaluates a ready frame of a grant's subcomputation, and carries it out by that turn. E60 where the node isn't joined or
@@ -45,5 +46,40 @@ impl<'a> Node<'a> {
         };
         let done = Done::of(alloc, checked, work.thread, work.numbers.into_vec())?;
         self.exec(alloc, grant, frame, &done)
+    }
+
+    /// As `exec_ready`, with a turn that was evaluated before, of the job's program: one of the ready frame's thread on its numbers
+    /// is that frame's own and is used; another one is put aside, and the body is evaluated here.
+    pub fn exec_turn(
+        &mut self,
+        alloc: Global,
+        grant: GrantId,
+        frame: FrameNo,
+        done: &Done,
+    ) -> Result<Step, NodeError>
+        requires { done.now.program ≡ self.old.job.program }
+        ensures answer { Meets (calls.exec_ready self.old.job grant frame self.old.node) result self.old self.new }
+        ensures starved { IsErrOf result Memory → MayStarve (calls.exec_ready self.old.job grant frame self.old.node) }
+    {
+        if self.is_own(grant, frame, done) {
+            self.exec(alloc, grant, frame, done)
+        } else {
+            self.exec_ready(alloc, grant, frame)
+        }
+    }
+
+    /// Whether a turn is a ready frame's own: carrying the frame out by its own turn is carrying it out by this one then.
+    fn is_own(&self, grant: GrantId, frame: FrameNo, done: &Done) -> bool
+        requires { done.now.program ≡ self.now.job.program }
+        ensures { result ≡ true → calls.exec_ready self.now.job grant frame self.now.node ≡ calls.exec self.now.job done.now grant frame self.now.node }
+    {
+        let State::Member(_) = self.parts.state() else {
+            return false;
+        };
+        let Some(sub) = self.parts.sub(grant) else {
+            return false;
+        };
+        let _ = done.turn();
+        !is_stale(sub.content(), frame, done)
     }
 }

@@ -7,7 +7,7 @@ ghost use Rattle.node_core.specs.declared.error.NodeError.TheVariants.{Memory};
 use crate::error::NodeError;
 use crate::node::Node;
 use frames::Frames;
-use ids::{FrameNo, GrantId, Hop, Listed, Progress};
+use ids::{FrameNo, GrantId, Hop, Incarnation, Listed, Outcome, Progress};
 use node_state::State;
 use std::alloc::{AllocError, Global};
 use sub_rules::numbers_in;
@@ -24,13 +24,22 @@ pub struct Work {
     pub numbers: Listed<i64>,
 }
 
-/// A subcomputation, as it is shown: its grant, how often it had moved when it came, how far it is, the numbers of its ready
-/// frames and of those that wait, and the grants of its open records.
+/// The state of a subcomputation, as it is shown: active; frozen for the heir to which the node leaves, with how far it was then; or
+/// finished, with its outcome.
+#[derive(Clone, Copy, PartialEq, Eq, Debug)]
+pub enum SubState {
+    Active,
+    Frozen(Incarnation, Progress),
+    Finished(Outcome),
+}
+
+/// A subcomputation, as it is shown: its grant, how often it had moved when it came, its state, the numbers of its ready frames and
+/// of those that wait, and the grants of its open records.
 #[derive(Drop)]
 pub struct SubView {
     pub grant: GrantId,
     pub hop: Hop,
-    pub progress: Progress,
+    pub state: SubState,
     pub ready: Listed<FrameNo>,
     pub waiting: Listed<FrameNo>,
     pub open: Listed<GrantId>,
@@ -55,16 +64,28 @@ impl<'a> Node<'a> {
         Ok(work_in(alloc, post.grant, sub, post.frame)?)
     }
 
-    /// The subcomputations that it holds, by rising grant. Refused for want of memory alone (E63).
+    /// The subcomputations that it holds, by rising grant, each with its state: those of a node that leaves are frozen for its heir.
+    /// Refused for want of memory alone (E63).
     pub fn subs(&self, alloc: Global) -> Result<Listed<SubView>, NodeError>
-        ensures subs { IfOk result (λ s. s ≡ map views.view_of self.now.node.subs) }
+        ensures subs { IfOk result (λ s. s ≡ map (views.view_of (views.heir_of self.now.node.state)) self.now.node.subs) }
         ensures memory { IfErr result (λ e. e ≡ Memory) }
     {
+        let heir = self.heir();
         let mut shown = Listed::new(alloc);
         for sub in self.parts.subs() {
-            shown.push(view_of(alloc, sub)?)?;
+            shown.push(view_of(alloc, heir, sub)?)?;
         }
         Ok(shown)
+    }
+
+    /// The heir to which the node leaves, if it does.
+    fn heir(&self) -> Option<Incarnation>
+        ensures { result ≡ views.heir_of self.now.node.state }
+    {
+        match self.parts.state() {
+            State::Leaving(_, heir) => Some(*heir),
+            State::Joining | State::Member(_) | State::Ended => None,
+        }
     }
 }
 
@@ -91,15 +112,26 @@ pub fn work_in(
     }))
 }
 
+/// The state that is shown of a subcomputation: frozen, where it is for an heir.
+fn state_of(heir: Option<Incarnation>, progress: Progress) -> SubState
+    ensures { result ≡ views.state_of heir progress }
+{
+    match (heir, progress) {
+        (Some(heir), _) => SubState::Frozen(heir, progress),
+        (None, Progress::Active) => SubState::Active,
+        (None, Progress::Finished(outcome)) => SubState::Finished(outcome),
+    }
+}
+
 /// A subcomputation, as it is shown.
-fn view_of(alloc: Global, sub: &Sub) -> Result<SubView, AllocError>
-    ensures { IfOk result (λ v. v ≡ views.view_of sub.now) }
+fn view_of(alloc: Global, heir: Option<Incarnation>, sub: &Sub) -> Result<SubView, AllocError>
+    ensures { IfOk result (λ v. v ≡ views.view_of heir sub.now) }
 {
     let content = sub.content();
     Ok(SubView {
         grant: sub.grant(),
         hop: sub.hop(),
-        progress: content.progress,
+        state: state_of(heir, content.progress),
         ready: ready_numbers(alloc, &content.frames)?,
         waiting: waiting_numbers(alloc, &content.frames)?,
         open: open_grants(alloc, &content.records)?,

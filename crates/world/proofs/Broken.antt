@@ -41,14 +41,10 @@ Packets job w = (i : ℕ) (q : PacketOf) → slice_get w.net i ≡ Some q → Bo
 abbrev Held : JobOf → WorldOf → Type 0
 Held job w = (a : ℕ) (g : Grant) → (at : Holder w a g) → ContentAgrees job at.sub.content
 
--- a body that is no Grant, and what holds of a Grant's task
+-- a body that is no Grant
 abbrev IsOther : Body → Type 0
 IsOther (body.Grant b) = ⊥
 IsOther other = Unit {0}
-
-abbrev IfGrant : (Task → Type 0) → Body → Type 0
-IfGrant P (body.Grant b) = P b.task
-IfGrant P other = Unit {0}
 
 one_once : (f : Fill) → FilledOnce (f ∷ [])
 one_once f zero zero g h is there same = refl
@@ -171,7 +167,7 @@ module _ (p : Pointer) (d : Device) where
   breaks_result = (
     λ packets.
         let found = packets 0 (returned (Value (pos 1))) refl in
-        let was = found.1 in
+        let was = found.0.1 in
         all_at (λ (q : PacketOf). IsOther q.body) (returned (Value (pos 1)) ∷ []) (tt, tt) was.at _ was.sent,
     none_held _,
   )
@@ -180,15 +176,12 @@ module _ (p : Pointer) (d : Device) where
   abbrev wrong_result : List PacketOf
   wrong_result = granted root_task ∷ returned (Value (pos 7)) ∷ []
 
-  only_root : (t : Task) → WasGranted job wrong_result root t → root_task ≡ t
-  only_root t was = all_at (λ (q : PacketOf). IfGrant (λ u. u ≡ t → root_task ≡ t) q.body) wrong_result ((λ same. same), (tt, tt)) was.at _ was.sent refl
-
   breaks_outcome_told : ¬ Packets job (packets_of wrong_result) × Held job (packets_of wrong_result)
   unfolding value_within
   breaks_outcome_told = (
     λ packets.
         let found = packets 1 (returned (Value (pos 7))) refl in
-        let told : Value (pos 7) ≡ Value (pos 1) = subst (λ (t : Task). Value (pos 7) ≡ outcome_at job.program job.input t.place) (sym (only_root found.0 found.1)) found.2 in
+        let told : Value (pos 7) ≡ Value (pos 1) = found.1 root_task (record { at = 0; to = 3; seq = 1; sent = refl }) in
         let number : pos 7 ≡ pos 1 = cc in
         cc,
     none_held _,

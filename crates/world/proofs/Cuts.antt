@@ -14,7 +14,7 @@ use Rattle.checkpoint.specs.Store.{Keeps}
 use Rattle.checkpoint.specs.declared.record.Record.{Record}
 use Rattle.disk.proofs.Crashes.{crash-leaves-bytes_of, settled-shrinks, synced-only}
 use Rattle.disk.specs.Device.{Device}
-use Rattle.disk.specs.File.{bytes_of}
+use Rattle.disk.specs.File.{bytes_of, synced}
 use Rattle.serial_meaning.proofs.Fib.{Pointer}
 use Rattle.steal_protocol.specs.Replies.{by_order}
 use Rattle.node_state.specs.Node.{by_state}
@@ -34,8 +34,9 @@ use Rattle.event_script.specs.declared.event.Event.TheVariants.{AtHouse, Cut}
 use Rattle.event_script.specs.declared.event.HouseEvent.TheVariants as at_house
 use Rattle.world.specs.Answers.{Outturn, with_some}
 use Rattle.world.specs.Houses.{Opens, goes_to, halted, made, opened_by}
-use Rattle.world.specs.Steps.{HouseEnds, Step, stopped}
+use Rattle.world.specs.Steps.{HouseEnds, Step, cut_short, settled_by, stopped}
 use Rattle.world.specs.World.{HouseAt, IsUp, WorldOf, recorded}
+use Rattle.world.proofs.Devices.{settled_is}
 use Rattle.world.proofs.Formatted.{epoch_disk, again_body, begun, body_of, closed_store, ended, ended_again_body, epoch_store, outcome_store, second_commit, second_committed, with_gate}
 use Rattle.world.proofs.Rows.{job as job_on_2, o11, o12}
 
@@ -65,6 +66,10 @@ open_after_6 : bytes_of (made epoch_disk second_commit).file ≡ with_gate 165
 unfolding after
 open_after_6 = refl
 
+kept_after_6 : synced (made epoch_disk second_commit).file ≡ (made epoch_disk second_commit).file
+unfolding after
+kept_after_6 = refl
+
 -- a checkpoint that can be opened
 abbrev way_of : (job : JobOf) (d : Device) (second : Bool) (n : ℕ) (r : Record) (bytes : List ℕ) → IsStore (bytes_of d.file) second n r → r.job ≡ job.number → can_begin (kept_in n r) ≡ true → IsBody bytes (n + 1) (record_of job (next_epoch (kept_in n r))) → Opens job d
 way_of job d second n r bytes store own begins body = record {
@@ -79,7 +84,7 @@ way_of job d second n r bytes store own begins body = record {
 
 -- a clearinghouse that is stopped can be opened, and has this outcome then
 abbrev Finds : JobOf → WorldOf → Option Outcome → Type 0
-Finds job w outcome = (o : Outturn) × Step job None (AtHouse at_house.Restart) w o × (recorded o.world ≡ outcome)
+Finds job w outcome = (o : Outturn) × Step job (AtHouse at_house.Restart) w o × (recorded o.world ≡ outcome)
 
 module _ (p : Pointer) where
   abbrev before : WorldOf
@@ -92,12 +97,12 @@ module _ (p : Pointer) where
   abbrev halts : ℕ → List ℕ → Outturn
   halts calls bytes = stopped (goes_to (Stopped by.Device) (halted before.disk second_commit calls bytes) [] (Some error.Device) before)
 
-  cut_halts : (calls : ℕ) (bytes : List ℕ) → calls < 6 → Step (job_on_2 p) None (cut calls bytes) before (halts calls bytes)
+  cut_halts : (calls : ℕ) (bytes : List ℕ) → calls < 6 → Step (job_on_2 p) (cut calls bytes) before (halts calls bytes)
   unfolding on_body on_packet by_status by_order passes follow node_body node_packet node.by_status by_option by_state for_some ask depart exec resend with_some after
   cut_halts calls bytes few = inl (inr (refl, tt, inr (_, (second_commit, second_committed, few, refl), refl)))
 
   -- it makes six, and then it ends before it is stopped
-  cut_ends : (bytes : List ℕ) → Step (job_on_2 p) None (cut 6 bytes) before (stopped (o12 p))
+  cut_ends : (bytes : List ℕ) → Step (job_on_2 p) (cut 6 bytes) before (cut_short bytes (o12 p))
   unfolding on_body on_packet by_status by_order passes follow node_body node_packet node.by_status by_option by_state for_some ask depart exec resend with_some after
   cut_ends bytes = inl (inr (refl, tt, inl (6, (second_commit, second_committed, refl), omega arith, (o12 p, (second_commit, second_committed, refl), refl))))
 
@@ -109,12 +114,12 @@ module _ (p : Pointer) where
   kept : (calls : ℕ) (bytes : List ℕ) → calls ≤ 4 → Keeps (halts calls bytes).world.disk.file 1 begun
   kept calls bytes few = subst (λ (d : Device). Keeps (halted d second_commit calls bytes).file 1 begun) (sym disk_is) (still_kept calls bytes few)
 
-  none_found : (calls : ℕ) (bytes : List ℕ) → calls ≤ 4 → (o : Outturn) → Step (job_on_2 p) None (AtHouse at_house.Restart) (halts calls bytes).world o → recorded o.world ≡ None
+  none_found : (calls : ℕ) (bytes : List ℕ) → calls ≤ 4 → (o : Outturn) → Step (job_on_2 p) (AtHouse at_house.Restart) (halts calls bytes).world o → recorded o.world ≡ None
   none_found calls bytes few o (inl (inl s)) =
       let same = (one_kept (halts calls bytes).world.disk.file s.0.reads.0 s.0.sequence 1 s.0.found begun s.0.reads.1 (kept calls bytes few)).1 in
       ap (λ (x : Outturn). recorded x.world) s.1 ∙ ap (λ (r : Record). r.outcome) same
   none_found calls bytes few o (inl (inr s)) = ap (λ (x : Outturn). recorded x.world) s.2
-  none_found calls bytes few o (inr s) = ap (λ (x : Outturn). recorded x.world) s.2.3
+  none_found calls bytes few o (inr s) = ap (λ (x : Outturn). recorded x.world) s.3.3
 
   opens_again : (calls : ℕ) (bytes : List ℕ) → calls ≤ 4 → Finds (job_on_2 p) (halts calls bytes).world None
   opens_again calls bytes few =
@@ -147,5 +152,9 @@ module _ (p : Pointer) where
   unfolding on_body on_packet by_status by_order passes follow node_body node_packet node.by_status by_option by_state for_some ask depart exec resend with_some after
   disk_after_6 = refl
 
-  found_after_6 : Finds (job_on_2 p) (stopped (o12 p)).world (Some (Value (pos 1)))
-  found_after_6 = finds_outcome (stopped (o12 p)).world refl (ap (λ (d : Device). bytes_of d.file) disk_after_6 ∙ open_after_6)
+  -- the bytes settle nothing then
+  settled_after_6 : (bytes : List ℕ) → bytes_of (settled_by bytes (made epoch_disk second_commit)).file ≡ with_gate 165
+  settled_after_6 bytes = ap (λ (d : Device). bytes_of d.file) (sym (settled_is (made epoch_disk second_commit) bytes kept_after_6)) ∙ open_after_6
+
+  found_after_6 : (bytes : List ℕ) → Finds (job_on_2 p) (cut_short bytes (o12 p)).world (Some (Value (pos 1)))
+  found_after_6 bytes = finds_outcome (cut_short bytes (o12 p)).world refl (ap (λ (d : Device). bytes_of (settled_by bytes d).file) disk_after_6 ∙ settled_after_6 bytes)

@@ -1,13 +1,17 @@
 -- A device over calls: unarmed, and armed and then crashed; and files that are on the disk for good.
-use Rattle.std.proofs.Common.{◌≡◌, ◌⊎◌, inl, inr, ℕ, zero, suc, ◌+◌, ◌<◌, ◌≤◌, ◌%◌, ◌^◌, true, false, IsTrue, List, [], ◌∷◌, ◌++◌, length, take, Option, None, Some, cond, refl, sym, ap, subst, ◌∙◌, arith}
+use Rattle.std.proofs.Common.{◌≡◌, ◌⊎◌, inl, inr, ℕ, zero, suc, ◌+◌, ◌-◌, ◌<◌, ◌≤◌, ◌%◌, ◌^◌, true, false, IsTrue, List, [], ◌∷◌, ◌++◌, length, take, drop, Bool, not, Option, None, Some, IsSome, cond, refl, sym, ap, subst, ◌∙◌, arith}
 use Rattle.std.proofs.lemmas.Bool.{cases_lt}
-use Rattle.std.proofs.lemmas.List.{length-take-le}
+use Rattle.std.proofs.lemmas.List.{length-append, length-drop, length-take-le}
 use Rattle.std.specs.Prelude.{unwrap_or}
 use Rattle.disk.specs.declared.cells.Cell.{Cell}
 use Rattle.disk.specs.Device.{Arming, Unarmed, Armed, Device, Failed, armed, armed_bytes, called, crashed, passed, rearmed, stop_after}
-use Rattle.disk.specs.File.{is_synced, settled, synced, synced_cell}
-use Rattle.checkpoint.specs.Calls.{Call, Passed, Stopped, after, changed}
+use Rattle.disk.specs.File.{bytes_of, is_synced, over, settled, synced, synced_cell, written}
+use Rattle.checkpoint.specs.Calls.{Call, Lacks, Write, Passed, Stopped, after, changed}
+use Rattle.checkpoint.specs.Commit.{IsCommit, closing, opening, publishing}
+use Rattle.checkpoint.specs.Pair.{is_open, place, slot}
+use Rattle.checkpoint.specs.declared.record.Record.{Record}
 use Rattle.world.specs.Houses.{halted, made}
+use Rattle.world.specs.Steps.{settled_by}
 
 -- what is synced stays so
 pub synced-synced : (file : List Cell) → synced (synced file) ≡ synced file
@@ -92,12 +96,19 @@ no_later k n bytes none = by_order (cases_lt k n)
     by_order (inl below) = let one = none k below in let other = planned_then k bytes in let no : ⊥ = cc in absurd no
     by_order (inr above) = above
 
+-- a call of a list may lack memory, or goes past the end of the file that those before it leave
+abbrev pub LacksAt : List Call → ℕ → List Cell → Type 0
+LacksAt [] i file = ⊥
+LacksAt (call ∷ calls) zero file = Lacks call file
+LacksAt (call ∷ calls) (suc i) file = LacksAt calls i (changed file call)
+
 -- where a call failed, and those before it passed
 pub record StoppedAt (calls : List Call) (plan : ℕ → Option (List ℕ)) (d new : Device) : Type 0 where
   pub at : ℕ
   pub below : at < length calls
   pub before : (i : ℕ) → i < at → plan i ≡ None
   pub failed : Failed (after d (take at calls)) new (plan at)
+  pub cause : IsTrue d.can_cut → IsSome (plan at) ⊎ LacksAt calls at d.file
 
 before_suc : (plan : ℕ → Option (List ℕ)) (at i : ℕ) → plan 0 ≡ None → ((j : ℕ) → j < at → plan (suc j) ≡ None) → i < suc at → plan i ≡ None
 before_suc plan at zero first later below = first
@@ -106,17 +117,17 @@ before_suc plan at (suc i) first later below = later i (omega arith)
 pub stopped_at : (calls : List Call) (plan : ℕ → Option (List ℕ)) (d new : Device) → Stopped calls plan d new → StoppedAt calls plan d new
 unfolding Stopped after
 stopped_at [] plan d new stop = absurd stop
-stopped_at (call ∷ calls) plan d new (inl fails) = record { at = 0; below = omega arith; before = λ i h. absurd (omega arith); failed = fails.failed }
+stopped_at (call ∷ calls) plan d new (inl fails) = record { at = 0; below = omega arith; before = λ i h. absurd (omega arith); failed = fails.failed; cause = fails.cause }
 stopped_at (call ∷ calls) plan d new (inr rest) =
     let s = stopped_at calls (λ i. plan (suc i)) (passed d (changed d.file call)) new rest.1 in
-    record { at = suc s.at; below = omega (arith, s.below); before = λ i h. before_suc plan s.at i rest.0 s.before h; failed = s.failed }
+    record { at = suc s.at; below = omega (arith, s.below); before = λ i h. before_suc plan s.at i rest.0 s.before h; failed = s.failed; cause = s.cause }
 
 -- an unarmed device: calls that passed
 pub made_unarmed : (d : Device) (calls : List Call) → d.arming ≡ Unarmed → after d calls ≡ made d calls
 made_unarmed d calls unarmed = ap (λ a. record (after d calls) { arming = a }) (after-unarmed d calls unarmed ∙ sym unarmed)
 
 -- a call failed that nothing was planned for
-none_planned : (arming : Arming) (i : ℕ) → arming ≡ Unarmed → stop_after arming i ≡ None
+pub none_planned : (arming : Arming) (i : ℕ) → arming ≡ Unarmed → stop_after arming i ≡ None
 none_planned arming i is = ap (λ a. stop_after a i) is
 
 pub halted_unarmed : (d new : Device) (calls : List Call) → d.arming ≡ Unarmed → IsTrue d.can_cut → (s : StoppedAt calls (stop_after d.arming) d new) → new ≡ halted d calls s.at []
@@ -169,3 +180,98 @@ module _ (d : Device) (k : ℕ) (bytes : List ℕ) (unarmed : d.arming ≡ Unarm
       (sym unarmed)
       (s.failed.counted ∙ ap (λ n. (n + 1) % 2 ^ 64) (after-failures there (take s.at calls)))
       (s.failed.same ∙ after-can_cut there (take s.at calls))
+
+-- what is planned for an armed device: nothing before the call that is to fail
+pub planned_late : (k i : ℕ) (bytes : List ℕ) → IsSome (stop_after (Armed k bytes) i) → k ≤ i
+planned_late zero i bytes some = omega arith
+planned_late (suc k) zero bytes some = absurd (let wrong : false ≡ true = some in let no : ⊥ = cc in no)
+planned_late (suc k) (suc i) bytes some = omega (arith, planned_late k i bytes some)
+
+-- a write within a file leaves its length, and so does a sync
+length-over : (file : List Cell) (bytes : List ℕ) → length bytes ≤ length file → length (over file bytes) ≡ length file
+length-over [] [] within = refl
+length-over (cell ∷ file) [] within = refl
+length-over [] (b ∷ bytes) within = absurd (omega arith)
+length-over (cell ∷ file) (b ∷ bytes) within =
+    let shorter : length bytes ≤ length file = omega arith in
+    let same = length-over file bytes shorter in
+    omega (arith, same)
+
+length-written : (file : List Cell) (at : ℕ) (bytes : List ℕ) → at + length bytes ≤ length file → length (written file at bytes) ≡ length file
+length-written file at bytes within =
+    let rest : length (drop at file) ≡ length file - at = length-drop at file in
+    let fits : length bytes ≤ length (drop at file) = omega (arith, rest) in
+    let same = length-over (drop at file) bytes fits in
+    let front : length (take at file) ≡ at = length-take-le at file (omega arith) in
+    let both = length-append (take at file) (over (drop at file) bytes) in
+    omega (arith, rest, same, front, both)
+
+length-synced : (file : List Cell) → length (synced file) ≡ length file
+length-synced [] = refl
+length-synced (cell ∷ file) = ap suc (length-synced file)
+
+length-bytes : (file : List Cell) → length (bytes_of file) ≡ length file
+length-bytes [] = refl
+length-bytes (cell ∷ file) = ap suc (length-bytes file)
+
+-- the calls of a commit lack nothing: they stay within the file
+
+place_within : (second : Bool) → place 8 63 second ≤ 72
+place_within true = omega arith
+place_within false = omega arith
+
+closing_short : (gate : Bool) → length (closing gate) ≤ 1
+closing_short true = omega arith
+closing_short false = omega arith
+
+-- a write of a commit
+put_lacks : (file : List Cell) (at : ℕ) (bytes : List ℕ) → length file ≡ 136 → at + length bytes ≤ 136 → Lacks (Write at bytes) file → ⊥
+put_lacks file at bytes size within lacks = absurd (omega arith)
+
+put_size : (file : List Cell) (at : ℕ) (bytes : List ℕ) → length file ≡ 136 → at + length bytes ≤ 136 → length (synced (written file at bytes)) ≡ 136
+put_size file at bytes size within =
+    length-synced (written file at bytes) ∙ length-written file at bytes (omega arith) ∙ size
+
+module _ (file : List Cell) (at : ℕ) (gate : Bool) (bytes : List ℕ) (size : length file ≡ 136) (here : at ≤ 72) (body : length bytes ≡ 63) where
+  abbrev closed : List Cell
+  closed = synced (written file at (closing gate))
+
+  abbrev written_in : List Cell
+  written_in = synced (written closed (at + 1) bytes)
+
+  first_within : at + length (closing gate) ≤ 136
+  first_within = omega (arith, closing_short gate)
+
+  closed_size : length closed ≡ 136
+  closed_size = put_size file at (closing gate) size first_within
+
+  written_size : length written_in ≡ 136
+  written_size = put_size closed (at + 1) bytes closed_size (omega arith)
+
+  publishing_lacks : (i : ℕ) → LacksAt (publishing at gate bytes) i file → ⊥
+  publishing_lacks zero lacks = put_lacks file at (closing gate) size first_within lacks
+  publishing_lacks (suc zero) lacks = lacks
+  publishing_lacks (suc (suc zero)) lacks = put_lacks closed (at + 1) bytes closed_size (omega arith) lacks
+  publishing_lacks (suc (suc (suc zero))) lacks = lacks
+  publishing_lacks (suc (suc (suc (suc zero)))) lacks = put_lacks written_in at (165 ∷ []) written_size (omega arith) lacks
+  publishing_lacks (suc (suc (suc (suc (suc zero))))) lacks = lacks
+  publishing_lacks (suc (suc (suc (suc (suc (suc i)))))) lacks = lacks
+
+pub commit_lacks : (file : List Cell) (n : ℕ) (before next : Record) (calls : List Call) (i : ℕ) → IsCommit (bytes_of file) n before next calls → LacksAt calls i file → ⊥
+commit_lacks file n before next calls i commit lacks =
+    let size : length file ≡ 136 = sym (length-bytes file) ∙ commit.current.size in
+    publishing_lacks file (place 8 63 (not commit.second)) (is_open (slot 8 63 (not commit.second) (bytes_of file))) commit.bytes size (place_within (not commit.second)) commit.body.size i
+    (subst (λ (l : List Call). LacksAt l i file) commit.same lacks)
+
+-- of an opening only the read does
+pub opening_lacks : (file : List Cell) (i : ℕ) → LacksAt opening i file → i ≡ 0
+opening_lacks file zero lacks = refl
+opening_lacks file (suc i) lacks = absurd lacks
+
+pub opened_lacks : (file : List Cell) (n : ℕ) (before next : Record) (calls : List Call) (i : ℕ) → IsCommit (bytes_of file) n before next calls → LacksAt (opening ++ calls) i file → i ≡ 0
+opened_lacks file n before next calls zero commit lacks = refl
+opened_lacks file n before next calls (suc i) commit lacks = absurd (commit_lacks file n before next calls i commit lacks)
+
+-- a device that keeps what is read keeps it, whatever isn't synced becomes
+pub settled_is : (d : Device) (bytes : List ℕ) → synced d.file ≡ d.file → d ≡ settled_by bytes d
+settled_is d bytes still = ap (λ f. record d { file = f }) (sym (still-settled d.file bytes still))

@@ -1,6 +1,5 @@
 -- The net, the fills and the used words only grow, whatever happens.
 use Rattle.std.proofs.Common.{◌≡◌, inl, inr, refl, sym, ap, ◌∙◌, subst, ℕ, Bool, true, false, not, ◌&&◌, cond, List, [], ◌∷◌, ◌++◌, Option, None, Some, is_some, Ordering, Less, Equal, Greater}
-use Rattle.body_eval.specs.Done.{DoneOf}
 use Rattle.codec.specs.Table.{PacketOf}
 use Rattle.ids.proofs.KeyedLaws.{put_found}
 use Rattle.ids.proofs.NameOrder.{equal_to_itself, exact_names, names_total}
@@ -24,7 +23,7 @@ use Rattle.subcomputation.proofs.Others.{put_other}
 use Rattle.world.specs.Answers.{Outturn, Unfit, answered, same, stepped, with_some}
 use Rattle.world.specs.Houses.{Ends, Halts, RestartHalts, Restarts, house_answer}
 use Rattle.world.specs.Nodes.{at_node}
-use Rattle.world.specs.Steps.{CarriedOut, DeviceFails, HouseEnds, HouseHalts, IfApplies, Step, ThenStopped, house_crash}
+use Rattle.world.specs.Steps.{CarriedOut, DeviceFails, HouseEnds, HouseHalts, IfApplies, Step, ThenCut, ThenStopped, house_crash}
 use Rattle.world.specs.World.{Down, HouseAt, IsUp, WorldOf, is_used, name_of_word, node_in, with_used}
 
 pub record Grown (w : WorldOf) (o : Outturn) : Type 0 where
@@ -84,17 +83,22 @@ then_stopped w P o p s =
     let before = p s.0 s.1 in
     is w o _ s.2 (record { sent = before.sent; net = before.net; filled = before.filled; fills = before.fills; used = before.used })
 
+then_cut : (w : WorldOf) (bytes : List ℕ) (P : Outturn → Type 0) (o : Outturn) → ((x : Outturn) → P x → Grown w x) → ThenCut bytes P o → Grown w o
+then_cut w bytes P o p s =
+    let before = p s.0 s.1 in
+    is w o _ s.2 (record { sent = before.sent; net = before.net; filled = before.filled; fills = before.fills; used = before.used })
+
 crash_of : (h : HouseAt) (w : WorldOf) → Grown w (house_crash h w)
 crash_of Down w = no_more w _ refl refl refl
 crash_of (IsUp state) w = no_more w _ refl refl refl
 
 module _ (job : JobOf) where
-  at_node_grows : (choice : Option Choice) (turn : Option DoneOf) (a : ℕ) (e : NodeEvent) (n : NodeOf) (w : WorldOf) → Grown w (at_node job choice turn a e n w)
-  at_node_grows choice turn a (Deliver i) n w = by_some w _ _ (λ p. answers a _ w)
-  at_node_grows choice turn a (Exec f) n w = answers a _ w
-  at_node_grows choice turn a (Ask v) n w = answers a _ w
-  at_node_grows choice turn a Resend n w = answers a _ w
-  at_node_grows choice turn a (Depart heir) n w = answers a _ w
+  at_node_grows : (choice : Option Choice) (a : ℕ) (e : NodeEvent) (n : NodeOf) (w : WorldOf) → Grown w (at_node job choice a e n w)
+  at_node_grows choice a (Deliver i) n w = by_some w _ _ (λ p. answers a _ w)
+  at_node_grows choice a (Exec f) n w = answers a _ w
+  at_node_grows choice a (Ask v) n w = answers a _ w
+  at_node_grows choice a Resend n w = answers a _ w
+  at_node_grows choice a (Depart heir) n w = answers a _ w
 
   applied : (P : house.Answer → Type 0) (unfit G : Type 0) (a : Option house.Answer) → ((x : house.Answer) → P x → G) → (unfit → G) → IfApplies job P unfit a → G
   applied P unfit G None p q is = q is
@@ -135,25 +139,25 @@ module _ (job : JobOf) where
   house_halts (at_house.Tick now) (IsUp (Stopped t)) k bytes w o s = absurd s
   house_halts (at_house.Tick now) Down k bytes w o s = absurd s
 
-  carried : (turn : Option DoneOf) (e : Event) (w : WorldOf) (o : Outturn) → CarriedOut job turn e w o → Grown w o
-  carried turn (Start a word) w o s =
+  carried : (e : Event) (w : WorldOf) (o : Outturn) → CarriedOut job e w o → Grown w o
+  carried (Start a word) w o s =
       is w o _ s (choose w (is_worker word && not (is_used word w) && not (is_some (node_in a w.nodes))) _ (same Unfit w) (started word a (start job word) w) (no_more w _ refl refl refl))
-  carried turn (AtNode a e) w o s = is w o _ s.2 (by_some w (node_in a w.nodes) _ (λ n. at_node_grows s.0 turn a e n w))
-  carried turn (Crash a) w o s = is w o _ s (by_some w (node_in a w.nodes) _ (λ n. no_more w _ refl refl refl))
-  carried turn (AtHouse e) w o s = house_ends e w.house w o s
-  carried turn HouseCrash w o s = is w o _ s (crash_of w.house w)
-  carried turn (Cut c) w o (inl s) = is w o _ s.1 (no_more w _ refl refl refl)
-  carried turn (Cut c) w o (inr (_, _, inl s)) = then_stopped w _ o (house_ends c.event w.house w) s.3
-  carried turn (Cut c) w o (inr (_, _, inr s)) = then_stopped w _ o (house_halts c.event w.house c.calls c.bytes w) s
+  carried (AtNode a e) w o s = is w o _ s.2 (by_some w (node_in a w.nodes) _ (λ n. at_node_grows s.0 a e n w))
+  carried (Crash a) w o s = is w o _ s (by_some w (node_in a w.nodes) _ (λ n. no_more w _ refl refl refl))
+  carried (AtHouse e) w o s = house_ends e w.house w o s
+  carried HouseCrash w o s = is w o _ s (crash_of w.house w)
+  carried (Cut c) w o (inl s) = is w o _ s.1 (no_more w _ refl refl refl)
+  carried (Cut c) w o (inr (_, _, inl s)) = then_cut w c.bytes _ o (house_ends c.event w.house w) s.3
+  carried (Cut c) w o (inr (_, _, inr s)) = then_stopped w _ o (house_halts c.event w.house c.calls c.bytes w) s
 
   fails : (e : Event) (w : WorldOf) (o : Outturn) → DeviceFails job e w o → Grown w o
   fails (Start a word) w o s = absurd s
   fails (AtNode a e) w o s = absurd s
   fails (Crash a) w o s = absurd s
-  fails (AtHouse e) w o s = house_halts e w.house s.0 s.1 w o s.2
+  fails (AtHouse e) w o s = house_halts e w.house s.0 s.1 w o s.3
   fails HouseCrash w o s = absurd s
-  fails (Cut c) w o s = then_stopped w _ o (house_halts c.event w.house s.1 s.2 w) s.4
+  fails (Cut c) w o s = then_stopped w _ o (house_halts c.event w.house 0 c.bytes w) s.3
 
-  pub grows : (turn : Option DoneOf) (e : Event) (w : WorldOf) (o : Outturn) → Step job turn e w o → Grown w o
-  grows turn e w o (inl s) = carried turn e w o s
-  grows turn e w o (inr s) = fails e w o s
+  pub grows : (e : Event) (w : WorldOf) (o : Outturn) → Step job e w o → Grown w o
+  grows e w o (inl s) = carried e w o s
+  grows e w o (inr s) = fails e w o s

@@ -1,6 +1,5 @@
 -- Steps of the clearinghouse in a world, by what its place says.
 use Rattle.std.proofs.Common.{◌≡◌, refl, sym, ap, subst, ◌∙◌, inl, ℕ, List, [], ◌++◌, Option, None, Some, IsTrue, OnErr, Ok, Err, Result}
-use Rattle.body_eval.specs.Done.{DoneOf}
 use Rattle.disk.specs.Device.{Device}
 use Rattle.serial_meaning.specs.Job.{JobOf}
 use Rattle.clearinghouse.specs.House.{Open, Stopped}
@@ -61,10 +60,10 @@ applies_back : {s : SeatOf} {job : JobOf} {w : WorldOf} (e : HouseEvent) → IsI
 applies_back {s} {job} {w} e i is = subst (λ h. Applies s.job e h w) i.house (subst (λ j. Applies j e w.house w) (sym i.own) is)
 
 -- an event that doesn't apply
-pub unfit_step : {s : SeatOf} {job : JobOf} {w : WorldOf} (e : HouseEvent) → IsIn s job w → (Applies s.job e s.house w → ⊥) → Step job None (AtHouse e) w (house_same None w)
+pub unfit_step : {s : SeatOf} {job : JobOf} {w : WorldOf} (e : HouseEvent) → IsIn s job w → (Applies s.job e s.house w → ⊥) → Step job (AtHouse e) w (house_same None w)
 unfit_step {s} {job} {w} e i is = inl (unfit job e w.house w (λ a. is (applies_back e i a)))
 
-pub unfit_cut : {s : SeatOf} {job : JobOf} {w : WorldOf} (c : CutOf) → IsIn s job w → (Applies s.job c.event s.house w → ⊥) → Step job None (Cut c) w (house_same None w)
+pub unfit_cut : {s : SeatOf} {job : JobOf} {w : WorldOf} (c : CutOf) → IsIn s job w → (Applies s.job c.event s.house w → ⊥) → Step job (Cut c) w (house_same None w)
 unfit_cut {s} {job} {w} c i is = inl (inl (λ a. absurd (is (applies_back c.event i a)), refl))
 
 -- the clearinghouse is stopped, and all else is as it was
@@ -75,10 +74,10 @@ stopped_world s {n} {v} {w} is disk n_is =
     ∙ ap {A = WorldOf} (λ u. record u { house = IsUp (Stopped by.Memory) }) is)
 
 -- what came of an event, and what it left
-pub happened : {s : SeatOf} {job : JobOf} {w : WorldOf} (n : SeatOf) (e : HouseEvent) (r : Reply) → IsIn s job w → Happens s.job e w (replied r n w) → Step job None (AtHouse e) w (replied r n w)
+pub happened : {s : SeatOf} {job : JobOf} {w : WorldOf} (n : SeatOf) (e : HouseEvent) (r : Reply) → IsIn s job w → Happens s.job e w (replied r n w) → Step job (AtHouse e) w (replied r n w)
 happened {s} {job} {w} n e r i is = subst (λ j. Happens j e w (replied r n w)) i.own is
 
-pub was_cut : {s : SeatOf} {job : JobOf} {w : WorldOf} (n : SeatOf) (c : CutOf) (bytes : List ℕ) (r : Reply) → bytes ≡ c.bytes → IsIn s job w → IsCutOff s.job (record c { bytes = bytes }) w (replied r n w) → Step job None (Cut c) w (replied r n w)
+pub was_cut : {s : SeatOf} {job : JobOf} {w : WorldOf} (n : SeatOf) (c : CutOf) (bytes : List ℕ) (r : Reply) → bytes ≡ c.bytes → IsIn s job w → IsCutOff s.job (record c { bytes = bytes }) w (replied r n w) → Step job (Cut c) w (replied r n w)
 was_cut {s} {job} {w} n c bytes r same i is = subst (λ bs. IsCutOff job (record c { bytes = bs }) w (replied r n w)) same (subst (λ j. IsCutOff j (record c { bytes = bytes }) w (replied r n w)) i.own is)
 
 pub can_be_cut : {s : SeatOf} {job : JobOf} {w : WorldOf} → IsIn s job w → IsTrue s.disk.can_cut → IsTrue w.disk.can_cut
@@ -102,8 +101,8 @@ crash_at : (job : JobOf) (h : HouseAt) (d : Device) (w : WorldOf) → house_cras
 crash_at job Down d w = refl
 crash_at job (IsUp state) d w = refl
 
-pub crashed : {s : SeatOf} {job : JobOf} {w : WorldOf} (n : SeatOf) (turn : Option DoneOf) (e : Event) → e ≡ HouseCrash → IsIn s job w → n ≡ fallen s → Step job turn e w (silent_in n w)
-crashed {s} {job} {w} n turn e e_is i n_is = subst (λ x. Step job turn x w (silent_in n w)) (sym e_is) (inl by)
+pub crashed : {s : SeatOf} {job : JobOf} {w : WorldOf} (n : SeatOf) (e : Event) → e ≡ HouseCrash → IsIn s job w → n ≡ fallen s → Step job e w (silent_in n w)
+crashed {s} {job} {w} n e e_is i n_is = subst (λ x. Step job x w (silent_in n w)) (sym e_is) (inl by)
   where
     by : silent_in n w ≡ house_crash w.house w
     by =

@@ -2,12 +2,13 @@
 use Rattle.std.proofs.Common.{◌≡◌, refl, sym, ap, ◌∙◌, subst, inl, inr, ℕ, zero, suc, pos, List, [], ◌∷◌, None, Some, is_some, IsTrue, arith}
 use Rattle.ids.specs.Names.{Grant, house_of}
 use Rattle.ids.specs.declared.outcome.Outcome.TheVariants.{Value}
+use Rattle.ids.specs.declared.work.Task.{Task}
 use Rattle.codec.specs.Table.{PacketOf}
 use Rattle.departure.specs.Offers.{offer}
 use Rattle.disk.specs.Device.{Device}
 use Rattle.serial_meaning.proofs.Fib.{Pointer}
 use Rattle.serial_meaning.specs.Job.{JobOf}
-use Rattle.serial_meaning.specs.Places.{value_within}
+use Rattle.serial_meaning.specs.Places.{outcome_at, value_within}
 use Rattle.agreement.proofs.Turning.{granted_agrees}
 use Rattle.agreement.specs.Agreement.{IsReceived, TaskAgrees}
 use Rattle.agreement.specs.Agreement.{Agrees as ContentAgrees}
@@ -15,12 +16,12 @@ use Rattle.subcomputation.specs.Subs.{SubOf, sub_in}
 use Rattle.node_state.specs.Node.{NodeOf, starting}
 use Rattle.node_state.specs.declared.parts.State.TheVariants.{Leaving, Member}
 use Rattle.node_core.specs.declared.parts.Fill.{Fill}
-use Rattle.world.specs.Agrees.{Agrees, BodyAgrees}
+use Rattle.world.specs.Agrees.{Agrees, BodyAgrees, WasGranted}
 use Rattle.world.specs.Lost.{Found, IsLive, NothingLost, Wanted, awaited, cut_off, frozen, itself, live, of_root}
 use Rattle.world.specs.Safe.{FilledOnce, Safe, SafeWorld, SlotName, filling_of, slot_of}
 use Rattle.world.specs.World.{Down, Holder, WorldOf, live_at, open_house, recorded}
 use Rattle.world.proofs.Rows
-use Rattle.world.proofs.Samples.{all_at, alone, begun, filled, granted, holder_alone, house_with, job_of, member, one_sub, one_up, open_with, out, returned, root, root_task, roster, wanted_alone, world_of}
+use Rattle.world.proofs.Samples.{IfGrant, all_at, alone, begun, filled, granted, holder_alone, house_with, job_of, member, one_sub, one_up, open_with, out, returned, root, root_task, roster, wanted_alone, world_of}
 
 -- two slots that differ
 two_once : (f g : Fill) → ¬ (slot_of f ≡ slot_of g) → FilledOnce (f ∷ g ∷ [])
@@ -99,10 +100,19 @@ module _ (p : Pointer) (d : Device) where
     outcome = λ o is. let same : Value (pos 1) ≡ o = cc in sym same;
   }
 
-  done_agrees : Agrees job done
+  only_root : (t : Task) → WasGranted job done.net root t → root_task ≡ t
+  only_root t was = all_at (λ (q : PacketOf). IfGrant (λ u. u ≡ t → root_task ≡ t) q.body) done.net ((λ same. same), (tt, tt)) was.at _ was.sent refl
+
+  root_outcome : Value (pos 1) ≡ outcome_at job.program job.input root_task.place
   unfolding value_within
+  root_outcome = refl
+
+  done_agrees : Agrees job done
   done_agrees = record {
-    packets = all_at (λ (q : PacketOf). BodyAgrees job done.net q.body) done.net (root_agrees, ((root_task, record { at = 0; to = 3; seq = 1; sent = refl }, refl), tt));
+    packets = all_at (λ (q : PacketOf). BodyAgrees job done.net q.body) done.net (
+      root_agrees,
+      (((root_task, record { at = 0; to = 3; seq = 1; sent = refl }), λ t was. subst (λ (u : Task). Value (pos 1) ≡ outcome_at job.program job.input u.place) (only_root t was) root_outcome), tt),
+    );
     held = λ a g at. absurd (done_holds a g at);
   }
 
@@ -170,10 +180,15 @@ module _ (p : Pointer) (d : Device) where
   unfolding value_within
   finished_agrees = record { task = root_agrees; frames = λ n f at. absurd cc; records = λ g r at. absurd cc; outcome = refl }
 
+  only_last : (t : Task) → WasGranted job last.net root t → root_task ≡ t
+  only_last t was = all_at (λ (q : PacketOf). IfGrant (λ u. u ≡ t → root_task ≡ t) q.body) last.net (tt, (tt, (tt, ((λ same. same), (tt, (tt, tt)))))) was.at _ was.sent refl
+
   last_agrees : Agrees job last
-  unfolding value_within
   last_agrees = record {
-    packets = all_at (λ (q : PacketOf). BodyAgrees job last.net q.body) last.net (tt, (tt, (tt, (root_agrees, ((root_task, record { at = 3; to = 3; seq = 1; sent = refl }, refl), (tt, tt))))));
+    packets = all_at (λ (q : PacketOf). BodyAgrees job last.net q.body) last.net (
+      tt,
+      (tt, (tt, (root_agrees, (((root_task, record { at = 3; to = 3; seq = 1; sent = refl }), λ t was. subst (λ (u : Task). Value (pos 1) ≡ outcome_at job.program job.input u.place) (only_last t was) root_outcome), (tt, tt))))),
+    );
     held = λ a g at. subst (λ (s : SubOf). ContentAgrees job s.content) (last_sub a g at).1 finished_agrees;
   }
 

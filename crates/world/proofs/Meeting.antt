@@ -11,7 +11,7 @@ use Rattle.checkpoint.specs.Commit.{formatting}
 use Rattle.checkpoint.specs.Format.{IsFormatted, fresh}
 use Rattle.event_script.specs.declared.event.Cut.{Cut as CutOf}
 use Rattle.serial_meaning.specs.Job.{JobOf}
-use Rattle.world.specs.Runs.{CanBegin}
+use Rattle.world.specs.Runs.{CanBegin, IsFormattedFor}
 use Rattle.world.specs.Steps.{Applies}
 use Rattle.world.proofs.Cutting.{crashed_armed, cuts}
 use Rattle.world.proofs.Devices.{after-can_cut, after-unarmed, synced-settled, synced-synced}
@@ -101,12 +101,20 @@ formatted_still d new plan file is passed =
 no_outcome : (o : Outcome) → ◌≡◌ {A = Option Outcome} None (Some o) → ⊥
 no_outcome o is = cc
 
-pub can_begin_on : (job : JobOf) (d : Device) (number : ℕ) → number ≡ job.number → IsStill d → ((c : List ℕ) → CrashLeaves d.file c → IsFormatted c number) → CanBegin job d
-can_begin_on job d number is still left = record {
+pub formatted_for : (job : JobOf) (d : Device) (number : ℕ) → number ≡ job.number → IsStill d → ((c : List ℕ) → CrashLeaves d.file c → IsFormatted c number) → IsFormattedFor job d
+formatted_for job d number is still left = record {
   unarmed = still.unarmed;
+  can_cut = still.can_cut;
+  formatted = λ c crash. subst (λ n. IsFormatted c n) is (left c crash);
+}
+
+-- a run can begin on it
+pub can_begin : (job : JobOf) (d : Device) → IsFormattedFor job d → CanBegin job d
+can_begin job d is = record {
+  unarmed = is.unarmed;
   sequence = 0;
-  found = fresh number;
-  kept = record { second = false; each = λ c crash. (left c crash).store };
-  own = is;
+  found = fresh job.number;
+  kept = record { second = false; each = λ c crash. (is.formatted c crash).store };
+  own = refl;
   meant = λ o there. absurd (no_outcome o there);
 }

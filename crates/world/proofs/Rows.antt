@@ -62,7 +62,7 @@ module _ (p : Pointer) where
 
   -- what comes to the node of place 0, which has no frame to grant
   abbrev pub at_0 : NodeEvent → WorldOf → Outturn
-  at_0 e w = comes job None None 0 e w
+  at_0 e w = comes job None 0 e w
 
   abbrev pub frame : ℕ → NodeEvent
   frame f = Exec (record { minter = root.minter; number = root.number; frame = f })
@@ -108,55 +108,55 @@ module _ (p : Pointer) where
   abbrev pub o12 : Outturn
   o12 = delivers second_commit 4 o11.world
 
-  step1 : Step job None (AtHouse at_house.Restart) (first_over blank) o1
+  step1 : Step job (AtHouse at_house.Restart) (first_over blank) o1
   step1 = inl (inl (way, refl))
 
-  step2 : Step job None (Start 0 3) o1.world o2
+  step2 : Step job (Start 0 3) o1.world o2
   step2 = inl refl
 
-  step3 : Step job None (AtHouse (at_house.Deliver 0)) o2.world o3
+  step3 : Step job (AtHouse (at_house.Deliver 0)) o2.world o3
   unfolding on_body on_packet by_status by_order passes follow node_body node_packet node.by_status by_option by_state for_some ask depart exec resend with_some
   step3 = inl ([], refl, refl)
 
-  step4 : Step job None (AtNode 0 (Deliver 1)) o3.world o4
+  step4 : Step job (AtNode 0 (Deliver 1)) o3.world o4
   unfolding on_body on_packet by_status by_order passes follow node_body node_packet node.by_status by_option by_state for_some ask depart exec resend with_some
   step4 = inl (None, λ g f. refl, refl)
 
-  step5 : Step job None (AtNode 0 (Ask asked.House)) o4.world o5
+  step5 : Step job (AtNode 0 (Ask asked.House)) o4.world o5
   unfolding on_body on_packet by_status by_order passes follow node_body node_packet node.by_status by_option by_state for_some ask depart exec resend with_some
   step5 = inl (None, tt, refl)
 
-  step6 : Step job None (AtHouse (at_house.Deliver 2)) o5.world o6
+  step6 : Step job (AtHouse (at_house.Deliver 2)) o5.world o6
   unfolding on_body on_packet by_status by_order passes follow node_body node_packet node.by_status by_option by_state for_some ask depart exec resend with_some
   step6 = inl ([], refl, refl)
 
-  step7 : Step job None (AtNode 0 (Deliver 3)) o6.world o7
+  step7 : Step job (AtNode 0 (Deliver 3)) o6.world o7
   unfolding on_body on_packet by_status by_order passes follow node_body node_packet node.by_status by_option by_state for_some ask depart exec resend with_some
   step7 = inl (None, λ g f. refl, refl)
 
-  step8 : Step job None (AtNode 0 (frame 0)) o7.world o8
+  step8 : Step job (AtNode 0 (frame 0)) o7.world o8
   unfolding on_body on_packet by_status by_order passes follow node_body node_packet node.by_status by_option by_state for_some ask depart exec resend with_some
   step8 = inl (None, tt, refl)
 
-  step9 : Step job None (AtNode 0 (frame 3)) o8.world o9
+  step9 : Step job (AtNode 0 (frame 3)) o8.world o9
   unfolding on_body on_packet by_status by_order passes follow node_body node_packet node.by_status by_option by_state for_some ask depart exec resend with_some
   step9 = inl (None, tt, refl)
 
-  step10 : Step job None (AtNode 0 (frame 2)) o9.world o10
+  step10 : Step job (AtNode 0 (frame 2)) o9.world o10
   unfolding on_body on_packet by_status by_order passes follow node_body node_packet node.by_status by_option by_state for_some ask depart exec resend with_some
   step10 = inl (None, tt, refl)
 
-  step11 : Step job None (AtNode 0 (frame 1)) o10.world o11
+  step11 : Step job (AtNode 0 (frame 1)) o10.world o11
   unfolding on_body on_packet by_status by_order passes follow node_body node_packet node.by_status by_option by_state for_some ask depart exec resend with_some
   step11 = inl (None, tt, refl)
 
-  step12 : Step job None (AtHouse (at_house.Deliver 4)) o11.world o12
+  step12 : Step job (AtHouse (at_house.Deliver 4)) o11.world o12
   unfolding on_body on_packet by_status by_order passes follow node_body node_packet node.by_status by_option by_state for_some ask depart exec resend with_some after
   step12 = inl (second_commit, second_committed, refl)
 
-  -- an event without a turn that was evaluated before
+  -- an event and what it came to
   abbrev entry : Event → Outturn → Entry
-  entry e o = record { event = e; turn = None; answer = o.answer }
+  entry e o = record { event = e; answer = o.answer }
 
   abbrev entries : List Entry
   entries =

@@ -1,71 +1,80 @@
 -- Runs that are under way: what was carried out so far, and the world to which it led.
-use Rattle.std.proofs.Common.{◌≡◌, inl, inr, ℕ, ◌+◌, ◌<◌, ◌≤◌, add-one, append_assoc, false, refl, sym, ap, ◌∙◌, List, [], ◌∷◌, ◌++◌, length, length-append, map, take, get_or, None, Some, Result, Ok, Err, slice_get, arith}
+use Rattle.std.proofs.Common.{◌≡◌, inl, inr, ℕ, ◌+◌, ◌<◌, ◌≤◌, add-one, append_assoc, true, refl, sym, ap, ◌∙◌, List, [], ◌∷◌, ◌++◌, length, length-append, map, take, get_or, None, Some, Result, Ok, Err, slice_get, arith}
 use Rattle.std.proofs.lemmas.List.{map-append}
 use Rattle.std.proofs.Math.Seq.{take-suc, take-append_seam}
 use Rattle.event_script.specs.Lines.{Line, Skipped, Says, Refused, line_of}
 use Rattle.event_script.specs.Scripts.{by_line, events_from, places, script}
-use Rattle.event_script.specs.Words.{lines, none_left}
+use Rattle.event_script.specs.Left.{is_cut, is_cut_next}
+use Rattle.event_script.specs.Words.{lines}
 use Rattle.event_script.specs.declared.event.Event.{Event}
 use Rattle.event_script.proofs.Lefts.{length_parts}
 use Rattle.disk.specs.Device.{Device}
 use Rattle.serial_meaning.specs.Job.{JobOf}
 use Rattle.world.specs.Answers.{Outturn}
-use Rattle.world.specs.Calls.{AreOwn, IsRun, IsStarved, StopsIn, WorldOn}
-use Rattle.world.specs.Runs.{CanBegin, Entry, Runs, ends, goes, last_of}
+use Rattle.world.specs.Calls.{IsRunTo, IsStarved, StopsIn, StopsReading, WorldOn}
+use Rattle.world.specs.Runs.{Entry, IsFormattedFor, Runs, ends, goes, last_of}
 use Rattle.world.specs.Steps.{Step}
 use Rattle.world.specs.World.{WorldOf, first_over}
 use Rattle.world.specs.declared.parts.NoMemory.{NoMemory}
-use Rattle.world.proofs.Going.{goes_on, last_on, own_on}
+use Rattle.world.proofs.Going.{goes_on, last_on}
 
 -- these events, one after another, led from a first world to this one
 pub record IsUnderWay (job : JobOf) (past : List Event) (v : WorldOf) : Type 0 where
   pub disk : Device
-  pub begins : CanBegin job disk
+  pub formatted : IsFormattedFor job disk
   pub entries : List Entry
   pub worlds : List WorldOf
   pub runs : Runs job (first_over disk) entries worlds
-  pub own : AreOwn entries
   pub carried : map (λ e. e.event) entries ≡ past
   pub at : last_of (first_over disk) worlds ≡ v
 
 -- at first none did
-pub first_under_way : (job : JobOf) (d : Device) (v : WorldOf) → CanBegin job d → v ≡ first_over d → IsUnderWay job [] v
-first_under_way job d v begins is = record { disk = d; begins = begins; entries = []; worlds = []; runs = ends; own = tt; carried = refl; at = sym is }
+pub first_under_way : (job : JobOf) (d : Device) (v : WorldOf) → IsFormattedFor job d → v ≡ first_over d → IsUnderWay job [] v
+first_under_way job d v formatted is = record { disk = d; formatted = formatted; entries = []; worlds = []; runs = ends; carried = refl; at = sym is }
 
 -- one more
 pub on_under_way : (job : JobOf) (past : List Event) (v w : WorldOf) (e : Event) (o : Outturn)
-    → IsUnderWay job past v → Step job None e v o → w ≡ o.world → IsUnderWay job (past ++ e ∷ []) w
+    → IsUnderWay job past v → Step job e v o → w ≡ o.world → IsUnderWay job (past ++ e ∷ []) w
 on_under_way job past v w e o u step is =
-    let x : Entry = record { event = e; turn = None; answer = o.answer } in
+    let x : Entry = record { event = e; answer = o.answer } in
     record {
       disk = u.disk;
-      begins = u.begins;
+      formatted = u.formatted;
       entries = u.entries ++ x ∷ [];
       worlds = u.worlds ++ o.world ∷ [];
       runs = goes_on job (first_over u.disk) u.entries u.worlds x o.world u.runs (rw (← u.at) at step);
-      own = own_on u.entries x u.own refl;
       carried = map-append (λ y. y.event) u.entries (x ∷ []) ∙ ap (λ ys. ys ++ e ∷ []) u.carried;
       at = last_on (first_over u.disk) u.worlds o.world ∙ sym is;
     }
 
--- one finds no memory
-pub run_stops : (job : JobOf) (events past : List Event) (done : ℕ) (lacks : NoMemory) (e : Event) (w v : WorldOf)
-    → IsUnderWay job past w → past ≡ take done events → slice_get events done ≡ Some e → StopsIn job e w v → IsRun job events done (Some lacks) v
-run_stops job events past done lacks e w v u front next stops =
-    record { disk = u.disk; begins = u.begins; entries = u.entries; worlds = u.worlds; runs = u.runs; own = u.own; carried = u.carried ∙ front; ends = (e, next, rw u.at stops) }
+-- one of them stops the run
+pub run_stops : (Stops : Event → (last v : WorldOf) → Type 0) (job : JobOf) (events past : List Event) (done : ℕ) (lacks : NoMemory) (e : Event) (w v : WorldOf)
+    → IsUnderWay job past w → past ≡ take done events → slice_get events done ≡ Some e → Stops e w v → IsRunTo Stops job events done (Some lacks) v
+run_stops Stops job events past done lacks e w v u front next stops =
+    record { disk = u.disk; formatted = u.formatted; entries = u.entries; worlds = u.worlds; runs = u.runs; carried = u.carried ∙ front; ends = (e, next, rw u.at stops) }
 
--- as a step tells it
+-- it finds no memory, as a step tells it
 
-starved_stops : (job : JobOf) (e : Event) (on : WorldOn) (o : Outturn) (v : WorldOf) → on.job ≡ job → IsStarved None e on o → v ≡ o.world → StopsIn job e on.world v
-starved_stops job e on o v same (inl s) is = inr (o, inl (rw (← same) s), is)
-starved_stops job e on o v same (inr s) is = inr (o, inr s.1, is)
+pub starved_stops : (job : JobOf) (e : Event) (on : WorldOn) (o : Outturn) (v : WorldOf) → on.job ≡ job → IsStarved e on o → v ≡ o.world → StopsIn job e on.world v
+starved_stops job e on o v same (inl s) is = (o, inl (rw (← same) s), is)
+starved_stops job e on o v same (inr s) is = (o, inr s.1, is)
 
 pub one_starved : (job : JobOf) (events past : List Event) (done : ℕ) (lacks : NoMemory) (e : Event) (on : WorldOn) (o : Outturn) (v : WorldOf)
-    → on.job ≡ job → IsUnderWay job past on.world → past ≡ take done events → slice_get events done ≡ Some e → IsStarved None e on o → v ≡ o.world → IsRun job events done (Some lacks) v
-one_starved job events past done lacks e on o v same u front next s is = run_stops job events past done lacks e on.world v u front next (starved_stops job e on o v same s is)
+    → on.job ≡ job → IsUnderWay job past on.world → past ≡ take done events → slice_get events done ≡ Some e → IsStarved e on o → v ≡ o.world → IsRunTo (StopsIn job) job events done (Some lacks) v
+one_starved job events past done lacks e on o v same u front next s is = run_stops (StopsIn job) job events past done lacks e on.world v u front next (starved_stops job e on o v same s is)
+
+-- so it is of a replay
+pub script_starved : (job : JobOf) (events past : List Event) (done : ℕ) (lacks : NoMemory) (e : Event) (on : WorldOn) (o : Outturn) (v : WorldOf)
+    → on.job ≡ job → IsUnderWay job past on.world → past ≡ take done events → slice_get events done ≡ Some e → IsStarved e on o → v ≡ o.world → IsRunTo (StopsReading job) job events done (Some lacks) v
+script_starved job events past done lacks e on o v same u front next s is = run_stops (StopsReading job) job events past done lacks e on.world v u front next (inl (starved_stops job e on o v same s is))
+
+-- the bytes of a Cut find none
+pub bytes_starved : (job : JobOf) (events past : List Event) (done : ℕ) (lacks : NoMemory) (e : Event) (w : WorldOf)
+    → IsUnderWay job past w → past ≡ take done events → slice_get events done ≡ Some e → is_cut e ≡ true → IsRunTo (StopsReading job) job events done (Some lacks) w
+bytes_starved job events past done lacks e w u front next cut = run_stops (StopsReading job) job events past done lacks e w w u front next (inr (cut, refl))
 
 pub next_under_way : (job : JobOf) (past : List Event) (own : JobOf) (v w : WorldOf) (e : Event) (o : Outturn)
-    → own ≡ job → IsUnderWay job past v → Step own None e v o → w ≡ o.world → IsUnderWay job (past ++ e ∷ []) w
+    → own ≡ job → IsUnderWay job past v → Step own e v o → w ≡ o.world → IsUnderWay job (past ++ e ∷ []) w
 next_under_way job past own v w e o same u step is = on_under_way job past v w e o u (rw (← same) step) is
 
 -- events by their number
@@ -95,14 +104,14 @@ length_past past e done more is one = omega (arith, is, one, length-append past 
 
 pub script_goes_on : (job own : JobOf) (text : List ℕ) (past left new : List Event) (e : Event) (done more : ℕ) (v w : WorldOf) (o : Outturn)
     → own ≡ job → script text ≡ Ok (past ++ left) → length past ≡ done → IsUnderWay job past v
-    → left ≡ e ∷ new → Step own None e v o → w ≡ o.world → more ≡ done + 1
+    → left ≡ e ∷ new → Step own e v o → w ≡ o.world → more ≡ done + 1
     → (longer : List Event) × (script text ≡ Ok (longer ++ new)) × (length longer ≡ more) × IsUnderWay job longer w
 script_goes_on job own text past left new e done more v w o same is at u next step led one =
     (past ++ e ∷ [], is ∙ ap Ok (one_past past left new e next), length_past past e done more at one, next_under_way job past own v w e o same u step led)
 
-pub some_left : (left : List Event) → none_left left ≡ false → (e : Event) × (new : List Event) × (left ≡ e ∷ new)
-some_left [] some = absurd cc
-some_left (e ∷ new) some = (e, new, refl)
+pub cut_left : (left : List Event) → is_cut_next left ≡ true → (e : Event) × (new : List Event) × (left ≡ e ∷ new) × (is_cut e ≡ true)
+cut_left [] cut = absurd cc
+cut_left (e ∷ new) cut = (e, new, refl, cut)
 
 -- a script has at most one event more than bytes
 

@@ -111,6 +111,11 @@ one_sub g s t is = by_test (eq_by_cmp name_cmp (name_of_grant g) (name_of_sub s)
     by_test true is = cc
     by_test false is = absurd cc
 
+-- what holds of a Grant's task
+abbrev pub IfGrant : (Task → Type 0) → Body → Type 0
+IfGrant P (body.Grant b) = P b.task
+IfGrant P other = Unit {0}
+
 -- a world in which one member holds one subcomputation
 abbrev pub alone : Device → HouseAt → List PacketOf → List Fill → ℕ → ℕ → SubOf → WorldOf
 alone d h net fills b i s = world_of d (member b i (s ∷ []) ∷ []) h net fills

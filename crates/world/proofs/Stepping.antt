@@ -1,6 +1,5 @@
 -- Steps of a world, by what was seen of it.
 use Rattle.std.proofs.Common.{◌≡◌, inl, refl, sym, ap, subst, ◌∙◌, ℕ, Bool, true, false, ◌&&◌, cond, List, [], ◌++◌, Option, None, Some, is_some}
-use Rattle.body_eval.specs.Done.{DoneOf}
 use Rattle.serial_meaning.specs.Job.{JobOf}
 use Rattle.node_core.specs.Calls.{start}
 use Rattle.node_state.specs.Node.{NodeOf}
@@ -21,14 +20,14 @@ none_of None w f is = refl
 none_of (Some a) w f is = absurd cc
 
 module _ (job : JobOf) where
-  pub crash_up : (a : ℕ) (w : WorldOf) → is_some (node_in a w.nodes) ≡ true → Step job None (Crash a) w (record { world = record w { nodes = without_node a w.nodes }; answer = Did [] [] })
+  pub crash_up : (a : ℕ) (w : WorldOf) → is_some (node_in a w.nodes) ≡ true → Step job (Crash a) w (record { world = record w { nodes = without_node a w.nodes }; answer = Did [] [] })
   crash_up a w is = inl (sym (some_of (node_in a w.nodes) w _ is))
 
-  pub crash_down : (a : ℕ) (w : WorldOf) → is_some (node_in a w.nodes) ≡ false → Step job None (Crash a) w (same Unfit w)
+  pub crash_down : (a : ℕ) (w : WorldOf) → is_some (node_in a w.nodes) ≡ false → Step job (Crash a) w (same Unfit w)
   crash_down a w is = inl (sym (none_of (node_in a w.nodes) w _ is))
 
-  pub start_unfit : (a word : ℕ) (w : WorldOf) → can_start a word w ≡ false → Step job None (Start a word) w (same Unfit w)
+  pub start_unfit : (a word : ℕ) (w : WorldOf) → can_start a word w ≡ false → Step job (Start a word) w (same Unfit w)
   start_unfit a word w is = inl (sym (ap (λ b. cond b (stepped a (start job word) (with_used word w)) (same Unfit w)) is))
 
-  pub started : (a word : ℕ) (w : WorldOf) → can_start a word w ≡ true → Step job None (Start a word) w (stepped a (start job word) (with_used word w))
+  pub started : (a word : ℕ) (w : WorldOf) → can_start a word w ≡ true → Step job (Start a word) w (stepped a (start job word) (with_used word w))
   started a word w is = inl (sym (ap (λ b. cond b (stepped a (start job word) (with_used word w)) (same Unfit w)) is))

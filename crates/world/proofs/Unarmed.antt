@@ -1,7 +1,7 @@
 -- What comes of an event at the clearinghouse's place, as a step of a world: over a disk that isn't armed.
-use Rattle.std.proofs.Common.{◌≡◌, ◌⊎◌, inl, inr, ℕ, ◌+◌, ◌<◌, ◌≤◌, List, [], ◌∷◌, ◌++◌, length, take, false, Option, None, Some, IsTrue, refl, sym, ap, subst, ◌∙◌, arith}
+use Rattle.std.proofs.Common.{◌≡◌, ◌⊎◌, inl, inr, ℕ, ◌+◌, ◌<◌, ◌≤◌, List, [], ◌∷◌, ◌++◌, length, take, true, false, Option, None, Some, IsTrue, refl, sym, ap, subst, ◌∙◌, arith}
 use Rattle.std.proofs.lemmas.List.{append-nil}
-use Rattle.std.specs.Prelude.{slice_get}
+use Rattle.std.specs.Prelude.{IsSome, slice_get}
 use Rattle.codec.specs.Table.{PacketOf}
 use Rattle.disk.specs.Device.{Device, Unarmed, stop_after}
 use Rattle.disk.specs.File.{synced}
@@ -25,7 +25,7 @@ use Rattle.world.specs.Seats.{Happens, IsFound, IsStill, SeatOf, Seats, replied}
 use Rattle.world.specs.Steps.{HouseEnds, HouseHalts, IfApplies}
 use Rattle.world.specs.World.{Down, HouseAt, IsUp, WorldOf, recorded_at}
 use Rattle.world.specs.declared.seat.Reply.{Reply}
-use Rattle.world.proofs.Devices.{StoppedAt, after-can_cut, after-unarmed, halted_unarmed, made_unarmed, stopped_at, synced-settled, synced-synced}
+use Rattle.world.proofs.Devices.{LacksAt, StoppedAt, after-can_cut, after-unarmed, commit_lacks, halted_unarmed, made_unarmed, none_planned, opened_lacks, opening_lacks, stopped_at, synced-settled, synced-synced}
 
 -- a commit leaves a file that is on the disk for good
 published_still : (d : Device) (at : ℕ) (gate : _) (bytes : List ℕ) → synced (after d (publishing at gate bytes)).file ≡ (after d (publishing at gate bytes)).file
@@ -79,41 +79,69 @@ by_found job (Deliver i) p w h found = ap (λ x. answer_to job (Deliver i) x h) 
 by_found job (Tick now) p w h found = refl
 by_found job Restart p w h found = refl
 
+-- over a disk that isn't armed a commit's calls pass, and of an opening's calls at most the read fails
+unplanned : {G : Type 0} (d : Device) (i : ℕ) → d.arming ≡ Unarmed → IsSome (stop_after d.arming i) → G
+unplanned d i unarmed some = let none = none_planned d.arming i unarmed in let wrong : false ≡ true = subst (λ (o : Option (List ℕ)). IsSome o) none some in absurd (let no : ⊥ = cc in no)
+
+commit_passes : (job : JobOf) (h : HouseOf) (commits : Option Kept) (d new : Device) (calls : List Call) → IsStill d → MakesCalls job h commits d calls → StoppedAt calls (stop_after d.arming) d new → ⊥
+commit_passes job h None d new calls still none at =
+    let below : at.at < 0 = subst (λ (l : List Call). at.at < length l) none at.below in
+    absurd (omega arith)
+commit_passes job h (Some k) d new calls still commit at =
+    elim (at.cause still.can_cut) as (λ c. ⊥) [
+      | inl planned ↦ unplanned d at.at still.unarmed planned
+      | inr lacks ↦ commit_lacks d.file h.sequence _ _ calls at.at commit lacks
+    ]
+
+-- by which calls a clearinghouse is opened: the read, and the commit behind it, if there is one
+abbrev pub IsOpening : JobOf → Device → List Call → Type 0
+IsOpening job d calls = (calls ≡ opening) ⊎ ((way : Opens job d) × (calls ≡ calls_of way))
+
+pub opening_lacks_first : (job : JobOf) (d : Device) (calls : List Call) (i : ℕ) → IsOpening job d calls → LacksAt calls i d.file → i ≡ 0
+opening_lacks_first job d calls i (inl is) lacks = opening_lacks d.file i (subst (λ (l : List Call). LacksAt l i d.file) is lacks)
+opening_lacks_first job d calls i (inr (way, is)) lacks = opened_lacks d.file way.sequence _ _ way.calls i way.commit (subst (λ (l : List Call). LacksAt l i d.file) is lacks)
+
+read_fails : (job : JobOf) (d new : Device) (calls : List Call) → IsStill d → IsOpening job d calls → (at : StoppedAt calls (stop_after d.arming) d new) → at.at ≡ 0
+read_fails job d new calls still which at =
+    elim (at.cause still.can_cut) as (λ c. at.at ≡ 0) [
+      | inl planned ↦ unplanned d at.at still.unarmed planned
+      | inr lacks ↦ opening_lacks_first job d calls at.at which lacks
+    ]
+
 module _ (job : JobOf) (w : WorldOf) (r : Reply) (new : SeatOf) (still : IsStill w.disk) where
-  abbrev Either : (Outturn → Type 0) → (ℕ → List ℕ → Outturn → Type 0) → Type 0
-  Either ends halts = ends (replied r new w) ⊎ ((k : ℕ) × (bytes : List ℕ) × halts k bytes (replied r new w))
+  -- it ends, or the read of an opening fails
+  abbrev o : Outturn
+  o = replied r new w
 
-  step_happens : (h : HouseOf) (s : StepOf) → StepComes h s r (seat_in job w) new → Either (Ends job h (Does s) w) (λ k bytes. Halts job h (Does s) k bytes w)
+  step_happens : (h : HouseOf) (s : StepOf) → StepComes h s r (seat_in job w) new → Ends job h (Does s) w o
   step_happens h s (calls, makes, inl goes) =
-      inl (calls, makes, told_goes job (Open s.after) None s.sent w (made w.disk calls) r new goes.0 goes.1 (goes.2.made ∙ made_unarmed w.disk calls still.unarmed))
-  step_happens h s (calls, makes, inr stops) =
-      let at = stopped_at calls _ w.disk new.disk stops.2 in
-      inr (at.at, [], (calls, makes, at.below, told_goes job (Stopped by.Device) (Some error.Device) [] w (halted w.disk calls at.at []) r new stops.0 stops.1 (halted_unarmed w.disk new.disk calls still.unarmed still.can_cut at)))
+      (calls, makes, told_goes job (Open s.after) None s.sent w (made w.disk calls) r new goes.0 goes.1 (goes.2.made ∙ made_unarmed w.disk calls still.unarmed))
+  step_happens h s (calls, makes, inr stops) = absurd (commit_passes job h s.commits w.disk new.disk calls still makes (stopped_at calls _ w.disk new.disk stops.2))
 
-  answer_happens : (h : HouseOf) (a : HouseAnswer) → AnswerComes h a r (seat_in job w) new → Either (Ends job h a w) (λ k bytes. Halts job h a k bytes w)
-  answer_happens h Ignored comes = inl (told_same job None w w.disk r new comes.0 comes.1)
-  answer_happens h (Refused e) comes = inl (told_same job (Some e) w w.disk r new comes.0 comes.1)
+  answer_happens : (h : HouseOf) (a : HouseAnswer) → AnswerComes h a r (seat_in job w) new → Ends job h a w o
+  answer_happens h Ignored comes = told_same job None w w.disk r new comes.0 comes.1
+  answer_happens h (Refused e) comes = told_same job (Some e) w w.disk r new comes.0 comes.1
   answer_happens h (Does s) comes = step_happens h s comes
 
   abbrev Of : HouseEvent → HouseAt → Type 0
-  Of e house = Either (HouseEnds job e house w) (λ k bytes. HouseHalts job e house k bytes w)
+  Of e house = HouseEnds job e house w o ⊎ ((k : ℕ) × (bytes : List ℕ) × (IsTrue w.disk.can_cut → (e ≡ Restart) × (k ≡ 0)) × HouseHalts job e house k bytes w o)
 
-  open_happens : (h : HouseOf) (a : Option HouseAnswer) → IfAnswered h a r (seat_in job w) new → Either (λ o. IfApplies job (λ x. Ends job h x w o) (o ≡ house_same None w) a) (λ k bytes o. IfApplies job (λ x. Halts job h x k bytes w o) ⊥ a)
-  open_happens h None comes = inl (told_same job None w w.disk r new comes.0 comes.1)
+  open_happens : (h : HouseOf) (a : Option HouseAnswer) → IfAnswered h a r (seat_in job w) new → IfApplies job (λ x. Ends job h x w o) (o ≡ house_same None w) a
+  open_happens h None comes = told_same job None w w.disk r new comes.0 comes.1
   open_happens h (Some a) comes = answer_happens h a comes
 
-  restart_happens : RestartComes r (seat_in job w) new → Either (Restarts job w) (λ k bytes. RestartHalts job k bytes w)
+  restart_happens : RestartComes r (seat_in job w) new → Restarts job w o ⊎ ((k : ℕ) × (bytes : List ℕ) × (IsTrue w.disk.can_cut → (Restart ≡ Restart) × (k ≡ 0)) × RestartHalts job k bytes w o)
   restart_happens (inl (way, goes)) =
       inl (inl (way, told_goes job (Open (opened 500 (next_epoch (kept_in way.sequence way.found)))) None [] w (made w.disk (calls_of way)) r new goes.0 goes.1 (goes.2.made ∙ made_unarmed w.disk (calls_of way) still.unarmed)))
   restart_happens (inr (inl (e, refused, told, same, passed))) =
       inl (inr (e, refused, told_same job (Some e) w (made w.disk opening) r new told (same ∙ ap (λ d. record (seat_in job w) { disk = d }) (passed.made ∙ made_unarmed w.disk opening still.unarmed))))
   restart_happens (inr (inr (calls, which, stops))) =
       let at = stopped_at calls _ w.disk new.disk stops.2 in
-      inr (at.at, [], (calls, which, at.below, told_goes job (Stopped by.Device) (Some error.Device) [] w (halted w.disk calls at.at []) r new stops.0 stops.1 (halted_unarmed w.disk new.disk calls still.unarmed still.can_cut at)))
+      inr (at.at, [], (λ can. (refl, read_fails job w.disk new.disk calls still which at)), (calls, which, at.below, told_goes job (Stopped by.Device) (Some error.Device) [] w (halted w.disk calls at.at []) r new stops.0 stops.1 (halted_unarmed w.disk new.disk calls still.unarmed still.can_cut at)))
 
   by_house : (e : HouseEvent) (p : Option PacketOf) (house : HouseAt) → IsFound e p w → Comes e p house r (seat_in job w) new → Of e house
   by_house e p (IsUp (Open h)) found comes =
-      open_happens h (house_answer job e h w) (subst (λ a. IfAnswered h a r (seat_in job w) new) (by_found job e p w h found) comes)
+      inl (open_happens h (house_answer job e h w) (subst (λ a. IfAnswered h a r (seat_in job w) new) (by_found job e p w h found) comes))
   by_house (Deliver i) p (IsUp (Stopped s)) found comes = inl (told_same job None w w.disk r new comes.0 comes.1)
   by_house (Tick now) p (IsUp (Stopped s)) found comes = inl (told_same job None w w.disk r new comes.0 comes.1)
   by_house Restart p (IsUp (Stopped s)) found comes = restart_happens comes

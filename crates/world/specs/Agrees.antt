@@ -20,10 +20,10 @@ module _ (job : JobOf) where
     pub seq : ℕ
     pub sent : slice_get net at ≡ Some (record { job = job.number; to = to; body = body.Grant (record { seq = seq; grant = g; task = t }) })
 
-  -- a packet agrees if all in it does; a Result, if a task was granted whose outcome it tells
+  -- a packet agrees if all in it does; a Result, if a task was granted under its name, and it tells the outcome of each that was
   abbrev pub BodyAgrees : List PacketOf → Body → Type 0
   BodyAgrees net (body.Grant b) = TaskAgrees job b.task
-  BodyAgrees net (body.Result b) = (t : Task) × WasGranted net b.grant t × (b.outcome ≡ outcome_at job.program job.input t.place)
+  BodyAgrees net (body.Result b) = ((t : Task) × WasGranted net b.grant t) × ((t : Task) → WasGranted net b.grant t → b.outcome ≡ outcome_at job.program job.input t.place)
   BodyAgrees net (body.Offer b) = ContentAgrees job (offered b).content
   BodyAgrees net other = Unit {0}
 

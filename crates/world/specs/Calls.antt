@@ -1,6 +1,5 @@
 -- What the calls of a world answer, and what they leave.
-use Rattle.std.specs.Prelude.{◌≡◌, ◌⊎◌, ℕ, Bool, true, false, is_some, List, length, map, take, Option, None, Some, IfSome, IsErrOf, IsSome, Result, slice_get}
-use Rattle.std.specs.List.{AllByRecursion}
+use Rattle.std.specs.Prelude.{◌≡◌, ◌⊎◌, ℕ, Bool, true, false, is_some, List, length, map, take, Option, None, Some, IfSome, IsErrOf, IsSome, IsTrue, Result, slice_get}
 use Rattle.body_eval.specs.Done.{DoneOf}
 use Rattle.codec.specs.Table.{PacketOf}
 use Rattle.disk.specs.Device.{Device}
@@ -8,18 +7,19 @@ use Rattle.serial_meaning.specs.Job.{JobOf}
 use Rattle.node_core.specs.Calls as call
 use Rattle.node_core.specs.Cases.{Choice, on_packet}
 use Rattle.node_core.specs.Choosing.{MayChoose}
-use Rattle.node_core.specs.Meeting.{MayStarve, Meets, NodeOn}
+use Rattle.node_core.specs.Meeting.{MayStarve, Meets, NodeOn, StarvesLast}
 use Rattle.node_core.specs.declared.error.NodeError.{NodeError}
 use Rattle.node_core.specs.declared.error.NodeError.TheVariants as node
 use Rattle.node_core.specs.declared.parts.Step.{Step as NodeStep}
+use Rattle.event_script.specs.Left.{is_cut}
 use Rattle.event_script.specs.declared.event.Event.{Event}
 use Rattle.event_script.specs.declared.event.Event.TheVariants.{Start, AtNode, Crash, AtHouse, HouseCrash, Cut}
 use Rattle.event_script.specs.declared.event.NodeEvent.{NodeEvent}
 use Rattle.event_script.specs.declared.event.NodeEvent.TheVariants.{Deliver, Exec, Ask, Resend, Depart}
 use Rattle.world.specs.Answers.{Answer, Outturn, same}
 use Rattle.world.specs.Answers as answer
-use Rattle.world.specs.Nodes.{executed, grant_of, victim_of}
-use Rattle.world.specs.Runs.{CanBegin, Entry, Runs, last_of}
+use Rattle.world.specs.Nodes.{grant_of, victim_of}
+use Rattle.world.specs.Runs.{Entry, IsFormattedFor, Runs, last_of}
 use Rattle.world.specs.Steps.{Starves}
 use Rattle.world.specs.World.{WorldOf, first_over, node_in, put_node}
 use Rattle.world.specs.declared.parts.Told.{Told}
@@ -45,36 +45,6 @@ told_of (answer.House e sent outcome) = told.House e (length sent) outcome
 abbrev pub IsOfJob : JobOf → Option DoneOf → Type 0
 IsOfJob job turn = IfSome turn (λ d. d.program ≡ job.program)
 
--- a node that is up may find no memory where no place was found for what was sent before
-abbrev pub StarvesBehind : Event → WorldOf → Outturn → Type 0
-StarvesBehind (Start a word) w o = ⊥
-StarvesBehind (AtNode a e) w o = IsSome (node_in a w.nodes) × (o ≡ same (answer.Refused node.Memory) w)
-StarvesBehind (Crash a) w o = ⊥
-StarvesBehind (AtHouse e) w o = ⊥
-StarvesBehind HouseCrash w o = ⊥
-StarvesBehind (Cut c) w o = ⊥
-
--- an event finds no memory
-abbrev pub IsStarved : Option DoneOf → Event → WorldOn → Outturn → Type 0
-IsStarved turn e on o = Starves on.job turn e on.world o ⊎ ((on.is_placed ≡ false) × StarvesBehind e on.world o)
-
--- what a call of a node does by an event, with the packet that is delivered
-abbrev pub Carries : NodeEvent → Option PacketOf → Option DoneOf → Result NodeStep NodeError → (old new : NodeOn) → Type 0
-Carries (Deliver i) None turn r old new = ⊥
-Carries (Deliver i) (Some p) turn r old new = (choice : Option Choice) × MayChoose old.node choice × Meets (on_packet old.job choice p old.node) r old new
-Carries (Exec f) p turn r old new = Meets (executed old.job turn (grant_of f) f.frame old.node) r old new
-Carries (Ask v) p turn r old new = Meets (call.ask old.job (victim_of v) old.node) r old new
-Carries Resend p turn r old new = Meets (call.resend old.job old.node) r old new
-Carries (Depart heir) p turn r old new = Meets (call.depart old.job heir old.node) r old new
-
--- where it may lack memory
-abbrev pub MayLack : NodeEvent → Option DoneOf → NodeOn → Type 0
-MayLack (Deliver i) turn on = Unit {0}
-MayLack (Exec f) turn on = MayStarve (executed on.job turn (grant_of f) f.frame on.node)
-MayLack (Ask v) turn on = MayStarve (call.ask on.job (victim_of v) on.node)
-MayLack Resend turn on = MayStarve (call.resend on.job on.node)
-MayLack (Depart heir) turn on = MayStarve (call.depart on.job heir on.node)
-
 -- the packet that an event delivers, if it is there
 abbrev pub delivered_in : NodeEvent → List PacketOf → Option PacketOf
 delivered_in (Deliver i) net = slice_get net i
@@ -91,6 +61,36 @@ is_there (Ask v) net = true
 is_there Resend net = true
 is_there (Depart heir) net = true
 
+-- an event of a node that is up may find no memory where no place was found for what was sent before
+abbrev pub StarvesBehind : Event → WorldOf → Outturn → Type 0
+StarvesBehind (Start a word) w o = ⊥
+StarvesBehind (AtNode a e) w o = IsSome (node_in a w.nodes) × IsTrue (is_there e w.net) × (o ≡ same (answer.Refused node.Memory) w)
+StarvesBehind (Crash a) w o = ⊥
+StarvesBehind (AtHouse e) w o = ⊥
+StarvesBehind HouseCrash w o = ⊥
+StarvesBehind (Cut c) w o = ⊥
+
+-- an event finds no memory
+abbrev pub IsStarved : Event → WorldOn → Outturn → Type 0
+IsStarved e on o = Starves on.job e on.world o ⊎ ((on.is_placed ≡ false) × StarvesBehind e on.world o)
+
+-- what a call of a node does by an event, with the packet that is delivered
+abbrev pub Carries : NodeEvent → Option PacketOf → Result NodeStep NodeError → (old new : NodeOn) → Type 0
+Carries (Deliver i) None r old new = ⊥
+Carries (Deliver i) (Some p) r old new = (choice : Option Choice) × MayChoose old.node choice × Meets (on_packet old.job choice p old.node) r old new
+Carries (Exec f) p r old new = Meets (call.exec_ready old.job (grant_of f) f.frame old.node) r old new
+Carries (Ask v) p r old new = Meets (call.ask old.job (victim_of v) old.node) r old new
+Carries Resend p r old new = Meets (call.resend old.job old.node) r old new
+Carries (Depart heir) p r old new = Meets (call.depart old.job heir old.node) r old new
+
+-- where it may lack memory
+abbrev pub MayLack : NodeEvent → NodeOn → Type 0
+MayLack (Deliver i) on = Unit {0}
+MayLack (Exec f) on = MayStarve (call.exec_ready on.job (grant_of f) f.frame on.node)
+MayLack (Ask v) on = StarvesLast (call.ask on.job (victim_of v) on.node)
+MayLack Resend on = MayStarve (call.resend on.job on.node)
+MayLack (Depart heir) on = MayStarve (call.depart on.job heir on.node)
+
 -- so it is of a packet at hand
 abbrev pub IsThere : NodeEvent → Option PacketOf → Type 0
 IsThere (Deliver i) p = IsSome p
@@ -100,36 +100,41 @@ IsThere Resend p = Unit {0}
 IsThere (Depart heir) p = Unit {0}
 
 -- something came to the node of a place, which is up: what its call did, and what it left
-pub record Came (on : WorldOn) (after : WorldOf) (a : ℕ) (e : NodeEvent) (turn : Option DoneOf) (r : Result NodeStep NodeError) : Type 0 where
+pub record Came (on : WorldOn) (after : WorldOf) (a : ℕ) (e : NodeEvent) (r : Result NodeStep NodeError) : Type 0 where
   pub old : NodeOn
   pub new : NodeOn
   pub own : old.job ≡ on.job
   pub up : node_in a on.world.nodes ≡ Some old.node
-  pub did : Carries e (delivered_in e on.world.net) turn r old new
-  pub lacks : IsErrOf r node.Memory → MayLack e turn old
+  pub did : Carries e (delivered_in e on.world.net) r old new
+  pub lacks : IsErrOf r node.Memory → MayLack e old
   pub put : after ≡ record on.world { nodes = put_node a new.node on.world.nodes }
   pub same : new.node ≡ old.node → after ≡ on.world
 
--- a run ends in this world where its events are over; or where one finds no memory, which leaves the world as it was, but that a
--- clearinghouse that was to answer is stopped
+-- an event of a run finds no memory: the world is as it was, but a clearinghouse that was to answer is stopped
 abbrev pub StopsIn : JobOf → Event → (last v : WorldOf) → Type 0
-StopsIn job e last v = (v ≡ last) ⊎ ((o : Outturn) × (Starves job None e last o ⊎ StarvesBehind e last o) × (v ≡ o.world))
+StopsIn job e last v = (o : Outturn) × (Starves job e last o ⊎ StarvesBehind e last o) × (v ≡ o.world)
 
-abbrev pub EndsIn : JobOf → List Event → ℕ → Option NoMemory → (last v : WorldOf) → Type 0
-EndsIn job events done None last v = (done ≡ length events) × (v ≡ last)
-EndsIn job events done (Some lacks) last v = (e : Event) × (slice_get events done ≡ Some e) × StopsIn job e last v
+-- in a replay the bytes of a Cut may find none too, before the Cut is an event of the world: then nothing changes
+abbrev pub StopsReading : JobOf → Event → (last v : WorldOf) → Type 0
+StopsReading job e last v = StopsIn job e last v ⊎ (IsTrue (is_cut e) × (v ≡ last))
 
--- no turn was evaluated before
-abbrev pub AreOwn : List Entry → Type 0
-AreOwn entries = AllByRecursion (λ e. e.turn ≡ None) entries
+-- where a run ends: where its events are over, or one of them stops it
+abbrev pub EndsIn : (Event → (last v : WorldOf) → Type 0) → List Event → ℕ → Option NoMemory → (last v : WorldOf) → Type 0
+EndsIn Stops events done None last v = (done ≡ length events) × (v ≡ last)
+EndsIn Stops events done (Some lacks) last v = (e : Event) × (slice_get events done ≡ Some e) × Stops e last v
 
--- so many of the events, the first ones, were carried out from a first world on, and led to this one
-pub record IsRun (job : JobOf) (events : List Event) (done : ℕ) (stopped : Option NoMemory) (v : WorldOf) : Type 0 where
+-- so many of the events, the first ones, were carried out from a first world on, over a formatted disk, and led to this one
+pub record IsRunTo (Stops : Event → (last v : WorldOf) → Type 0) (job : JobOf) (events : List Event) (done : ℕ) (stopped : Option NoMemory) (v : WorldOf) : Type 0 where
   pub disk : Device
-  pub begins : CanBegin job disk
+  pub formatted : IsFormattedFor job disk
   pub entries : List Entry
   pub worlds : List WorldOf
   pub runs : Runs job (first_over disk) entries worlds
-  pub own : AreOwn entries
   pub carried : map (λ e. e.event) entries ≡ take done events
-  pub ends : EndsIn job events done stopped (last_of (first_over disk) worlds) v
+  pub ends : EndsIn Stops events done stopped (last_of (first_over disk) worlds) v
+
+abbrev pub IsRun : JobOf → List Event → ℕ → Option NoMemory → WorldOf → Type 0
+IsRun job = IsRunTo (StopsIn job) job
+
+abbrev pub IsReplay : JobOf → List Event → ℕ → Option NoMemory → WorldOf → Type 0
+IsReplay job = IsRunTo (StopsReading job) job

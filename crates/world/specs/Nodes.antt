@@ -1,14 +1,12 @@
 -- What events of nodes do. The frame that a Steal is granted is left open: it may be any that is ready.
 use Rattle.std.specs.Prelude.{ℕ, ◌&&◌, Bool, not, if◌then◌else◌, [], Option, None, Some, is_some, slice_get}
 use Rattle.ids.specs.Names.{Grant, is_worker}
-use Rattle.body_eval.specs.Done.{DoneOf}
 use Rattle.serial_meaning.specs.Job.{JobOf}
 use Rattle.node_state.specs.Node.{NodeOf}
 use Rattle.node_core.specs.Calls as call
 use Rattle.node_core.specs.Cases.{Choice}
 use Rattle.node_core.specs.Cases as cases
 use Rattle.node_core.specs.Choosing.{MayChoose}
-use Rattle.node_core.specs.Steps as node
 use Rattle.node_core.specs.declared.parts.Victim.{Victim}
 use Rattle.node_core.specs.declared.parts.Victim.TheVariants as victim
 use Rattle.event_script.specs.declared.event.Asked.{Asked}
@@ -52,21 +50,17 @@ module _ (job : JobOf) where
       then stepped a (call.start job word) (with_used word w)
       else same Unfit w
 
-  -- a frame is carried out by its own turn, or by one that was evaluated before
-  abbrev pub executed : Option DoneOf → Grant → ℕ → NodeOf → node.Answer
-  executed None g f n = call.exec_ready job g f n
-  executed (Some d) g f n = call.exec job d g f n
-
-  abbrev pub at_node : Option Choice → Option DoneOf → ℕ → NodeEvent → NodeOf → WorldOf → Outturn
-  at_node choice turn a (Deliver i) n w = with_some (slice_get w.net i) w (λ p. answered a (cases.on_packet job choice p n) w)
-  at_node choice turn a (Exec f) n w = answered a (executed turn (grant_of f) f.frame n) w
-  at_node choice turn a (Ask v) n w = answered a (call.ask job (victim_of v) n) w
-  at_node choice turn a Resend n w = answered a (call.resend job n) w
-  at_node choice turn a (Depart heir) n w = answered a (call.depart job heir n) w
+  -- what comes to a node: a packet, if it is there; a ready frame is carried out by its own turn; or another call
+  abbrev pub at_node : Option Choice → ℕ → NodeEvent → NodeOf → WorldOf → Outturn
+  at_node choice a (Deliver i) n w = with_some (slice_get w.net i) w (λ p. answered a (cases.on_packet job choice p n) w)
+  at_node choice a (Exec f) n w = answered a (call.exec_ready job (grant_of f) f.frame n) w
+  at_node choice a (Ask v) n w = answered a (call.ask job (victim_of v) n) w
+  at_node choice a Resend n w = answered a (call.resend job n) w
+  at_node choice a (Depart heir) n w = answered a (call.depart job heir n) w
 
   -- what comes to the node of a place, if one is up there
-  abbrev pub comes : Option Choice → Option DoneOf → ℕ → NodeEvent → WorldOf → Outturn
-  comes choice turn a e w = with_some (node_in a w.nodes) w (λ n. at_node choice turn a e n w)
+  abbrev pub comes : Option Choice → ℕ → NodeEvent → WorldOf → Outturn
+  comes choice a e w = with_some (node_in a w.nodes) w (λ n. at_node choice a e n w)
 
 -- a node loses its whole memory
 abbrev pub crashes : ℕ → WorldOf → Outturn

@@ -1,8 +1,9 @@
 -- Runs: events one after another, and the worlds that they lead to.
-use Rattle.std.specs.Prelude.{◌≡◌, ℕ, List, [], ◌∷◌, Option, Some}
-use Rattle.body_eval.specs.Done.{DoneOf}
+use Rattle.std.specs.Prelude.{◌≡◌, ℕ, IsTrue, List, [], ◌∷◌, Some}
 use Rattle.ids.specs.declared.outcome.Outcome.{Outcome}
 use Rattle.disk.specs.Device.{Device, Unarmed}
+use Rattle.disk.specs.File.{CrashLeaves}
+use Rattle.checkpoint.specs.Format.{IsFormatted}
 use Rattle.checkpoint.specs.Store.{Keeps}
 use Rattle.checkpoint.specs.declared.record.Record.{Record}
 use Rattle.serial_meaning.specs.Job.{JobOf, meaning_of}
@@ -11,17 +12,16 @@ use Rattle.world.specs.Answers.{Answer}
 use Rattle.world.specs.Steps.{Step}
 use Rattle.world.specs.World.{WorldOf}
 
--- an event with the turn that was evaluated for it, if one was, and its answer
+-- an event and its answer
 pub record Entry : Type 0 where
   pub event : Event
-  pub turn : Option DoneOf
   pub answer : Answer
 
 -- entries, the first one first, lead from a world through these worlds, one after each
 pub data Runs (job : JobOf) : WorldOf → List Entry → List WorldOf → Type 0 where
   ends : {w : WorldOf} → Runs job w [] []
   goes : {w v : WorldOf} {e : Entry} {entries : List Entry} {worlds : List WorldOf}
-      → Step job e.turn e.event w (record { world = v; answer = e.answer })
+      → Step job e.event w (record { world = v; answer = e.answer })
       → Runs job v entries worlds
       → Runs job w (e ∷ entries) (v ∷ worlds)
 
@@ -39,3 +39,10 @@ pub record CanBegin (job : JobOf) (d : Device) : Type 0 where
   pub kept : Keeps d.file sequence found
   pub own : found.job ≡ job.number
   pub meant : (o : Outcome) → found.outcome ≡ Some o → o ≡ meaning_of job
+
+-- a disk that was formatted for a job: it can be cut and isn't armed, and whatever a crash leaves of it is the store of a job that
+-- has just begun. A run can begin on it
+pub record IsFormattedFor (job : JobOf) (d : Device) : Type 0 where
+  pub unarmed : d.arming ≡ Unarmed
+  pub can_cut : IsTrue d.can_cut
+  pub formatted : (bytes : List ℕ) → CrashLeaves d.file bytes → IsFormatted bytes job.number

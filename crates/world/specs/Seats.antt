@@ -8,11 +8,11 @@ use Rattle.serial_meaning.specs.Job.{JobOf}
 use Rattle.clearinghouse.specs.House.{Stopped}
 use Rattle.clearinghouse.specs.Meeting.{IsHouseOn}
 use Rattle.event_script.specs.declared.event.Cut.{Cut as CutOf}
-use Rattle.event_script.specs.declared.event.Event.TheVariants.{Cut}
+use Rattle.event_script.specs.declared.event.Event.TheVariants.{AtHouse, Cut}
 use Rattle.event_script.specs.declared.event.HouseEvent.{HouseEvent}
 use Rattle.event_script.specs.declared.event.HouseEvent.TheVariants.{Deliver, Tick, Restart}
 use Rattle.world.specs.Answers.{House, Outturn}
-use Rattle.world.specs.Steps.{DeviceFails, HouseEnds, HouseHalts, IsCut}
+use Rattle.world.specs.Steps.{DeviceFails, HouseEnds, IsCut}
 use Rattle.world.specs.World.{Down, HouseAt, IsUp, WorldOf, recorded_at}
 use Rattle.world.specs.declared.seat.Reply.{Reply}
 use Rattle.world.specs.declared.seat.Stand.{Stand}
@@ -70,7 +70,7 @@ replied r s w = record {
 module _ (job : JobOf) where
   -- an event ends, or a device call of it fails
   abbrev pub Happens : HouseEvent → WorldOf → Outturn → Type 0
-  Happens e w o = HouseEnds job e w.house w o ⊎ ((k : ℕ) × (bytes : List ℕ) × HouseHalts job e w.house k bytes w o)
+  Happens e w o = HouseEnds job e w.house w o ⊎ DeviceFails job (AtHouse e) w o
 
   -- the same of a Cut
   abbrev pub IsCutOff : CutOf → WorldOf → Outturn → Type 0

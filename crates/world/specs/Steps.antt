@@ -1,6 +1,6 @@
 -- A step of the world: an event is carried out; or a device call of the clearinghouse fails in it.
 use Rattle.std.specs.Prelude.{◌≡◌, ◌<◌, ◌≤◌, ◌⊎◌, ℕ, false, IsTrue, List, [], length, Option, None, Some, IsSome, slice_get}
-use Rattle.body_eval.specs.Done.{DoneOf}
+use Rattle.disk.specs.Device.{Device}
 use Rattle.disk.specs.File.{settled}
 use Rattle.checkpoint.specs.Calls.{Call}
 use Rattle.checkpoint.specs.Commit.{opening}
@@ -8,7 +8,7 @@ use Rattle.serial_meaning.specs.Job.{JobOf}
 use Rattle.node_state.specs.Node.{NodeOf}
 use Rattle.node_core.specs.Calls as call
 use Rattle.node_core.specs.Cases.{Choice}
-use Rattle.node_core.specs.Meeting.{MayStarve}
+use Rattle.node_core.specs.Meeting.{MayStarve, StarvesLast}
 use Rattle.node_core.specs.declared.error.NodeError.TheVariants as node
 use Rattle.clearinghouse.specs.House.{HouseOf, Open, Stopped}
 use Rattle.clearinghouse.specs.Steps.{Answer as HouseAnswer, Ignored, Refused, Does}
@@ -24,7 +24,7 @@ use Rattle.event_script.specs.declared.event.HouseEvent.TheVariants.{Restart}
 use Rattle.world.specs.Answers.{Answer, House, Outturn, house_same, same}
 use Rattle.world.specs.Answers as told
 use Rattle.world.specs.Houses.{Ends, Halts, IsRefusedAs, MakesCalls, Opens, RestartHalts, Restarts, calls_of, house_answer}
-use Rattle.world.specs.Nodes.{Allowed, can_start, comes, crashes, executed, grant_of, starts, victim_of}
+use Rattle.world.specs.Nodes.{Allowed, can_start, comes, crashes, grant_of, starts, victim_of}
 use Rattle.world.specs.World.{Down, HouseAt, IsUp, WorldOf, node_in}
 
 -- the clearinghouse loses its memory: what isn't synced stays as it was written last
@@ -35,6 +35,10 @@ abbrev pub house_crash : HouseAt → WorldOf → Outturn
 house_crash Down w = house_same None w
 house_crash (IsUp state) w = house_same None (house_down w)
 
+-- what isn't synced becomes these bytes in turn, as far as they go
+abbrev pub settled_by : List ℕ → Device → Device
+settled_by bytes d = record d { file = settled d.file bytes }
+
 -- after a Cut the clearinghouse is stopped, whatever came of the event
 abbrev pub stopped_answer : Answer → Answer
 stopped_answer (House e sent outcome) = House e sent None
@@ -43,9 +47,16 @@ stopped_answer other = other
 abbrev pub stopped : Outturn → Outturn
 stopped o = record { world = record o.world { house = IsUp (Stopped by.Device) }; answer = stopped_answer o.answer }
 
--- an event ends and the clearinghouse is stopped then
+-- a call of the device fails in an event, which settles what isn't synced, and the clearinghouse is stopped then
 abbrev pub ThenStopped : (Outturn → Type 0) → Outturn → Type 0
 ThenStopped P o = (before : Outturn) × P before × (o ≡ stopped before)
+
+-- an event ends, and then the clearinghouse is stopped and what isn't synced becomes the Cut's bytes
+abbrev pub cut_short : List ℕ → Outturn → Outturn
+cut_short bytes o = record { world = record o.world { house = IsUp (Stopped by.Device); disk = settled_by bytes o.world.disk }; answer = stopped_answer o.answer }
+
+abbrev pub ThenCut : List ℕ → (Outturn → Type 0) → Outturn → Type 0
+ThenCut bytes P o = (before : Outturn) × P before × (o ≡ cut_short bytes before)
 
 module _ (job : JobOf) where
   -- what comes to an open clearinghouse, if it applies
@@ -95,45 +106,46 @@ module _ (job : JobOf) where
   IsCut c w o =
       ((Applies c.event w.house w → w.disk.can_cut ≡ false) × (o ≡ house_same None w))
       ⊎ (IsTrue w.disk.can_cut × Applies c.event w.house w
-      × (((n : ℕ) × Makes c.event w.house n w × (n ≤ c.calls) × ThenStopped (HouseEnds c.event w.house w) o)
+      × (((n : ℕ) × Makes c.event w.house n w × (n ≤ c.calls) × ThenCut c.bytes (HouseEnds c.event w.house w) o)
       ⊎ ThenStopped (HouseHalts c.event w.house c.calls c.bytes w) o))
 
   -- an event is carried out
-  abbrev pub CarriedOut : Option DoneOf → Event → WorldOf → Outturn → Type 0
-  CarriedOut turn (Start a word) w o = o ≡ starts job a word w
-  CarriedOut turn (AtNode a e) w o = (choice : Option Choice) × Allowed e (node_in a w.nodes) choice × (o ≡ comes job choice turn a e w)
-  CarriedOut turn (Crash a) w o = o ≡ crashes a w
-  CarriedOut turn (AtHouse e) w o = HouseEnds e w.house w o
-  CarriedOut turn HouseCrash w o = o ≡ house_crash w.house w
-  CarriedOut turn (Cut c) w o = IsCut c w o
+  abbrev pub CarriedOut : Event → WorldOf → Outturn → Type 0
+  CarriedOut (Start a word) w o = o ≡ starts job a word w
+  CarriedOut (AtNode a e) w o = (choice : Option Choice) × Allowed e (node_in a w.nodes) choice × (o ≡ comes job choice a e w)
+  CarriedOut (Crash a) w o = o ≡ crashes a w
+  CarriedOut (AtHouse e) w o = HouseEnds e w.house w o
+  CarriedOut HouseCrash w o = o ≡ house_crash w.house w
+  CarriedOut (Cut c) w o = IsCut c w o
 
-  -- a device call fails in an event of the clearinghouse; in a Cut, before the one that is stopped
+  -- a device call fails by itself in an event of the clearinghouse. On a device that can be cut only the read of an opening does, its
+  -- first call; so in a Cut it does so where at least one call is let through
   abbrev pub DeviceFails : Event → WorldOf → Outturn → Type 0
-  DeviceFails (AtHouse e) w o = (k : ℕ) × (bytes : List ℕ) × HouseHalts e w.house k bytes w o
-  DeviceFails (Cut c) w o = IsTrue w.disk.can_cut × (k : ℕ) × (bytes : List ℕ) × (k < c.calls) × ThenStopped (HouseHalts c.event w.house k bytes w) o
+  DeviceFails (AtHouse e) w o = (k : ℕ) × (bytes : List ℕ) × (IsTrue w.disk.can_cut → (e ≡ Restart) × (k ≡ 0)) × HouseHalts e w.house k bytes w o
+  DeviceFails (Cut c) w o = IsTrue w.disk.can_cut × (c.event ≡ Restart) × (0 < c.calls) × ThenStopped (HouseHalts c.event w.house 0 c.bytes w) o
   DeviceFails other w o = ⊥
 
   -- in a world an event is answered, and leads to a world
-  abbrev pub Step : Option DoneOf → Event → WorldOf → Outturn → Type 0
-  Step turn e w o = CarriedOut turn e w o ⊎ DeviceFails e w o
+  abbrev pub Step : Event → WorldOf → Outturn → Type 0
+  Step e w o = CarriedOut e w o ⊎ DeviceFails e w o
 
   -- what a node may find no memory for: a packet that is there, and a call of its own that isn't refused before
-  abbrev pub MayStarveAt : Option DoneOf → NodeEvent → NodeOf → WorldOf → Type 0
-  MayStarveAt turn (at_node.Deliver i) n w = IsSome (slice_get w.net i)
-  MayStarveAt turn (at_node.Exec f) n w = MayStarve (executed job turn (grant_of f) f.frame n)
-  MayStarveAt turn (at_node.Ask v) n w = MayStarve (call.ask job (victim_of v) n)
-  MayStarveAt turn at_node.Resend n w = MayStarve (call.resend job n)
-  MayStarveAt turn (at_node.Depart heir) n w = MayStarve (call.depart job heir n)
+  abbrev pub MayStarveAt : NodeEvent → NodeOf → WorldOf → Type 0
+  MayStarveAt (at_node.Deliver i) n w = IsSome (slice_get w.net i)
+  MayStarveAt (at_node.Exec f) n w = MayStarve (call.exec_ready job (grant_of f) f.frame n)
+  MayStarveAt (at_node.Ask v) n w = StarvesLast (call.ask job (victim_of v) n)
+  MayStarveAt at_node.Resend n w = MayStarve (call.resend job n)
+  MayStarveAt (at_node.Depart heir) n w = MayStarve (call.depart job heir n)
 
   -- an event that applies finds no memory, which ends a run: the world is as it was, but that a clearinghouse that was to answer is
   -- stopped
   abbrev pub HouseStarves : HouseEvent → WorldOf → Outturn → Type 0
   HouseStarves e w o = Applies e w.house w × (o ≡ record { world = record w { house = IsUp (Stopped by.Memory) }; answer = House (Some error.Memory) [] None })
 
-  abbrev pub Starves : Option DoneOf → Event → WorldOf → Outturn → Type 0
-  Starves turn (Start a word) w o = IsTrue (can_start a word w) × (o ≡ same (told.Refused node.Memory) w)
-  Starves turn (AtNode a e) w o = ((n : NodeOf) × (node_in a w.nodes ≡ Some n) × MayStarveAt turn e n w) × (o ≡ same (told.Refused node.Memory) w)
-  Starves turn (AtHouse e) w o = HouseStarves e w o
-  Starves turn (Cut c) w o = IsTrue w.disk.can_cut × HouseStarves c.event w o
-  Starves turn (Crash a) w o = ⊥
-  Starves turn HouseCrash w o = ⊥
+  abbrev pub Starves : Event → WorldOf → Outturn → Type 0
+  Starves (Start a word) w o = IsTrue (can_start a word w) × (o ≡ same (told.Refused node.Memory) w)
+  Starves (AtNode a e) w o = ((n : NodeOf) × (node_in a w.nodes ≡ Some n) × MayStarveAt e n w) × (o ≡ same (told.Refused node.Memory) w)
+  Starves (AtHouse e) w o = HouseStarves e w o
+  Starves (Cut c) w o = IsTrue w.disk.can_cut × HouseStarves c.event w o
+  Starves (Crash a) w o = ⊥
+  Starves HouseCrash w o = ⊥

@@ -11,7 +11,8 @@ mod world;
 
 pub use event_script::line;
 pub use laws::{
-    a_cut_stops, nothing_is_taken_back, starts_are_new, the_first_world, unfit_changes_nothing,
+    a_cut_stops, a_run_can_begin, nothing_is_taken_back, only_an_opening_fails, starts_are_new,
+    the_first_world, unfit_changes_nothing,
 };
 pub use parts::{NoMemory, Told};
 pub use runs::{ReplayError, RunEnd, replay, run};

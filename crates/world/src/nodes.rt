@@ -9,7 +9,7 @@ use event_script::{Asked, NodeEvent};
 use node_core::{Node, NodeError, Step, Victim};
 use std::alloc::Global;
 
-/// An event comes to a node, with the packet that it delivers and the turn that was evaluated for it, if there is one.
+/// An event comes to a node, with the packet that it delivers, and a turn that may be the ready frame's own.
 pub fn carry_out(
     alloc: Global,
     node: &mut Node,
@@ -19,8 +19,8 @@ pub fn carry_out(
 ) -> Result<Step, NodeError>
     requires there { IsThere event (option_copied packet) }
     requires own { IsOfJob node.old.job (option_copied turn) }
-    ensures answer { Carries event (option_copied packet.entry) (option_copied turn.entry) result node.old node.new }
-    ensures starved { IsErrOf result Memory → MayLack event (option_copied turn.entry) node.old }
+    ensures answer { Carries event (option_copied packet.entry) result node.old node.new }
+    ensures starved { IsErrOf result Memory → MayLack event node.old }
 {
     match event {
         NodeEvent::Deliver(_) => {
@@ -31,7 +31,9 @@ pub fn carry_out(
             }
         }
         NodeEvent::Exec(frame) => match turn {
-            Some(done) => { node.exec_named(alloc, frame.minter, frame.number, frame.frame, done) }
+            Some(done) => {
+                node.exec_turn_named(alloc, frame.minter, frame.number, frame.frame, done)
+            }
             None => node.exec_ready_named(alloc, frame.minter, frame.number, frame.frame),
         },
         NodeEvent::Ask(Asked::Worker(word)) => node.ask_named(alloc, word),

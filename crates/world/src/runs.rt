@@ -4,8 +4,8 @@ ghost use Rattle.disk.specs.Device.{Device};
 ghost use Rattle.event_script.specs.Scripts.{script};
 ghost use Rattle.event_script.specs.declared.event.Event.{Event as EventOf};
 ghost use Rattle.world.specs.Answers.{Outturn};
-ghost use Rattle.world.specs.Calls.{IsRun, IsStarved};
-ghost use Rattle.world.specs.Runs.{CanBegin};
+ghost use Rattle.world.specs.Calls.{IsReplay, IsRun, IsStarved};
+ghost use Rattle.world.specs.Runs.{IsFormattedFor};
 ghost use Rattle.world.specs.Steps.{Step as StepOf};
 ghost use Rattle.world.specs.World.{first_over};
 ghost use Rattle.world.specs.declared.parts.NoMemory.{NoMemory as NoMemoryOf};
@@ -37,10 +37,12 @@ pub enum ReplayError {
     Memory,
 }
 
-/// Events are carried out one after another, from the first world of a job on. Refused where there is no memory for that world
+/// Events are carried out one after another, from the first world of a job on. It stops (E9) only at an event that applies and finds
+/// no memory; where that was the clearinghouse's, the clearinghouse is stopped. Refused where there is no memory for the first world
 /// alone (E9).
 pub fn run<'a>(alloc: Global, job: &'a Job, events: &[Event]) -> Result<RunEnd<'a>, NoMemory>
-    ensures { IfOk result (λ r. IsRun job.now events.now r.done r.stopped r.world.world) }
+    ensures job { IfOk result (λ r. r.world.job ≡ job.now) }
+    ensures run { IfOk result (λ r. IsRun job.now events.now r.done r.stopped r.world.world) }
 {
     let mut run = begun(alloc, job)?;
     for event in events {
@@ -52,10 +54,11 @@ pub fn run<'a>(alloc: Global, job: &'a Job, events: &[Event]) -> Result<RunEnd<'
 }
 
 /// The events of a script are carried out one after another, as `run` does. Refused by the first line that isn't of the form of
-/// `Script::new`, and no event is carried out then; and where there is no memory for the first world (E9). E9 may stop it at a Cut
-/// too, for whose bytes there is no memory.
+/// `Script::new`, and no event is carried out then; and where there is no memory for the first world (E9). E9 may stop it at a
+/// Cut too, for whose bytes there is no memory; then nothing changes.
 pub fn replay<'a>(alloc: Global, job: &'a Job, text: &[u8]) -> Result<RunEnd<'a>, ReplayError>
-    ensures run { IfOk result (λ r. (events : List EventOf) × (script text.now ≡ Ok events) × IsRun job.now events r.done r.stopped r.world.world) }
+    ensures job { IfOk result (λ r. r.world.job ≡ job.now) }
+    ensures run { IfOk result (λ r. (events : List EventOf) × (script text.now ≡ Ok events) × IsReplay job.now events r.done r.stopped r.world.world) }
     ensures line { (l : _) → result ≡ Err (replay_error.Line l) → script text.now ≡ Err l }
 {
     let mut script = match Script::new(text) {
@@ -84,7 +87,7 @@ pub fn replay<'a>(alloc: Global, job: &'a Job, text: &[u8]) -> Result<RunEnd<'a>
 /// A run that has just begun.
 fn begun<'a>(alloc: Global, job: &'a Job) -> Result<RunEnd<'a>, NoMemory>
     ensures job { IfOk result (λ r. r.world.job ≡ job.now) }
-    ensures first { IfOk result (λ r. (d : Device) × CanBegin job.now d × (r.world.world ≡ first_over d)) }
+    ensures first { IfOk result (λ r. (d : Device) × IsFormattedFor job.now d × (r.world.world ≡ first_over d)) }
     ensures none { IfOk result (λ r. (r.done ≡ 0) × (r.stopped ≡ None)) }
 {
     Ok(RunEnd {
@@ -99,8 +102,8 @@ impl<'a> RunEnd<'a> {
     fn carry_on(&mut self, alloc: Global, event: &Event) -> bool
         requires { self.old.done + 1 < 2 ^ 64 }
         ensures job { self.new.world.job ≡ self.old.world.job }
-        ensures carried { result ≡ true → (o : Outturn) × StepOf self.old.world.job None event.now self.old.world.world o × (self.new.world.world ≡ o.world) × (self.new.done ≡ self.old.done + 1) × (self.new.stopped ≡ self.old.stopped) }
-        ensures starved { result ≡ false → (o : Outturn) × IsStarved None event.now self.old.world o × (self.new.world.world ≡ o.world) × (self.new.done ≡ self.old.done) × (lacks : NoMemoryOf) × (self.new.stopped ≡ Some lacks) }
+        ensures carried { result ≡ true → (o : Outturn) × StepOf self.old.world.job event.now self.old.world.world o × (self.new.world.world ≡ o.world) × (self.new.done ≡ self.old.done + 1) × (self.new.stopped ≡ self.old.stopped) }
+        ensures starved { result ≡ false → (o : Outturn) × IsStarved event.now self.old.world o × (self.new.world.world ≡ o.world) × (self.new.done ≡ self.old.done) × (lacks : NoMemoryOf) × (self.new.stopped ≡ Some lacks) }
     {
         match self.world.step(alloc, event, None) {
             Ok(_) => {

@@ -11,7 +11,7 @@ ghost use Rattle.clearinghouse.specs.Steps.{Does};
 ghost use Rattle.clearinghouse.specs.declared.parts.Stop.{Stop as StopOf};
 ghost use Rattle.clearinghouse.specs.declared.parts.Stop.TheVariants as by;
 ghost use Rattle.world.specs.Coming.{Answered, AnsweredIf, HasCome, IsReply, RestartComes, answer_to, closed_at, is_open_at, replying, seat_of, stop_by as stopping_by, unopened_at};
-ghost use Rattle.world.specs.Runs.{CanBegin};
+ghost use Rattle.world.specs.Runs.{IsFormattedFor};
 ghost use Rattle.world.specs.Seats.{Happens, IsCutOff, IsFound, IsOf, Seats, disk_of, fallen, house_at, replied};
 ghost use Rattle.world.specs.Steps.{Applies};
 ghost use Rattle.world.specs.World.{Down, IsUp, WorldOf, recorded_at};
@@ -71,7 +71,7 @@ pub struct Reply {
 impl<'a> Seat<'a> {
     /// It is down, over a disk that was formatted for the job. Refused for want of memory alone.
     pub fn new(alloc: Global, job: &'a Job) -> Result<Seat<'a>, NoMemory>
-        ensures begins { IfOk result (λ s. CanBegin job.now s.disk) }
+        ensures formatted { IfOk result (λ s. IsFormattedFor job.now s.disk) }
         ensures down { IfOk result (λ s. s ≡ record { job = job.now; house = Down; disk = s.disk }) }
     {
         let mut disk = MemDisk::new(alloc);

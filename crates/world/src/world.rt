@@ -9,7 +9,7 @@ ghost use Rattle.node_state.specs.Node.{NodeOf};
 ghost use Rattle.world.specs.Calls.{Came, IsOfJob, IsStarved, delivered_in, is_there, told_of};
 ghost use Rattle.world.specs.Nodes.{can_start};
 ghost use Rattle.world.specs.Seats.{IsFound};
-ghost use Rattle.world.specs.Runs.{CanBegin};
+ghost use Rattle.world.specs.Runs.{IsFormattedFor};
 ghost use Rattle.world.specs.Steps.{Step as StepOf};
 ghost use Rattle.world.specs.World.{WorldOf, first_over, node_in, put_node, recorded, with_used, without_node};
 ghost use Rattle.world.specs.declared.parts.Told.TheVariants as told;
@@ -64,10 +64,11 @@ impl<'a> Model for World<'a> {
 }
 
 impl<'a> World<'a> {
-    /// The first world of a job: no node is up, the clearinghouse is down over a disk that was formatted, and nothing was sent.
+    /// The first world of a job: no node is up, the clearinghouse is down over a disk that was formatted for the job, which can be cut
+    /// and isn't armed, and nothing was sent.
     /// Refused for want of memory alone (E9).
     pub fn new(alloc: Global, job: &'a Job) -> Result<World<'a>, NoMemory>
-        ensures { IfOk result (λ w. (d : Device) × CanBegin job.now d × (w ≡ record { job = job.now; world = first_over d; is_placed = true })) }
+        ensures { IfOk result (λ w. (d : Device) × IsFormattedFor job.now d × (w ≡ record { job = job.now; world = first_over d; is_placed = true })) }
     {
         Ok(World {
             job,
@@ -114,10 +115,10 @@ impl<'a> World<'a> {
         self.seat.outcome()
     }
 
-    /// An event is carried out: an Exec by the turn that was evaluated for it, if there is one, which is one of the job's program.
-    /// What doesn't apply, or is refused, changes nothing. A device call that fails, as the clearinghouse's disk does for want of
-    /// memory alone, stops the clearinghouse. E9 where the event finds no memory: the world is as it was, but that a clearinghouse
-    /// that was to answer is stopped.
+    /// An event is carried out. For an Exec a turn may be at hand, of the job's program: one that is the ready frame's own, of its
+    /// thread on its numbers, is used, and another one is put aside. What doesn't apply, or is refused, changes nothing. A device call
+    /// that fails stops the clearinghouse; only the read of an opening does by itself, for want of memory. E9 where the event finds
+    /// no memory: the world is as it was, but a clearinghouse that was to answer is stopped.
     pub fn step(
         &mut self,
         alloc: Global,
@@ -126,8 +127,8 @@ impl<'a> World<'a> {
     ) -> Result<Told, NoMemory>
         requires { IsOfJob self.old.job (option_copied turn) }
         ensures job { self.new.job ≡ self.old.job }
-        ensures step { IfOk result (λ t. (o : Outturn) × StepOf self.old.job (option_copied turn.entry) event.now self.old.world o × (self.new.world ≡ o.world) × (t ≡ told_of o.answer)) }
-        ensures starved { OnErr result ((o : Outturn) × IsStarved (option_copied turn.entry) event.now self.old o × (self.new.world ≡ o.world)) }
+        ensures step { IfOk result (λ t. (o : Outturn) × StepOf self.old.job event.now self.old.world o × (self.new.world ≡ o.world) × (t ≡ told_of o.answer)) }
+        ensures starved { OnErr result ((o : Outturn) × IsStarved event.now self.old o × (self.new.world ≡ o.world)) }
     {
         match event {
             Event::Start(place, word) => self.start(alloc, *place, *word),
@@ -218,8 +219,8 @@ impl<'a> World<'a> {
     /// A node starts at a place with a start word, if it can.
     fn start(&mut self, alloc: Global, place: NodePlace, word: u64) -> Result<Told, NoMemory>
         ensures job { self.new.job ≡ self.old.job }
-        ensures step { IfOk result (λ t. (o : Outturn) × StepOf self.old.job None (events.Start place word) self.old.world o × (self.new.world ≡ o.world) × (t ≡ told_of o.answer)) }
-        ensures starved { OnErr result ((o : Outturn) × IsStarved None (events.Start place word) self.old o × (self.new.world ≡ o.world)) }
+        ensures step { IfOk result (λ t. (o : Outturn) × StepOf self.old.job (events.Start place word) self.old.world o × (self.new.world ≡ o.world) × (t ≡ told_of o.answer)) }
+        ensures starved { OnErr result ((o : Outturn) × IsStarved (events.Start place word) self.old o × (self.new.world ≡ o.world)) }
     {
         let Some(incarnation) = self.starts(place, word) else {
             return Ok(Told::Unfit);
@@ -242,8 +243,8 @@ impl<'a> World<'a> {
     ) -> Result<Told, NoMemory>
         requires { IsOfJob self.old.job (option_copied turn) }
         ensures job { self.new.job ≡ self.old.job }
-        ensures step { IfOk result (λ t. (o : Outturn) × StepOf self.old.job (option_copied turn.entry) (events.AtNode place event) self.old.world o × (self.new.world ≡ o.world) × (t ≡ told_of o.answer)) }
-        ensures starved { OnErr result ((o : Outturn) × IsStarved (option_copied turn.entry) (events.AtNode place event) self.old o × (self.new.world ≡ o.world)) }
+        ensures step { IfOk result (λ t. (o : Outturn) × StepOf self.old.job (events.AtNode place event) self.old.world o × (self.new.world ≡ o.world) × (t ≡ told_of o.answer)) }
+        ensures starved { OnErr result ((o : Outturn) × IsStarved (events.AtNode place event) self.old o × (self.new.world ≡ o.world)) }
     {
         self.may_choose(place);
         if !self.fits(place, event) {
@@ -284,7 +285,7 @@ impl<'a> World<'a> {
         requires there { is_there event self.old.world.net ≡ true }
         ensures job { self.new.job ≡ self.old.job }
         ensures placed { self.new.is_placed ≡ self.old.is_placed }
-        ensures came { Came self.old self.new.world place event (option_copied turn.entry) result }
+        ensures came { Came self.old self.new.world place event result }
     {
         let at = usize::from(place.index());
         let Some(mut node) = mem::replace(&mut self.nodes[at], None) else {
@@ -307,7 +308,7 @@ impl<'a> World<'a> {
     /// The node of a place loses its memory, if one is up there.
     fn crash(&mut self, place: NodePlace) -> Told
         ensures job { self.new.job ≡ self.old.job }
-        ensures step { (o : Outturn) × StepOf self.old.job None (events.Crash place) self.old.world o × (self.new.world ≡ o.world) × (result ≡ told_of o.answer) }
+        ensures step { (o : Outturn) × StepOf self.old.job (events.Crash place) self.old.world o × (self.new.world ≡ o.world) × (result ≡ told_of o.answer) }
     {
         if !self.is_up(place) {
             return Told::Unfit;
@@ -332,8 +333,8 @@ impl<'a> World<'a> {
     /// Something comes to the clearinghouse, if it applies.
     fn at_house(&mut self, alloc: Global, event: HouseEvent) -> Result<Told, NoMemory>
         ensures job { self.new.job ≡ self.old.job }
-        ensures step { IfOk result (λ t. (o : Outturn) × StepOf self.old.job None (events.AtHouse event) self.old.world o × (self.new.world ≡ o.world) × (t ≡ told_of o.answer)) }
-        ensures starved { OnErr result ((o : Outturn) × IsStarved None (events.AtHouse event) self.old o × (self.new.world ≡ o.world)) }
+        ensures step { IfOk result (λ t. (o : Outturn) × StepOf self.old.job (events.AtHouse event) self.old.world o × (self.new.world ≡ o.world) × (t ≡ told_of o.answer)) }
+        ensures starved { OnErr result ((o : Outturn) × IsStarved (events.AtHouse event) self.old o × (self.new.world ≡ o.world)) }
     {
         if !self.seat.applies(event, delivered(&self.net, event)) {
             return Ok(self.unheard());
@@ -349,8 +350,8 @@ impl<'a> World<'a> {
     /// An event of the clearinghouse is cut off, if it applies.
     fn cut(&mut self, alloc: Global, cut: &Cut) -> Result<Told, NoMemory>
         ensures job { self.new.job ≡ self.old.job }
-        ensures step { IfOk result (λ t. (o : Outturn) × StepOf self.old.job None (events.Cut cut.now) self.old.world o × (self.new.world ≡ o.world) × (t ≡ told_of o.answer)) }
-        ensures starved { OnErr result ((o : Outturn) × IsStarved None (events.Cut cut.now) self.old o × (self.new.world ≡ o.world)) }
+        ensures step { IfOk result (λ t. (o : Outturn) × StepOf self.old.job (events.Cut cut.now) self.old.world o × (self.new.world ≡ o.world) × (t ≡ told_of o.answer)) }
+        ensures starved { OnErr result ((o : Outturn) × IsStarved (events.Cut cut.now) self.old o × (self.new.world ≡ o.world)) }
     {
         self.seat.can_cut();
         if !self

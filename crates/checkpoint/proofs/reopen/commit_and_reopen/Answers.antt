@@ -3,7 +3,7 @@ use Rattle.disk.specs.File.{CrashLeaves, bytes_of}
 use Rattle.checkpoint.specs.Commit.{next_of}
 use Rattle.checkpoint.specs.Format.{IsStore}
 use Rattle.checkpoint.specs.Moments.{KeepsEither}
-use Rattle.checkpoint.proofs.Reopened.{crash_reads, crash_keeps, opened_either, opened_one, opened_kept, refused_alone}
+use Rattle.checkpoint.proofs.Reopened.{back_crashed, crash_reads, crash_keeps, opened_crashed, opened_either, opened_one, opened_kept, refused_alone}
 use Rattle.checkpoint.proofs.Results.{ok_told}
 use Rattle.checkpoint.proofs.reopen.commit_and_reopen.Goals as goal
 
@@ -57,3 +57,17 @@ returns-clause-refused g c keeps =
     let job = ap (λ r. r.job) (sym c.record-job.ensures.same) in
     refused_alone device c.open.result (device crashed) (g.D.Disk.planned crashed) c.record-job.result.job store.sequence store.«record» next
     c.open.ensures.refused job job either
+
+pub returns-clause-crashed : goal.returns-clause-crashed
+returns-clause-crashed g c cut =
+    let device = g.D.Disk.device in
+    let disk = c.into_disk-disk.result in
+    let can = ap (λ d. (device d).can_cut) c.into_disk-disk.ensures ∙ c.commit-answer.ensures.can_cut ∙ cut in
+    opened_crashed device c.open.result (device disk) (device c.crash.new.self) (g.D.Disk.planned c.crash.new.self) (c.crash.ensures.crashed can) c.open.ensures.calls
+
+pub returns-clause-crashed_back : goal.returns-clause-crashed_back
+returns-clause-crashed_back g c cut =
+    let device = g.D.Disk.device in
+    let disk = c.into_disk-disk.result in
+    let can = ap (λ d. (device d).can_cut) c.into_disk-disk.ensures ∙ c.commit-answer.ensures.can_cut ∙ cut in
+    back_crashed device c.open.result (device disk) (device c.crash.new.self) (g.D.Disk.planned c.crash.new.self) c.record-job.result.job (c.crash.ensures.crashed can) c.open.ensures.refused c.open.ensures.stopped

@@ -1,11 +1,20 @@
-use Rattle.std.proofs.Common.{◌≡◌, ◌∙◌, refl, subst, sym, false, Option, None, Some, is_some}
-use Rattle.world.specs.Calls.{IsRun}
+use Rattle.std.proofs.Common.{◌≡◌, ◌∙◌, ℕ, List, refl, subst, sym, false, Option, None, Some, is_some}
+use Rattle.event_script.specs.declared.event.Event.{Event}
+use Rattle.serial_meaning.specs.Job.{JobOf}
+use Rattle.world.specs.Calls.{IsReplay, IsRun}
+use Rattle.world.specs.World.{WorldOf}
 use Rattle.world.specs.declared.parts.NoMemory.{NoMemory}
 use Rattle.replaying.proofs.replayed.replay_script.Goals as goal
 
 none_is : (o : Option NoMemory) → is_some o ≡ false → o ≡ None
 none_is None is = refl
 none_is (Some e) is = absurd cc
+
+-- a replay that nothing stopped is a run
+whole : (job : JobOf) (events : List Event) (done : ℕ) (stopped : Option NoMemory) (v : WorldOf) → stopped ≡ None → IsReplay job events done stopped v → IsRun job events done None v
+whole job events done stopped v none replay =
+    let r : IsReplay job events done None v = subst (λ s. IsReplay job events done s v) none replay in
+    record { disk = r.disk; formatted = r.formatted; entries = r.entries; worlds = r.worlds; runs = r.runs; carried = r.carried; ends = r.ends }
 
 pub returns-clause-run : goal.returns-clause-run
 returns-clause-run c =
@@ -14,7 +23,7 @@ returns-clause-run c =
       events = run.0;
       read = run.1;
       world = c.in_ok-end.end.world.world;
-      run = subst (λ (s : Option NoMemory). IsRun c.args.job.now run.0 c.in_ok-end.end.done s c.in_ok-end.end.world.world) (none_is c.in_ok-end.end.stopped (sym c.is_some.ensures ∙ c.if-is_some.false)) run.2;
+      run = whole c.args.job.now run.0 c.in_ok-end.end.done c.in_ok-end.end.stopped c.in_ok-end.end.world.world (none_is c.in_ok-end.end.stopped (sym c.is_some.ensures ∙ c.if-is_some.false)) run.2;
       packets = c.packets.ensures;
       fills = c.fills.ensures;
       outcome = c.outcome.ensures;

@@ -7,4 +7,4 @@ pub returns-clause-stopped : goal.returns-clause-stopped
 returns-clause-stopped c = cut_stops
 
 pub returns-clause-recorded : goal.returns-clause-recorded
-returns-clause-recorded c = λ job turn e w o can applies s. ap recorded_at (cut_stops job turn e w o can applies s)
+returns-clause-recorded c = λ job e w o can applies s. ap recorded_at (cut_stops job e w o can applies s)

@@ -1,5 +1,5 @@
-use Rattle.std.proofs.Common.{◌++◌, [], inl, refl, sym, ◌∙◌, arith}
-use Rattle.world.proofs.Running.{first_under_way, get_left, one_starved, room_left, run_stops, script_goes_on, some_left, take_past}
+use Rattle.std.proofs.Common.{◌++◌, [], refl, sym, ◌∙◌, arith}
+use Rattle.world.proofs.Running.{bytes_starved, cut_left, first_under_way, get_left, room_left, script_goes_on, script_starved, take_past}
 use Rattle.world.proofs.runs.replay.Goals as goal
 
 pub loop-event-init : goal.loop-event-init
@@ -25,7 +25,7 @@ returns-then-not-carry_on-clause-run c =
       events,
       at.3,
       rw (s.3, s.5)
-          (one_starved c.args.job.now events at.2 c.loop-event.run.done s.4 c.in-Ok-Some.event c.loop-event.run.world s.0 c.carry_on.new.self.world.world at.0 at.5 (take_past at.2 c.loop-event.script c.loop-event.run.done at.4) get s.1 s.2),
+          (script_starved c.args.job.now events at.2 c.loop-event.run.done s.4 c.in-Ok-Some.event c.loop-event.run.world s.0 c.carry_on.new.self.world.world at.0 at.5 (take_past at.2 c.loop-event.script c.loop-event.run.done at.4) get s.1 s.2),
     )
 
 pub loop-event-preserved-else-not-carry_on : goal.loop-event-preserved-else-not-carry_on
@@ -48,6 +48,6 @@ pub returns-in-Err-next-clause-run : goal.returns-in-Err-next-clause-run
 returns-in-Err-next-clause-run c =
     let at = c.loop-event.invariant in
     let events = at.2 ++ c.loop-event.script in
-    let left = some_left c.loop-event.script c.in-Err-next.ensures.left in
+    let left = cut_left c.loop-event.script c.in-Err-next.ensures.cut in
     let get = get_left at.2 c.loop-event.script left.1 left.0 c.loop-event.run.done at.4 left.2 in
-    (events, at.3, run_stops c.args.job.now events at.2 c.loop-event.run.done _ left.0 c.loop-event.run.world.world c.loop-event.run.world.world at.5 (take_past at.2 c.loop-event.script c.loop-event.run.done at.4) get (inl refl))
+    (events, at.3, bytes_starved c.args.job.now events at.2 c.loop-event.run.done _ left.0 c.loop-event.run.world.world at.5 (take_past at.2 c.loop-event.script c.loop-event.run.done at.4) get left.3)

@@ -8,8 +8,8 @@ loop-event-init c =
     let first = c.in_ok-run.ensures.first in
     (c.in_ok-run.ensures.job, c.in_ok-run.ensures.none.0, c.in_ok-run.ensures.none.1, first_under_way c.args.job.now first.0 c.in_ok-run.run'.world.world first.1 first.2)
 
-pub returns-then-not-carry_on : goal.returns-then-not-carry_on
-returns-then-not-carry_on c =
+pub returns-then-not-carry_on-clause-run : goal.returns-then-not-carry_on-clause-run
+returns-then-not-carry_on-clause-run c =
     let at = c.loop-event.invariant in
     let s = c.if-not-carry_on.ensures.starved refl in
     let next = slice_get_read c.args.events.now _ c.loop-event.event-index c.event-item.result refl c.loop-event-test.true c.event-item.is in

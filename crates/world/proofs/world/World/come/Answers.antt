@@ -17,11 +17,11 @@ invariant_of-self c =
     rw c.replace.ensures.after
     (record {
       many = back_many c.self.inside.nodes.items c.from-at.result c.carry_out-answer.new.node c.self.invariant.many;
-      nodes = back_of c.self.inside.job.now c.self.inside.nodes.items c.from-at.result c.carry_out-answer.new.node c.self.invariant.nodes (keeps_job c.args.event _ _ _ c.in-Some.node c.carry_out-answer.new.node c.carry_out-answer.ensures.answer ∙ own);
+      nodes = back_of c.self.inside.job.now c.self.inside.nodes.items c.from-at.result c.carry_out-answer.new.node c.self.invariant.nodes (keeps_job c.args.event _ _ c.in-Some.node c.carry_out-answer.new.node c.carry_out-answer.ensures.answer ∙ own);
       seat = c.self.invariant.seat;
     })
 
 pub returns-clause-came : goal.returns-clause-came
 returns-clause-came c =
     rw (← c.self.view_is, c.replace.ensures.after)
-    (came _ c.self.inside.nodes.items c.args.place c.from-at.result c.in-Some.node c.carry_out-answer.new.node c.index_mut.result.now c.args.event _ _ c.carry_out-answer.result c.self.invariant.many c.index.ensures.within (c.from-at.ensures ∙ c.index.ensures.same) refl c.self.invariant.nodes (sym c.replace.ensures.value ∙ c.in-Some.is) c.index_mut.ensures.value c.handed.ensures c.carry_out-answer.ensures.answer c.carry_out-answer.ensures.starved)
+    (came _ c.self.inside.nodes.items c.args.place c.from-at.result c.in-Some.node c.carry_out-answer.new.node c.index_mut.result.now c.args.event _ c.carry_out-answer.result c.self.invariant.many c.index.ensures.within (c.from-at.ensures ∙ c.index.ensures.same) refl c.self.invariant.nodes (sym c.replace.ensures.value ∙ c.in-Some.is) c.index_mut.ensures.value c.handed.ensures c.carry_out-answer.ensures.answer c.carry_out-answer.ensures.starved)

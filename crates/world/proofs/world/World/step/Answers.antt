@@ -1,4 +1,4 @@
-use Rattle.std.proofs.Common.{refl, ap, option_copied}
+use Rattle.std.proofs.Common.{refl, ap}
 use Rattle.world.proofs.Housing.{crashed, seat_put, shown, silent_in}
 use Rattle.world.proofs.world.World.step.Goals as goal
 
@@ -8,4 +8,4 @@ returns-in-HouseCrash-clause-step c =
     let same = ap (λ v. v.world) c.self.view_is in
     let seat = shown c.self.inside.seat (ap (λ v. v.job) c.self.view_is) same c.self.invariant.seat refl refl in
     let n = c.fall.new.self in
-    (silent_in n w, crashed n (option_copied c.args.turn) c.args.event.now c.in-HouseCrash.is seat c.fall.ensures, seat_put n same, c.unheard.ensures)
+    (silent_in n w, crashed n c.args.event.now c.in-HouseCrash.is seat c.fall.ensures, seat_put n same, c.unheard.ensures)
