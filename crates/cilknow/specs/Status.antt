@@ -1,20 +1,21 @@
 -- The statuses that the program ends with.
 use Rattle.std.specs.Prelude.{ℕ}
+use Rattle.jobs.specs.Faults as jobs
+use Rattle.jobs.specs.declared.fault.FileFault.{FileFault}
+use Rattle.jobs.specs.declared.fault.FileFault.TheVariants as file
+use Rattle.jobs.specs.declared.fault.JobFault.{JobFault}
 use Rattle.replaying.specs.Status as replays
-use Rattle.replaying.specs.declared.fault.FileFault.{FileFault}
-use Rattle.replaying.specs.declared.fault.FileFault.TheVariants as file
 use Rattle.replaying.specs.declared.words.WordsFault.{WordsFault}
 use Rattle.replaying.specs.declared.words.WordsFault.TheVariants as words
 use Rattle.cilknow.specs.declared.command.CommandFault.{CommandFault}
 use Rattle.cilknow.specs.declared.command.CommandFault.TheVariants as command
+use Rattle.cilknow.specs.Faults as run
 use Rattle.cilknow.specs.declared.fault.SoloFault.{SoloFault}
 use Rattle.cilknow.specs.declared.fault.SoloFault.TheVariants as solo
 
--- a text or an input that is refused is 1, and no outcome is 3
+-- a text and an input that are no job have their own status, and no outcome is 3
 abbrev pub status_of_run : SoloFault → ℕ
-status_of_run (solo.Parse e) = 1
-status_of_run (solo.Kind e) = 1
-status_of_run (solo.Input e) = 1
+status_of_run (solo.Job e) = jobs.status_of e
 status_of_run solo.TurnsSpent = 3
 status_of_run solo.NumbersSpent = 3
 status_of_run solo.Memory = 3
@@ -37,3 +38,7 @@ of_file file.Memory = command.Run solo.Memory
 abbrev pub of_words : WordsFault → CommandFault
 of_words words.Usage = command.Usage
 of_words words.Memory = command.Run solo.Memory
+
+-- a text and an input that are no job
+abbrev pub of_job : JobFault → CommandFault
+of_job e = command.Run (run.of_job e)

@@ -1,21 +1,17 @@
 ghost use Rattle.std.specs.Prelude.{◌≡◌};
-ghost use Rattle.cilknow.specs.Status.{of_file, of_words, status_of};
+ghost use Rattle.cilknow.specs.Status.{of_file, of_job, of_words, status_of};
 
 use crate::fault::SoloFault;
 use crate::solo::solo;
 use crate::words::{JobWords, Request, read_words};
-use kind_check::{Checked, check};
-use replaying::{
-    FileFault, ReplayFault, ReplayWords, WordsFault, help_of, replay_files, text_bytes,
-    write_replayed,
-};
-use serial_meaning::{Job, Outcome, SerialError, serial};
+use jobs::{FileFault, JobFault, job_of, program_of, text_bytes};
+use replaying::{ReplayFault, ReplayWords, WordsFault, help_of, replay_files, write_replayed};
+use serial_meaning::{Outcome, SerialError, serial};
 use std::alloc::Global;
 use std::convert::AsStr;
 use std::fmt;
 use std::io::{self, Write};
 use std::rt::Files;
-use task_syntax::parse;
 use thiserror::Error;
 
 /// Why a command ends without its answer.
@@ -47,7 +43,7 @@ impl CommandFault {
         match self {
             CommandFault::Run(SoloFault::Memory | SoloFault::TurnsSpent | SoloFault::NumbersSpent)
             | CommandFault::TurnsSpent => 3,
-            CommandFault::Run(SoloFault::Parse(_) | SoloFault::Kind(_) | SoloFault::Input(_)) => 1,
+            CommandFault::Run(SoloFault::Job(fault)) => fault.status(),
             CommandFault::Usage => 2,
             CommandFault::File => 4,
             CommandFault::Replay(fault) => fault.status(),
@@ -77,10 +73,12 @@ impl From<WordsFault> for CommandFault {
     }
 }
 
-/// The accepted program of a text.
-fn checked(alloc: Global, text: &[u8]) -> Result<Checked, SoloFault> {
-    let program = parse(alloc, text)?;
-    Ok(check(alloc, program)?)
+impl From<JobFault> for CommandFault {
+    ghost from_gives = { λ e f. f ≡ of_job e };
+
+    fn from(e: JobFault) -> CommandFault {
+        CommandFault::Run(SoloFault::from(e))
+    }
 }
 
 /// The serial outcome of a text on an input.
@@ -89,10 +87,7 @@ fn serial_outcome(
     text: &[u8],
     words: JobWords<'_>,
 ) -> Result<Outcome, CommandFault> {
-    let checked = checked(alloc, text).map_err(CommandFault::Run)?;
-    let job = Job::new(checked, words.input, words.job).map_err(|e| CommandFault::Run(
-        SoloFault::Input(e),
-    ))?;
+    let job = job_of(alloc, text, words.input, words.job)?;
     match serial(alloc, &job, words.turns) {
         Ok(outcome) => Ok(outcome),
         Err(SerialError::TurnsSpent) => Err(CommandFault::TurnsSpent),
@@ -134,9 +129,7 @@ fn answer<R: Files + AllocGlobal, O: Write>(
     let written = match request {
         Request::Check(file) => {
             let text = text_bytes(rt, file)?;
-            let threads = checked(alloc, text.as_slice())
-                .map_err(CommandFault::Run)?
-                .threads();
+            let threads = program_of(alloc, text.as_slice())?.threads();
             write_line(out, format_args!("ok {threads} threads"))
         }
         Request::Serial(words) => {

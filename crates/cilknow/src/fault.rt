@@ -1,25 +1,16 @@
 ghost use Rattle.std.specs.Prelude.{◌≡◌};
-ghost use Rattle.cilknow.specs.Faults.{number_of_fault, of_kinds, of_run, of_text};
-ghost use Rattle.cilknow.specs.declared.fault.SoloFault.TheVariants as solo;
+ghost use Rattle.cilknow.specs.Faults.{number_of_fault, of_job, of_run};
 
-use kind_check::KindError;
+use jobs::JobFault;
 use one_node::RunFault;
-use serial_meaning::JobError;
-use task_syntax::ParseError;
 use thiserror::Error;
 
 /// Why a run gives no outcome.
 #[derive(Clone, Copy, Debug, PartialEq, Eq, Error)]
 pub enum SoloFault {
-    /// E2 to E6: the text isn't read.
+    /// E2 to E6, E10 to E18, E21: the text and the input are no job.
     #[error(transparent)]
-    Parse(ParseError),
-    /// E10 to E18: the program isn't accepted.
-    #[error(transparent)]
-    Kind(KindError),
-    /// E21: the count of inputs isn't that of `main`.
-    #[error(transparent)]
-    Input(JobError),
+    Job(JobFault),
     /// E95: more turns would be needed.
     #[error("E{number}", number = self.number())]
     TurnsSpent,
@@ -37,9 +28,7 @@ impl SoloFault {
         ensures { result ≡ number_of_fault self }
     {
         match self {
-            SoloFault::Parse(e) => e.number(),
-            SoloFault::Kind(e) => e.number(),
-            SoloFault::Input(e) => e.number(),
+            SoloFault::Job(e) => e.number(),
             SoloFault::TurnsSpent => 95,
             SoloFault::NumbersSpent => 62,
             SoloFault::Memory => 9,
@@ -47,33 +36,14 @@ impl SoloFault {
     }
 }
 
-impl From<ParseError> for SoloFault {
-    ghost from_gives = { λ e f. f ≡ of_text e };
+impl From<JobFault> for SoloFault {
+    ghost from_gives = { λ e f. f ≡ of_job e };
 
-    fn from(e: ParseError) -> SoloFault {
+    fn from(e: JobFault) -> SoloFault {
         match e {
-            ParseError::Memory => SoloFault::Memory,
-            other => SoloFault::Parse(other),
+            JobFault::Memory => SoloFault::Memory,
+            other => SoloFault::Job(other),
         }
-    }
-}
-
-impl From<KindError> for SoloFault {
-    ghost from_gives = { λ e f. f ≡ of_kinds e };
-
-    fn from(e: KindError) -> SoloFault {
-        match e {
-            KindError::Memory => SoloFault::Memory,
-            other => SoloFault::Kind(other),
-        }
-    }
-}
-
-impl From<JobError> for SoloFault {
-    ghost from_gives = { λ e f. f ≡ solo.Input e };
-
-    fn from(e: JobError) -> SoloFault {
-        SoloFault::Input(e)
     }
 }
 

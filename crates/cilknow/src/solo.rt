@@ -2,11 +2,10 @@ ghost use Rattle.std.specs.Prelude.{IfErr, IfOk};
 ghost use Rattle.cilknow.specs.Outcome.{IsOutcomeOf, IsRefusalOf};
 
 use crate::fault::SoloFault;
-use kind_check::check;
+use jobs::job_of;
 use one_node::evaluate;
-use serial_meaning::{Job, Outcome};
+use serial_meaning::Outcome;
 use std::alloc::Global;
-use task_syntax::parse;
 
 /// The outcome of a program's text on an input, run on one node and one thread: of the ready frames the newest of the
 /// greatest level runs, and each body is one turn. The refusals come in this order: the text (E2 to E6), its kinds (E10 to
@@ -20,10 +19,8 @@ pub fn solo(
     turns: u64,
 ) -> Result<Outcome, SoloFault>
     ensures outcome { IfOk result (IsOutcomeOf text.now input.items) }
-    ensures refused { IfErr result (IsRefusalOf text.now input.items turns) }
+    ensures refused { IfErr result (IsRefusalOf text.now input.items job turns) }
 {
-    let program = parse(alloc, text)?;
-    let checked = check(alloc, program)?;
-    let job = Job::new(checked, input, job)?;
+    let job = job_of(alloc, text, input, job)?;
     Ok(evaluate(alloc, &job, turns)?)
 }

@@ -53,7 +53,7 @@ pub record IsCarried (d : DoneOf) (n : ℕ) (c : Content) (change : Change) : Ty
   pub is : turned frame d.turn c ≡ change
 
 -- so it is where it is carried out
-carried : (d : DoneOf) (n : ℕ) (c : Content) (change : Change) → exec d n c ≡ Ok change → IsCarried d n c change
+pub carried : (d : DoneOf) (n : ℕ) (c : Content) (change : Change) → exec d n c ≡ Ok change → IsCarried d n c change
 carried d n c change is = by_frame (frame_in n c.frames) refl is
   where
     by_next : (f : Frame) → frame_in n c.frames ≡ Some f → is_turn_of d f ≡ true → (b : Bool) → cond {A = Result Change SubError} b (Ok (turned f d.turn c)) (Err Spent) ≡ Ok change → IsCarried d n c change

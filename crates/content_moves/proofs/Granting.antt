@@ -232,6 +232,7 @@ grant_moves v i g s thief seq n c r live may shows is new =
     record {
       begun = begun;
       move = grants i g s r.frame.number thief seq begun.content live may begun.begins (rw begun.task_is (may_steal s.content c k thief r shows found new));
+      right = λ m. tt;
       shown = granted_shown s.content c k thief r shows found new;
     }
 

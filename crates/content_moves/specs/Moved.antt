@@ -71,6 +71,7 @@ next_grant v i = record { minter = i; number = v.minted i + 1 }
 pub record IsGrantMove (v : View) (i : ℕ) (g : Grant) (s : Sub) (thief seq : ℕ) (r : Ready) (after : Content) : Type 0 where
   pub begun : IsBegun i (task_in r)
   pub move : Act v (grant_frame v i g s r.frame.number thief seq begun.content)
+  pub right : (m : Meaning) → Right m move
   pub shown : Shows (tables.regrant s.content r.frame.number (Some (next_grant v i))) after
 
 -- tables of a content that came to an end with an outcome

@@ -1,25 +1,11 @@
 ghost use Rattle.std.specs.Prelude.{◌≡◌};
-ghost use Rattle.replaying.specs.Faults.{of_file, of_kinds, of_replay, of_text};
+ghost use Rattle.replaying.specs.Faults.{of_file, of_job, of_replay};
 ghost use Rattle.replaying.specs.Status.{status_of};
-ghost use Rattle.replaying.specs.declared.fault.ReplayFault.TheVariants as faults;
 
 use event_script::Line;
-use kind_check::KindError;
-use serial_meaning::JobError;
-use task_syntax::ParseError;
+use jobs::{FileFault, JobFault};
 use thiserror::Error;
 use world::ReplayError;
-
-/// Why a file isn't read.
-#[derive(Clone, Copy, Debug, PartialEq, Eq, Error)]
-pub enum FileFault {
-    /// It can't be read.
-    #[error("file")]
-    Unreadable,
-    /// E9: there is no memory for its bytes.
-    #[error("E9")]
-    Memory,
-}
 
 /// Why files aren't replayed.
 #[derive(Clone, Copy, Debug, PartialEq, Eq, Error)]
@@ -27,15 +13,9 @@ pub enum ReplayFault {
     /// A file can't be read, or what the run came to can't be written.
     #[error("file")]
     File,
-    /// E2 to E6: the program's text isn't read.
+    /// E2 to E6, E10 to E18, E21: the program's text and the input are no job.
     #[error(transparent)]
-    Parse(ParseError),
-    /// E10 to E18: the program isn't accepted.
-    #[error(transparent)]
-    Kind(KindError),
-    /// E21: the count of inputs isn't that of `main`.
-    #[error(transparent)]
-    Input(JobError),
+    Job(JobFault),
     /// A line of the script isn't an event's.
     #[error(transparent)]
     Line(Line),
@@ -51,10 +31,8 @@ impl ReplayFault {
         ensures { result ≡ status_of self }
     {
         match self {
-            ReplayFault::Parse(_)
-            | ReplayFault::Kind(_)
-            | ReplayFault::Input(_)
-            | ReplayFault::Line(_) => 1,
+            ReplayFault::Job(fault) => fault.status(),
+            ReplayFault::Line(_) => 1,
             ReplayFault::Memory => 3,
             ReplayFault::File => 4,
         }
@@ -72,33 +50,14 @@ impl From<FileFault> for ReplayFault {
     }
 }
 
-impl From<ParseError> for ReplayFault {
-    ghost from_gives = { λ e f. f ≡ of_text e };
+impl From<JobFault> for ReplayFault {
+    ghost from_gives = { λ e f. f ≡ of_job e };
 
-    fn from(e: ParseError) -> ReplayFault {
+    fn from(e: JobFault) -> ReplayFault {
         match e {
-            ParseError::Memory => ReplayFault::Memory,
-            other => ReplayFault::Parse(other),
+            JobFault::Memory => ReplayFault::Memory,
+            other => ReplayFault::Job(other),
         }
-    }
-}
-
-impl From<KindError> for ReplayFault {
-    ghost from_gives = { λ e f. f ≡ of_kinds e };
-
-    fn from(e: KindError) -> ReplayFault {
-        match e {
-            KindError::Memory => ReplayFault::Memory,
-            other => ReplayFault::Kind(other),
-        }
-    }
-}
-
-impl From<JobError> for ReplayFault {
-    ghost from_gives = { λ e f. f ≡ faults.Input e };
-
-    fn from(e: JobError) -> ReplayFault {
-        ReplayFault::Input(e)
     }
 }
 

@@ -6,9 +6,9 @@ mod files;
 mod replayed;
 mod words;
 
-pub use fault::{FileFault, ReplayFault};
-pub use files::{replay_files, text_bytes};
-pub use replayed::{Replayed, job_of, replay_script, write_replayed};
+pub use fault::ReplayFault;
+pub use files::replay_files;
+pub use replayed::{Replayed, replay_script, write_replayed};
 pub use words::{
     ReplayWords, WordsFault, file_word, help_of, input_of, input_word, number_word, own_words,
     replay_words_of, with_replay_words,

@@ -1,12 +1,10 @@
 ghost use Rattle.std.specs.Prelude.{IfErr, IfOk};
-ghost use Rattle.replaying.specs.Replays.{IsJobOf, IsJobRefusal, IsReplayOf, IsScriptRefusal};
+ghost use Rattle.replaying.specs.Replays.{IsReplayOf, IsScriptRefusal};
 
 use crate::fault::ReplayFault;
-use kind_check::check;
 use serial_meaning::{Job, Outcome};
 use std::alloc::Global;
 use std::io::{self, Write};
-use task_syntax::parse;
 use world::replay;
 
 /// What a run came to: how many events were carried out, how many packets were sent, how many values were put into slots, and
@@ -17,17 +15,6 @@ pub struct Replayed {
     pub packets: usize,
     pub fills: usize,
     pub outcome: Option<Outcome>,
-}
-
-/// The job of a program's text, an input and a number. Refused by the text (E2 to E6), its kinds (E10 to E18) or the count of
-/// inputs (E21), in this order, and for want of memory (E9).
-pub fn job_of(alloc: Global, text: &[u8], input: Vec<i64>, number: u64) -> Result<Job, ReplayFault>
-    ensures job { IfOk result (λ j. IsJobOf text.now input.items number j) }
-    ensures refused { IfErr result (IsJobRefusal text.now input.items) }
-{
-    let program = parse(alloc, text)?;
-    let checked = check(alloc, program)?;
-    Ok(Job::new(checked, input, number)?)
 }
 
 /// Replays a script on a job, from its first world on. Refused by the first line that isn't an event's, before any event, and

@@ -1,8 +1,8 @@
 -- Each move leads from cases to cases; so each open record is in one, in each view that moves lead to.
-use Rattle.std.proofs.Common.{ℕ, [], ◌∷◌, None, refl, inl, arith}
+use Rattle.std.proofs.Common.{Option, ℤ, ℕ, [], ◌∷◌, None, refl, inl, arith}
 use Rattle.ids.specs.Names.{Grant}
 use Rattle.run_tables.specs.Content.{Content, rehost}
-use Rattle.run_tables.specs.View.{View, first}
+use Rattle.run_tables.specs.View.{View, first_over}
 use Rattle.run_tables.specs.Facts.{Cont, held, sent, ack_of}
 use Rattle.run_tables.specs.Moves.{ask, close_root}
 use Rattle.run_tables.specs.Guards.{MayAsk}
@@ -79,10 +79,10 @@ cases_kept {v} (renames i g s roster host here listed way) b c = cases_alter v i
 cases_kept (settles i g may) b c = assumption c
 cases_kept (settles_at_house i g may) b c = assumption c
 
-cases_first : Cases first
-cases_first = record { taken_acked = λ t h i m. absurd m; passed_acked = λ t u h m. absurd m; record_case = λ g k c n a. absurd (nothing g c (head_cont first g c a)); root_case = λ k e. cc }
+cases_first : (epoch : ℕ) (stored : Option (Option ℤ)) → Cases (first_over epoch stored)
+cases_first epoch stored = record { taken_acked = λ t h i m. absurd m; passed_acked = λ t u h m. absurd m; record_case = λ g k c n a. absurd (nothing g c (head_cont (first_over epoch stored) g c a)); root_case = λ k e. cc }
   where
-    nothing : (g : Grant) (c : Content) → Cont first g c → ⊥
+    nothing : (g : Grant) (c : Content) → Cont (first_over epoch stored) g c → ⊥
     nothing g c (held i s w e q) = w
     nothing g c (sent t m e q) = m
 
@@ -90,5 +90,5 @@ pub before_reached : {v : View} → Reached v → Before v
 before_reached r = record { names = names_reached r; homes = homes_reached r; leavers = leavers_reached r; rooted = rooted_reached r; kin = kin_reached r; requests = requests_reached r }
 
 pub cases_reached : {v : View} → Reached v → Cases v
-cases_reached at_first = cases_first
+cases_reached (at_first epoch stored) = cases_first epoch stored
 cases_reached (by_act r act) = cases_kept act (before_reached r) (cases_reached r)

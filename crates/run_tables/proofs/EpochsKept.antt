@@ -1,8 +1,8 @@
 -- Epochs under each move.
-use Rattle.std.proofs.Common.{◌≡◌, ℕ, ◌<◌, ◌≤◌, true, false, List, ◌∷◌, Some, None, sym, inl, inr, ⊎_elim, arith, ap, ◌∙◌}
+use Rattle.std.proofs.Common.{Option, ℤ, ◌≡◌, ℕ, ◌<◌, ◌≤◌, true, false, List, ◌∷◌, Some, None, sym, inl, inr, ⊎_elim, arith, ap, ◌∙◌}
 use Rattle.ids.specs.Names.{house_of}
 use Rattle.run_tables.specs.Tables.{◌∈◌, put}
-use Rattle.run_tables.specs.View.{Leave, Roster, View, first}
+use Rattle.run_tables.specs.View.{Leave, Roster, View, first_over}
 use Rattle.run_tables.specs.Facts.{of_worker}
 use Rattle.run_tables.specs.Moves.{start, open_house, adopt, leave, publish}
 use Rattle.run_tables.specs.Guards.{MayOpen, MayPublish}
@@ -17,6 +17,8 @@ epochs_start v i worker e = record {
   kept_past = λ j r x. e.kept_past j r (grind arith);
   leaves_past = e.leaves_past;
   names_past = λ j. elim [ inl is ↦ λ house. let other : of_worker i ≡ false = rw is at house in cc | inr m ↦ e.names_past j m ];
+  house_used = λ house is. inr (e.house_used house is);
+  rosters_used = λ r m. inr (e.rosters_used r m);
 }
 
 epochs_open : (v : View) (i : ℕ) (lost : List ℕ) (roster : Roster) → MayOpen v i lost roster → Epochs v → Epochs (open_house v i lost roster)
@@ -29,6 +31,8 @@ epochs_open v i lost roster may e = record {
     | inl is ↦ λ house. (let name = may.name in omega (arith, is, name))
     | inr m ↦ λ house. let past = e.names_past j m house in let next = may.epoch in omega (arith, past, next)
   ];
+  house_used = λ x is. inl (ap (λ (y : Roster). house_of y.epoch) (sym (some_same is)) ∙ sym may.name);
+  rosters_used = λ r m. inr (e.rosters_used r m);
 }
 
 -- a node keeps a roster that a house had
@@ -45,7 +49,10 @@ epochs_publish v house roster may e =
     let now : roster.epoch ≡ v.epoch = may.epoch ∙ e.house_now house may.open_house in
     let house_now : (x : Roster) → Some roster ≡ Some x → x.epoch ≡ v.epoch = λ x is. rw (some_same is) at now in
     let rosters_past : (r : Roster) → r ∈ (roster ∷ v.rosters) → r.epoch ≤ v.epoch = λ r. elim [ inl is ↦ rw (is, now) (omega arith) | inr m ↦ e.rosters_past r m ] in
-    assumption (house_now, rosters_past, e)
+    let name : house_of roster.epoch ∈ v.used = rw may.epoch (e.house_used house may.open_house) in
+    let house_used : (x : Roster) → Some roster ≡ Some x → house_of x.epoch ∈ v.used = λ x is. rw (some_same is) at name in
+    let rosters_used : (r : Roster) → r ∈ (roster ∷ v.rosters) → house_of r.epoch ∈ v.used = λ r. elim [ inl is ↦ rw is name | inr m ↦ e.rosters_used r m ] in
+    assumption (house_now, rosters_past, house_used, rosters_used, e)
 
 epochs_leave : (v : View) (i heir : ℕ) (roster : Roster) → v.roster i ≡ Some roster → Epochs v → Epochs (leave v i heir roster.epoch)
 epochs_leave v i heir roster keeps e =
@@ -64,7 +71,7 @@ epochs_kept (grants_root i thief seq c house new may begins) e = assumption e
 epochs_kept (closes_root k is) e = assumption e
 epochs_kept (commits i k o may) e = assumption e
 epochs_kept {v} (publishes house roster may) e = epochs_publish v house roster may e
-epochs_kept {v} (closes i house) e = let house_now : (x : Roster) → None ≡ Some x → x.epoch ≡ v.epoch = λ x is. cc in assumption (house_now, e)
+epochs_kept {v} (closes i house) e = let house_now : (x : Roster) → None ≡ Some x → x.epoch ≡ v.epoch = λ x is. cc in let house_used : (x : Roster) → None ≡ Some x → house_of x.epoch ∈ v.used = λ x is. cc in assumption (house_now, house_used, e)
 epochs_kept (asks i victim may) e = assumption e
 epochs_kept (refuses i thief seq works may) e = assumption e
 epochs_kept (grants i g s m thief seq c here may begins frame) e = assumption e
@@ -82,11 +89,11 @@ epochs_kept (renames i g s roster host here listed way) e = assumption e
 epochs_kept (settles i g may) e = assumption e
 epochs_kept (settles_at_house i g may) e = assumption e
 
-epochs_first : Epochs first
-epochs_first = record { house_now = λ h e. cc; rosters_past = λ r m. absurd m; kept_past = λ i r e. cc; leaves_past = λ l m. absurd m; names_past = λ i m. absurd m }
+epochs_first : (epoch : ℕ) (stored : Option (Option ℤ)) → Epochs (first_over epoch stored)
+epochs_first epoch stored = record { house_now = λ h e. cc; rosters_past = λ r m. absurd m; kept_past = λ i r e. cc; leaves_past = λ l m. absurd m; names_past = λ i m. absurd m; house_used = λ h e. cc; rosters_used = λ r m. absurd m }
 
 pub epochs_reached : {v : View} → Reached v → Epochs v
-epochs_reached at_first = epochs_first
+epochs_reached (at_first epoch stored) = epochs_first epoch stored
 epochs_reached (by_act r act) = epochs_kept act (epochs_reached r)
 
 -- the name of a house isn't a worker's

@@ -1,9 +1,9 @@
 -- What was filled stays full, and no slot is filled twice: under each move, and so in each view that moves lead to.
-use Rattle.std.proofs.Common.{◌≡◌, ℕ, List, [], ◌∷◌, ◌⊎◌, Option, Some, None, refl, inl, inr, ⊎_elim, arith, ◌∙◌}
+use Rattle.std.proofs.Common.{ℤ, ◌≡◌, ℕ, List, [], ◌∷◌, ◌⊎◌, Option, Some, None, refl, inl, inr, ⊎_elim, arith, ◌∙◌}
 use Rattle.ids.specs.Names.{Grant}
 use Rattle.run_tables.specs.Tables.{◌∈◌, put}
 use Rattle.run_tables.specs.Content.{Content, Sound, Fill, Changes, filled, regrant, rehost}
-use Rattle.run_tables.specs.View.{Transfer, Ack, Result, Sub, Request, Mode, Joining, House, Works, View, first}
+use Rattle.run_tables.specs.View.{Transfer, Ack, Result, Sub, Request, Mode, Joining, House, Works, View, first_over}
 use Rattle.run_tables.specs.Facts.{Live, Head, live_at, ack_of, grant_of}
 use Rattle.run_tables.specs.Moves.{start, admit, stop, mint, take, freeze, remove, alter, grant_frame}
 use Rattle.run_tables.specs.Guards.{MayAnswer, Begins, MayTake, MayFreeze}
@@ -154,9 +154,9 @@ fills_act (settles_at_house i g may) n after f = assumption f
 pub fills_kept : {v w : View} → Act v w → Names v → Fills v → Fills w
 fills_kept act n f = fills_act act n (names_kept act n) f
 
-fills_first : Fills first
-fills_first = record { subs_sound = λ i g s w e. absurd w; sent_sound = λ t m. absurd m; fill_granted = λ x m. absurd m; fill_closed = λ x c m h. absurd m; once = tt }
+fills_first : (epoch : ℕ) (stored : Option (Option ℤ)) → Fills (first_over epoch stored)
+fills_first epoch stored = record { subs_sound = λ i g s w e. absurd w; sent_sound = λ t m. absurd m; fill_granted = λ x m. absurd m; fill_closed = λ x c m h. absurd m; once = tt }
 
 pub fills_reached : {v : View} → Reached v → Fills v
-fills_reached at_first = fills_first
+fills_reached (at_first epoch stored) = fills_first epoch stored
 fills_reached (by_act r act) = fills_kept act (names_reached r) (fills_reached r)

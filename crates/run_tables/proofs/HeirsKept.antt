@@ -86,5 +86,5 @@ heirs_kept (settles i g may) h = assumption h
 heirs_kept (settles_at_house i g may) h = assumption h
 
 pub heirs_reached : {v : View} → Reached v → Heirs v
-heirs_reached at_first = record { had_end = λ r m. absurd m; house_ends = λ x e. cc }
+heirs_reached (at_first epoch stored) = record { had_end = λ r m. absurd m; house_ends = λ x e. cc }
 heirs_reached (by_act r act) = heirs_kept act (heirs_reached r)

@@ -1,9 +1,9 @@
 -- Homes under each move.
-use Rattle.std.proofs.Common.{◌≡◌, ℕ, Bool, true, false, List, [], ◌∷◌, ◌⊎◌, Option, Some, None, refl, sym, inl, inr, ⊎_elim, arith, ap, ◌∙◌}
+use Rattle.std.proofs.Common.{ℤ, ◌≡◌, ℕ, Bool, true, false, List, [], ◌∷◌, ◌⊎◌, Option, Some, None, refl, sym, inl, inr, ⊎_elim, arith, ap, ◌∙◌}
 use Rattle.ids.specs.Names.{Grant}
 use Rattle.run_tables.specs.Tables.{◌∈◌, put}
 use Rattle.run_tables.specs.Content.{Content, Fill, regrant, rehost}
-use Rattle.run_tables.specs.View.{Transfer, Result, Leave, Left, Roster, Sub, Mode, Gone, Joining, Member, House, Leaving, Works, View, first}
+use Rattle.run_tables.specs.View.{Transfer, Result, Leave, Left, Roster, Sub, Mode, Gone, Joining, Member, House, Leaving, Works, View, first_over}
 use Rattle.run_tables.specs.Facts.{of_worker, Live, Cont, held, sent, Host, by_content, by_result, Resolves, stays, follows, ack_of, grant_of}
 use Rattle.run_tables.specs.Moves.{start, mint, take, freeze, remove, alter, leave, publish, grant_frame}
 use Rattle.run_tables.specs.Guards.{Begins, MayFreeze, MayLeave, MayPublish, ShowsLeft, before, now}
@@ -191,8 +191,8 @@ homes_kept {v} (renames i g s roster host here listed way) h = homes_rename v i 
 homes_kept (settles i g may) h = assumption h
 homes_kept (settles_at_house i g may) h = assumption h
 
-homes_first : Homes first
-homes_first = record {
+homes_first : (epoch : ℕ) (stored : Option (Option ℤ)) → Homes (first_over epoch stored)
+homes_first epoch stored = record {
   house_name = λ i e. cc;
   worker_name = λ i w. absurd w;
   heir_name = λ i heir e. cc;
@@ -202,14 +202,14 @@ homes_first = record {
   record_minter = λ g k c n a. absurd (nothing g c a);
 }
   where
-    nothing : (g : Grant) (c : Content) → Cont first g c → ⊥
+    nothing : (g : Grant) (c : Content) → Cont (first_over epoch stored) g c → ⊥
     nothing g c (held i s w e q) = w
     nothing g c (sent t m e q) = m
 
-    none : (g : Grant) (i : ℕ) → Host first g i → ⊥
+    none : (g : Grant) (i : ℕ) → Host (first_over epoch stored) g i → ⊥
     none g i (by_content c a e) = nothing g c a
     none g i (by_result x m e f) = m
 
 pub homes_reached : {v : View} → Reached v → Homes v
-homes_reached at_first = homes_first
+homes_reached (at_first epoch stored) = homes_first epoch stored
 homes_reached (by_act r act) = homes_kept act (homes_reached r)

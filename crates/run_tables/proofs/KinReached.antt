@@ -1,9 +1,9 @@
 -- Each move keeps records and parent hosts in order; so they are in each view that moves lead to.
-use Rattle.std.proofs.Common.{◌≡◌, ℕ, [], ◌∷◌, Some, None, inl, inr}
+use Rattle.std.proofs.Common.{Option, ℤ, ◌≡◌, ℕ, [], ◌∷◌, Some, None, inl, inr}
 use Rattle.ids.specs.Names.{Grant}
 use Rattle.run_tables.specs.Tables.{◌∈◌}
 use Rattle.run_tables.specs.Content.{Content}
-use Rattle.run_tables.specs.View.{Joining, House, View, first}
+use Rattle.run_tables.specs.View.{Joining, House, View, first_over}
 use Rattle.run_tables.specs.Facts.{Head, Cont, held, sent, ack_of}
 use Rattle.run_tables.specs.Moves.{close_root}
 use Rattle.run_tables.specs.Acts.{Act, starts, admits, adopts, fails, goes, mourns, opens, grants_root, closes_root, commits, publishes, closes, asks, refuses, grants, takes_grant, hears_refuse, gives_up, freezes, takes_offer, acknowledges, releases, leaves, alters, drops, renames, settles, settles_at_house, Reached, at_first, by_act}
@@ -59,18 +59,18 @@ kin_kept {v} (renames i g s roster host here listed way) n after h l r k = kin_r
 kin_kept {v} (settles i g may) n after h l r k = kin_settle v i g may n k
 kin_kept {v} (settles_at_house i g may) n after h l r k = kin_settle_at_house v i g may h k
 
-kin_first : Kin first
-kin_first = record {
+kin_first : (epoch : ℕ) (stored : Option (Option ℤ)) → Kin (first_over epoch stored)
+kin_first epoch stored = record {
   one_record = λ g h k c d n m a. absurd (nothing g c a);
-  on_path = λ g k c n i a. absurd (nothing g c (head_cont first g c a));
+  on_path = λ g k c n i a. absurd (nothing g c (head_cont (first_over epoch stored) g c a));
   unsettled = λ g k c n m. absurd m;
   left_path = λ r i h g c m. absurd m;
 }
   where
-    nothing : (g : Grant) (c : Content) → Cont first g c → ⊥
+    nothing : (g : Grant) (c : Content) → Cont (first_over epoch stored) g c → ⊥
     nothing g c (held i s w e q) = w
     nothing g c (sent t m e q) = m
 
 pub kin_reached : {v : View} → Reached v → Kin v
-kin_reached at_first = kin_first
+kin_reached (at_first epoch stored) = kin_first epoch stored
 kin_reached (by_act r act) = kin_kept act (names_reached r) (names_kept act (names_reached r)) (homes_reached r) (leavers_reached r) (rooted_reached r) (kin_reached r)

@@ -108,7 +108,7 @@ known_kept (settles i g may) k h = assumption h
 known_kept (settles_at_house i g may) k h = assumption h
 
 pub known_reached : {v : View} → Reached v → Known v
-known_reached at_first = record { joins_unkept = λ i j e. refl; thief_listed = λ i j reply r w. absurd w }
+known_reached (at_first epoch stored) = record { joins_unkept = λ i j e. refl; thief_listed = λ i j reply r w. absurd w }
 known_reached (by_act r act) = known_kept act (rosters_reached r) (known_reached r)
 
 -- A thief that was answered and isn't live in its victim's roster is dead there, or left.

@@ -1,9 +1,9 @@
 -- Children are later, under each move.
-use Rattle.std.proofs.Common.{◌≡◌, ℕ, ◌<◌, ◌≤◌, suc, List, [], ◌∷◌, ◌++◌, length, Option, Some, None, refl, inl, inr, ⊎_elim, arith, ap}
+use Rattle.std.proofs.Common.{ℤ, ◌≡◌, ℕ, ◌<◌, ◌≤◌, suc, List, [], ◌∷◌, ◌++◌, length, Option, Some, None, refl, inl, inr, ⊎_elim, arith, ap}
 use Rattle.ids.specs.Names.{Grant}
 use Rattle.run_tables.specs.Tables.{◌∈◌, put}
 use Rattle.run_tables.specs.Content.{Content, Fill, regrant, rehost}
-use Rattle.run_tables.specs.View.{Transfer, Result, Sub, Gone, Joining, Member, House, Works, View, first}
+use Rattle.run_tables.specs.View.{Transfer, Result, Sub, Gone, Joining, Member, House, Works, View, first_over}
 use Rattle.run_tables.specs.Facts.{Granted, Live, Cont, held, sent, ack_of, grant_of}
 use Rattle.run_tables.specs.Moves.{start, stop, admit, mint, take, freeze, remove, alter, grant_frame}
 use Rattle.run_tables.specs.Guards.{MayAnswer, Begins, MayFreeze}
@@ -121,13 +121,13 @@ later_kept {v} (renames i g s roster host here listed way) n l = later_alter v i
 later_kept (settles i g may) n l = assumption l
 later_kept (settles_at_house i g may) n l = assumption l
 
-later_first : Later first
-later_first = record { later = λ g k c n a. absurd (nothing g c a) }
+later_first : (epoch : ℕ) (stored : Option (Option ℤ)) → Later (first_over epoch stored)
+later_first epoch stored = record { later = λ g k c n a. absurd (nothing g c a) }
   where
-    nothing : (g : Grant) (c : Content) → Cont first g c → ⊥
+    nothing : (g : Grant) (c : Content) → Cont (first_over epoch stored) g c → ⊥
     nothing g c (held i s w e q) = w
     nothing g c (sent t m e q) = m
 
 pub later_reached : {v : View} → Reached v → Later v
-later_reached at_first = later_first
+later_reached (at_first epoch stored) = later_first epoch stored
 later_reached (by_act r act) = later_kept act (names_reached r) (later_reached r)

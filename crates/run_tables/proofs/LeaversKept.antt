@@ -1,9 +1,9 @@
 -- Departures under each move.
-use Rattle.std.proofs.Common.{◌≡◌, ℕ, ◌<◌, suc, List, [], ◌∷◌, Option, Some, None, refl, sym, inl, inr, ⊎_elim, arith, ap, ◌∙◌}
+use Rattle.std.proofs.Common.{ℤ, ◌≡◌, ℕ, ◌<◌, suc, List, [], ◌∷◌, Option, Some, None, refl, sym, inl, inr, ⊎_elim, arith, ap, ◌∙◌}
 use Rattle.ids.specs.Names.{Grant}
 use Rattle.run_tables.specs.Tables.{◌∈◌, put, put_grant}
 use Rattle.run_tables.specs.Content.{Content, Fill, regrant, rehost}
-use Rattle.run_tables.specs.View.{Transfer, Ack, Result, Leave, Left, Roster, Sub, Request, Mode, Joining, Member, House, Leaving, View, first}
+use Rattle.run_tables.specs.View.{Transfer, Ack, Result, Leave, Left, Roster, Sub, Request, Mode, Joining, Member, House, Leaving, View, first_over}
 use Rattle.run_tables.specs.Facts.{Said, Above, Live, ack_of, offer_of, grant_of}
 use Rattle.run_tables.specs.Moves.{start, admit, stop, mint, take, acknowledge, freeze, remove, alter, leave, publish}
 use Rattle.run_tables.specs.Guards.{MayTake, MayFreeze, MayRelease, MayLeave, MayPublish, ShowsLeft, before, now}
@@ -245,9 +245,9 @@ leavers_kept {v} (renames i g s roster host here listed way) n k = leavers_alter
 leavers_kept (settles i g may) n k = assumption k
 leavers_kept (settles_at_house i g may) n k = assumption k
 
-leavers_first : Leavers first
-leavers_first = record { left_said = λ r i h m. absurd m; offer_heir = λ t i heir h m. absurd m; offer_waits = λ t i heir h m. absurd m; acked_shut = λ a m. absurd m; said_leaving = λ l m. absurd m; said_empty = λ l g m. absurd m; said_heir = λ l t h m. absurd m; said_acked = λ l t h m. absurd m }
+leavers_first : (epoch : ℕ) (stored : Option (Option ℤ)) → Leavers (first_over epoch stored)
+leavers_first epoch stored = record { left_said = λ r i h m. absurd m; offer_heir = λ t i heir h m. absurd m; offer_waits = λ t i heir h m. absurd m; acked_shut = λ a m. absurd m; said_leaving = λ l m. absurd m; said_empty = λ l g m. absurd m; said_heir = λ l t h m. absurd m; said_acked = λ l t h m. absurd m }
 
 pub leavers_reached : {v : View} → Reached v → Leavers v
-leavers_reached at_first = leavers_first
+leavers_reached (at_first epoch stored) = leavers_first epoch stored
 leavers_reached (by_act r act) = leavers_kept act (names_reached r) (leavers_reached r)

@@ -1,9 +1,9 @@
 -- Each move keeps the names and transfers in order; so they are in each view that moves lead to.
-use Rattle.std.proofs.Common.{◌≡◌, ℕ, List, [], ◌∷◌, ◌⊎◌, Option, Some, None, refl, inl, inr, ⊎_elim, arith}
+use Rattle.std.proofs.Common.{ℤ, ◌≡◌, ℕ, List, [], ◌∷◌, ◌⊎◌, Option, Some, None, refl, inl, inr, ⊎_elim, arith}
 use Rattle.ids.specs.Names.{Grant}
 use Rattle.run_tables.specs.Tables.{◌∈◌}
 use Rattle.run_tables.specs.Content.{Content, Fill, regrant, rehost}
-use Rattle.run_tables.specs.View.{Result, Roster, Sub, Joining, House, View, first}
+use Rattle.run_tables.specs.View.{Result, Roster, Sub, Joining, House, View, first_over}
 use Rattle.run_tables.specs.Facts.{Granted, Live, RecordOf, ack_of, grant_of}
 use Rattle.run_tables.specs.Moves.{open_house, close_house, mint, close_root, grant_frame, grant_root, alter}
 use Rattle.run_tables.specs.Guards.{MayAnswer, Begins, Alters}
@@ -102,8 +102,8 @@ names_kept {v} (renames i g s roster host here listed way) n =
 names_kept {v} (settles i g may) n = names_settle v g (n.result_granted (record { grant = g; host = i; outcome = may.outcome }) may.result) n
 names_kept {v} (settles_at_house i g may) n = names_settle v g (n.result_granted (record { grant = g; host = i; outcome = may.outcome }) may.result) n
 
-names_first : Names first
-names_first = record {
+names_first : (epoch : ℕ) (stored : Option (Option ℤ)) → Names (first_over epoch stored)
+names_first epoch stored = record {
   up_used = λ i w. w;
   from_used = λ t m. absurd m;
   to_used = λ t m. absurd m;
@@ -132,5 +132,5 @@ names_first = record {
 }
 
 pub names_reached : {v : View} → Reached v → Names v
-names_reached at_first = names_first
+names_reached (at_first epoch stored) = names_first epoch stored
 names_reached (by_act r act) = names_kept act (names_reached r)

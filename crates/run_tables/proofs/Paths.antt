@@ -4,7 +4,7 @@ use Rattle.ids.specs.Names.{Grant}
 use Rattle.run_tables.specs.Tables.{◌∈◌}
 use Rattle.run_tables.specs.Content.{Content}
 use Rattle.run_tables.specs.View.{Transfer, Leave, Left, Roster, Sub, Mode, Member, Leaving, Works, Takes, View}
-use Rattle.run_tables.specs.Facts.{SentTo, Above, Live, Head, live_at, open_at, Path, Resolves, stays, follows, ack_of}
+use Rattle.run_tables.specs.Facts.{SentTo, Granted, Above, Live, Head, live_at, open_at, Path, Resolves, stays, follows, ack_of}
 use Rattle.run_tables.specs.Names.{Names}
 use Rattle.run_tables.specs.Leavers.{Leavers}
 use Rattle.run_tables.specs.Kin.{Kin}
@@ -99,3 +99,11 @@ leaver_path v n k l m g c p h =
     let shut = k.acked_shut (ack_of u) (k.said_acked l u t.hop m b.sent b.hop back) in
     record { transfer = u; sent = b.sent; grant = b.grant; to = to; shut = λ x y. shut (rw to x) (rw (to, b.grant) y) })
     (same_or s.hop t.hop)
+
+-- a transfer of a grant leads back, hop by hop, to its Grant
+granted_first : (v : View) → Names v → (g : Grant) (h i : ℕ) → SentTo v.transfers g h i → (j : ℕ) × (SentTo v.transfers g 0 j)
+granted_first v n g zero i s = (i, s)
+granted_first v n g (suc h) i s = let a = n.path s.transfer h s.sent s.hop in granted_first v n g h s.transfer.from (rw s.grant at a.before)
+
+pub grant_of_transfer : (v : View) → Names v → (g : Grant) → Granted v.transfers g → (i : ℕ) × (SentTo v.transfers g 0 i)
+grant_of_transfer v n g s = granted_first v n g s.transfer.hop s.transfer.to (record { transfer = s.transfer; sent = s.sent; grant = s.grant; hop = refl; to = refl })

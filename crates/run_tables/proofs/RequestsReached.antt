@@ -1,7 +1,7 @@
 -- Each move keeps Steals and replies in order; so they are in each view that moves lead to.
-use Rattle.std.proofs.Common.{◌≡◌, ℕ, List, [], ◌∷◌, None, inl, inr, arith}
+use Rattle.std.proofs.Common.{Option, ℤ, ◌≡◌, ℕ, List, [], ◌∷◌, None, inl, inr, arith}
 use Rattle.run_tables.specs.Tables.{◌∈◌, put}
-use Rattle.run_tables.specs.View.{Steal, Roster, Joining, House, View, first}
+use Rattle.run_tables.specs.View.{Steal, Roster, Joining, House, View, first_over}
 use Rattle.run_tables.specs.Facts.{stolen_by, ack_of}
 use Rattle.run_tables.specs.Moves.{start, open_house}
 use Rattle.run_tables.specs.Guards.{MayOpen}
@@ -58,8 +58,8 @@ requests_kept (renames i g s roster host here listed way) n l q = assumption q
 requests_kept (settles i g may) n l q = assumption q
 requests_kept (settles_at_house i g may) n l q = assumption q
 
-requests_first : Requests first
-requests_first = record {
+requests_first : (epoch : ℕ) (stored : Option (Option ℤ)) → Requests (first_over epoch stored)
+requests_first epoch stored = record {
   joins_unasked = λ x m. absurd m;
   kept_grant = λ i j r t w. absurd w;
   kept_refuse = λ i j r w. absurd w;
@@ -80,5 +80,5 @@ requests_first = record {
 }
 
 pub requests_reached : {v : View} → Reached v → Requests v
-requests_reached at_first = requests_first
+requests_reached (at_first epoch stored) = requests_first epoch stored
 requests_reached (by_act r act) = requests_kept act (names_reached r) (leavers_reached r) (requests_reached r)

@@ -3,7 +3,7 @@ use Rattle.std.proofs.Common.{◌≡◌, ℕ, false, List, ◌∷◌, ◌++◌, 
 use Rattle.ids.specs.Names.{Grant}
 use Rattle.run_tables.specs.Tables.{◌∈◌, put}
 use Rattle.run_tables.specs.Content.{Content}
-use Rattle.run_tables.specs.View.{Roster, Sub, Mode, Gone, Joining, Member, House, Leaving, View, first}
+use Rattle.run_tables.specs.View.{Roster, Sub, Mode, Gone, Joining, Member, House, Leaving, View, first_over}
 use Rattle.run_tables.specs.Facts.{of_worker, Said, Live, Cont, Host, by_result, RecordOf, grant_of}
 use Rattle.run_tables.specs.Moves.{start, open_house, close_house, stop, fail, mourn, remove, alter, grant_root, settle, close_root}
 use Rattle.run_tables.specs.Guards.{MayOpen, MayFail, MaySettle}
@@ -130,5 +130,5 @@ rooted_kept {v} (settles i g may) n h l r = rooted_settle v i g may h r
 rooted_kept {v} (settles_at_house i g may) n h l r = rooted_settled v (settle v g) refl (λ j. refl) refl (λ k e. elim [ inl e2 ↦ (let is : k ≡ g = e2 in absurd (may.other (rw is at e))) | inr m ↦ m ]) r
 
 pub rooted_reached : {v : View} → Reached v → Rooted v
-rooted_reached at_first = rooted_none first refl (λ i e m. cc)
+rooted_reached (at_first epoch stored) = rooted_none (first_over epoch stored) refl (λ i e m. cc)
 rooted_reached (by_act r act) = rooted_kept act (names_reached r) (homes_reached r) (leavers_reached r) (rooted_reached r)

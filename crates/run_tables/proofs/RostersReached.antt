@@ -1,6 +1,6 @@
 -- Each move keeps the rosters in order; so they are in each view that moves lead to.
-use Rattle.std.proofs.Common.{refl}
-use Rattle.run_tables.specs.View.{View, first}
+use Rattle.std.proofs.Common.{Option, ℤ, ℕ, refl}
+use Rattle.run_tables.specs.View.{View, first_over}
 use Rattle.run_tables.specs.Acts.{Act, starts, admits, adopts, fails, goes, mourns, opens, grants_root, closes_root, commits, publishes, closes, asks, refuses, grants, takes_grant, hears_refuse, gives_up, freezes, takes_offer, acknowledges, releases, leaves, alters, drops, renames, settles, settles_at_house, Reached, at_first, by_act}
 use Rattle.run_tables.specs.Names.{Names}
 use Rattle.run_tables.specs.Leavers.{Leavers}
@@ -39,8 +39,8 @@ rosters_kept (renames i g s roster host here listed way) n l k = assumption k
 rosters_kept (settles i g may) n l k = assumption k
 rosters_kept (settles_at_house i g may) n l k = assumption k
 
-rosters_first : Rosters first
-rosters_first = record {
+rosters_first : (epoch : ℕ) (stored : Option (Option ℤ)) → Rosters (first_over epoch stored)
+rosters_first epoch stored = record {
   member_keeps = λ i e. cc;
   leaver_keeps = λ i heir e. cc;
   joins_without = λ i e. refl;
@@ -58,5 +58,5 @@ rosters_first = record {
 }
 
 pub rosters_reached : {v : View} → Reached v → Rosters v
-rosters_reached at_first = rosters_first
+rosters_reached (at_first epoch stored) = rosters_first epoch stored
 rosters_reached (by_act r act) = rosters_kept act (names_reached r) (leavers_reached r) (rosters_reached r)

@@ -90,7 +90,7 @@ abbrev pub started : View
 started = start (start (open_house first house [] nobody) 1) 2
 
 pub started_run : Run sample_job started
-started_run = by_right (by_right (by_right at_start
+started_run = by_right (by_right (by_right (at_start 0 None (λ o e. cc))
     (opens house [] nobody (record { new = λ m. m; house = house_name; name = refl; epoch = omega arith; rosters_older = λ r m. absurd m; leaves_older = λ l m. absurd m; unlisted = λ j. refl; lost_old = λ j m. absurd m; lost_joined = λ j m. absurd m; lost_all = λ j m. absurd m }))
     tt)
     (starts 1 (elim [ inl e ↦ absurd (omega (arith, e)) | inr m ↦ m ]) first_name)

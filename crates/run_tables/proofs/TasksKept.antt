@@ -1,9 +1,9 @@
 -- Tasks under each move.
-use Rattle.std.proofs.Common.{◌≡◌, ℕ, true, false, [], ◌∷◌, ◌⊎◌, Option, Some, None, refl, sym, inl, inr, ⊎_elim, arith, ap, ◌∙◌}
+use Rattle.std.proofs.Common.{ℤ, ◌≡◌, ℕ, true, false, [], ◌∷◌, ◌⊎◌, Option, Some, None, refl, sym, inl, inr, ⊎_elim, arith, ap, ◌∙◌}
 use Rattle.ids.specs.Names.{Grant}
 use Rattle.run_tables.specs.Tables.{put}
 use Rattle.run_tables.specs.Content.{Task, Content, HoldsTask, SameWork, regrant, rehost}
-use Rattle.run_tables.specs.View.{Sub, Gone, Joining, Member, House, Works, View, first}
+use Rattle.run_tables.specs.View.{Sub, Gone, Joining, Member, House, Works, View, first_over}
 use Rattle.run_tables.specs.Facts.{of_worker, Live, Cont, held, sent, ack_of, grant_of}
 use Rattle.run_tables.specs.Moves.{start, stop, admit, mint, take, freeze, remove, alter, grant_frame}
 use Rattle.run_tables.specs.Guards.{MayAnswer, Begins, MaySteal}
@@ -176,18 +176,18 @@ tasks_kept {v} (renames i g s roster host here listed way) n h t =
 tasks_kept (settles i g may) n h t = assumption t
 tasks_kept (settles_at_house i g may) n h t = assumption t
 
-tasks_first : Tasks first
-tasks_first = record {
+tasks_first : (epoch : ℕ) (stored : Option (Option ℤ)) → Tasks (first_over epoch stored)
+tasks_first epoch stored = record {
   one_task = λ g c d a. absurd (nothing g c a);
   record_task = λ g k c d n a. absurd (nothing g c a);
   root_task = λ g c a. absurd (nothing g c a);
   root_open = λ k e. cc;
 }
   where
-    nothing : (g : Grant) (c : Content) → Cont first g c → ⊥
+    nothing : (g : Grant) (c : Content) → Cont (first_over epoch stored) g c → ⊥
     nothing g c (held i s w e q) = w
     nothing g c (sent t m e q) = m
 
 pub tasks_reached : {v : View} → Reached v → Tasks v
-tasks_reached at_first = tasks_first
+tasks_reached (at_first epoch stored) = tasks_first epoch stored
 tasks_reached (by_act r act) = tasks_kept act (names_reached r) (homes_reached r) (tasks_reached r)

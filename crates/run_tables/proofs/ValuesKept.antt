@@ -3,7 +3,7 @@ use Rattle.std.proofs.Common.{◌≡◌, ℕ, ℤ, List, [], ◌∷◌, Option, 
 use Rattle.ids.specs.Names.{Grant}
 use Rattle.run_tables.specs.Tables.{◌∈◌, put}
 use Rattle.run_tables.specs.Content.{given, Content, Fill, regrant, rehost}
-use Rattle.run_tables.specs.View.{Result, Sub, Gone, Joining, Member, House, View, first}
+use Rattle.run_tables.specs.View.{Result, Sub, Gone, Joining, Member, House, View, first_over}
 use Rattle.run_tables.specs.Facts.{Live, Cont, held, sent, result_to, ack_of, grant_of}
 use Rattle.run_tables.specs.Moves.{start, stop, admit, mint, take, freeze, remove, alter, grant_frame}
 use Rattle.run_tables.specs.Guards.{Begins, MaySteal, MayCommit, Alters}
@@ -153,25 +153,25 @@ values_act m law (settles_at_house i g may) right n h r f t u a = assumption a
 pub values_kept : (m : Meaning) → IsSerial m → {v w : View} (act : Act v w) → Right m act → Names v → Homes v → Rooted v → Fills v → Tasks v → Values m v → Values m w
 values_kept m law act right n h r f t a = values_act m law act right n h r f t (tasks_kept act n h t) a
 
-values_first : (m : Meaning) → Values m first
-values_first m = record {
+values_first : (m : Meaning) (epoch : ℕ) (stored : Option (Option ℤ)) → ((o : Option ℤ) → stored ≡ Some o → o ≡ m.value []) → Values m (first_over epoch stored)
+values_first m epoch stored before = record {
   agree = λ g c a. absurd (nothing g c a);
   results_agree = λ x c told. absurd told;
   fills_agree = λ x f. absurd f;
-  stored_agrees = λ o e. cc;
+  stored_agrees = before;
 }
   where
-    nothing : (g : Grant) (c : Content) → Cont first g c → ⊥
+    nothing : (g : Grant) (c : Content) → Cont (first_over epoch stored) g c → ⊥
     nothing g c (held i s w e q) = w
     nothing g c (sent t m e q) = m
 
 -- a run is a list of moves
 pub run_reached : {m : Meaning} {v : View} → Run m v → Reached v
-run_reached at_start = at_first
+run_reached (at_start epoch stored before) = at_first epoch stored
 run_reached (by_right run act right) = by_act (run_reached run) act
 
 pub values_run : (m : Meaning) → IsSerial m → {v : View} → Run m v → Values m v
-values_run m law at_start = values_first m
+values_run m law (at_start epoch stored before) = values_first m epoch stored before
 values_run m law (by_right run act right) =
     let reached = run_reached run in
     values_kept m law act right (names_reached reached) (homes_reached reached) (rooted_reached reached) (fills_reached reached) (tasks_reached reached) (values_run m law run)

@@ -3,7 +3,7 @@ use Rattle.std.specs.Prelude.{◌≡◌, ℕ, ℤ, suc, true, List, [], ◌∷�
 use Rattle.ids.specs.Names.{Grant}
 use Rattle.run_tables.specs.Tables.{◌∈◌}
 use Rattle.run_tables.specs.Content.{Content, Fill, Changes, rehost}
-use Rattle.run_tables.specs.View.{Transfer, Result, Steal, Roster, Sub, Joining, House, Works, View, first}
+use Rattle.run_tables.specs.View.{Transfer, Result, Steal, Roster, Sub, Joining, House, Works, View, first_over}
 use Rattle.run_tables.specs.Facts.{of_worker, Said, Lost, Above, ack_of, request_of, Live, Resolves, RecordOf}
 use Rattle.run_tables.specs.Moves.{start, open_house, close_house, admit, adopt, stop, fail, mourn, ask, refuse, unpend, take, acknowledge, freeze, remove, alter, grant_frame, grant_root, settle, close_root, commit, leave, publish}
 use Rattle.run_tables.specs.Guards.{MayOpen, MayFail, MayAsk, MayAnswer, Begins, MaySteal, MayBegin, MayCommit, MayTake, GivesUp, MayFreeze, MayRelease, Drops, Alters, MaySettle, MaySettleAtHouse, MayLeave, MayPublish, MayAdopt}
@@ -49,5 +49,5 @@ pub data Act (v : View) : View → Type 0 where
 
 -- v comes of a list of moves
 pub data Reached : View → Type 0 where
-  at_first : Reached first
+  at_first : (epoch : ℕ) (stored : Option (Option ℤ)) → Reached (first_over epoch stored)
   by_act : {v w : View} → Reached v → Act v w → Reached w

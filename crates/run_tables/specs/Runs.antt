@@ -1,8 +1,8 @@
 -- Runs: lists of moves in which each change of a content has its cause in the protocol, and turns end as the bodies of the
 -- program do.
-use Rattle.std.specs.Prelude.{[]}
+use Rattle.std.specs.Prelude.{◌≡◌, ℕ, ℤ, [], Option, Some}
 use Rattle.run_tables.specs.Content.{given}
-use Rattle.run_tables.specs.View.{View, first}
+use Rattle.run_tables.specs.View.{View, first_over}
 use Rattle.run_tables.specs.Meaning.{Meaning, Fits}
 use Rattle.run_tables.specs.Causes.{Cause}
 use Rattle.run_tables.specs.Acts.{Act, grants_root, alters}
@@ -13,9 +13,9 @@ Right m (grants_root i thief seq c house new may begins) = Fits m [] c.task.thre
 Right m {v} (alters i g s c fill results gone here change is) = Cause m v i g s.content c fill
 Right m act = Unit {0}
 
--- v comes of a list of moves that are right
+-- v comes of a list of moves that are right; an outcome that was recorded before is the meaning
 pub data Run (m : Meaning) : View → Type 0 where
-  at_start : Run m first
+  at_start : (epoch : ℕ) (stored : Option (Option ℤ)) → ((o : Option ℤ) → stored ≡ Some o → o ≡ m.value []) → Run m (first_over epoch stored)
   by_right : {v w : View} → Run m v → (act : Act v w) → Right m act → Run m w
 
 -- w comes of v by a list of moves

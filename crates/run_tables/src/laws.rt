@@ -5,7 +5,7 @@ ghost use Rattle.serial_meaning.specs.Places.{outcome_of, meaning};
 ghost use Rattle.run_tables.specs.Tables.{◌∈◌};
 ghost use Rattle.run_tables.specs.Content.{Content, HoldsTask, SameWork, Fill, Changes};
 ghost use Rattle.run_tables.specs.View.{Unlisted, Dead, Left, Live as Listed, Transfer, Result, Leave, Roster, Reply, House, Works, Sub, View};
-ghost use Rattle.run_tables.specs.Facts.{Said, Granted, Live, Cont, Lost};
+ghost use Rattle.run_tables.specs.Facts.{Said, SentTo, Granted, Live, Cont, Lost};
 ghost use Rattle.run_tables.specs.Names.{Names};
 ghost use Rattle.run_tables.specs.Fills.{Once, Fills};
 ghost use Rattle.run_tables.specs.Leavers.{Leavers};
@@ -28,6 +28,35 @@ ghost use Rattle.run_tables.specs.Program.{program_meaning};
 ghost use Rattle.run_tables.specs.Causes.{Cause};
 ghost use Rattle.run_tables.specs.Runs.{Run, Leads};
 ghost use Rattle.run_tables.specs.Work.{Ready, Wanted, Holder, Working};
+
+/// The groups of clauses hold in each view that moves lead to, and Values in each of a run, which is a list of moves: what the
+/// other laws are made of. Does nothing.
+pub fn what_is_kept()
+    ensures names { (v : View) → Reached v → Names v }
+    ensures fills { (v : View) → Reached v → Fills v }
+    ensures leavers { (v : View) → Reached v → Leavers v }
+    ensures homes { (v : View) → Reached v → Homes v }
+    ensures rooted { (v : View) → Reached v → Rooted v }
+    ensures kin { (v : View) → Reached v → Kin v }
+    ensures requests { (v : View) → Reached v → Requests v }
+    ensures cases { (v : View) → Reached v → Cases v }
+    ensures rosters { (v : View) → Reached v → Rosters v }
+    ensures known { (v : View) → Reached v → Known v }
+    ensures later { (v : View) → Reached v → Later v }
+    ensures tasks { (v : View) → Reached v → Tasks v }
+    ensures epochs { (v : View) → Reached v → Epochs v }
+    ensures heirs { (v : View) → Reached v → Heirs v }
+    ensures values { (m : Meaning) (v : View) → IsSerial m → Run m v → Values m v }
+    ensures reached { (m : Meaning) (v : View) → Run m v → Reached v }
+{}
+
+/// A grant of which anything was sent was sent by a Grant first: a transfer that is no Offer. Does nothing.
+pub fn each_transfer_comes_of_a_grant()
+    ensures { (v : View) (g : Grant)
+        → Reached v
+        → Granted v.transfers g
+        → (i : ℕ) × (SentTo v.transfers g 0 i) }
+{}
 
 /// Whatever moves were made, no grant has two live holders. Does nothing.
 pub fn no_two_live_holders()

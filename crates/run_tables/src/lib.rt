@@ -81,8 +81,8 @@ pub use laws::{
     a_departed_sub_lives_on, a_grant_is_one_task, a_later_epoch_is_new, a_lost_kid_is_redone,
     a_programs_meaning_is_serial, a_recorded_outcome_stays, a_run_ends_with_its_outcome,
     a_stolen_kid_comes_back, a_verdict_tells_of_a_loss, each_cause_is_a_change,
-    every_fill_is_the_serial_value, every_recorded_outcome_is_the_meaning,
-    every_result_is_its_tasks_outcome, heirs_lead_somewhere, no_group_holds_of_all_views,
-    no_slot_filled_twice, no_two_live_holders, nothing_lost, only_live_thieves_are_awaited,
-    some_holder_has_work,
+    each_transfer_comes_of_a_grant, every_fill_is_the_serial_value,
+    every_recorded_outcome_is_the_meaning, every_result_is_its_tasks_outcome, heirs_lead_somewhere,
+    no_group_holds_of_all_views, no_slot_filled_twice, no_two_live_holders, nothing_lost,
+    only_live_thieves_are_awaited, some_holder_has_work, what_is_kept,
 };

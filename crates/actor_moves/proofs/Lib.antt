@@ -1,0 +1,4 @@
+pub mod Others
+pub mod Sent
+pub mod Resolving
+pub mod Mourners

@@ -1,0 +1,108 @@
+-- Who doesn't act keeps its tables.
+use Rattle.std.proofs.Common.{◌≡◌, ℕ, Option, refl, sym, ◌∙◌, arith}
+use Rattle.ids.specs.Names.{Grant}
+use Rattle.run_tables.specs.Tables.{put, put_at, put_grant, clear}
+use Rattle.run_tables.specs.View.{View}
+use Rattle.run_tables.specs.Meaning.{Meaning}
+use Rattle.run_tables.specs.Acts.{Act, starts, admits, adopts, fails, goes, mourns, opens, grants_root, closes_root, commits, publishes, closes, asks, refuses, grants, takes_grant, hears_refuse, gives_up, freezes, takes_offer, acknowledges, releases, leaves, alters, drops, renames, settles, settles_at_house}
+use Rattle.actor_moves.specs.Beside.{SameAt, IsActOf, MovedBy, unmoved, moved}
+
+module _ {X : Type 0} where
+  pub put_other : (f : ℕ → X) (i j : ℕ) (x : X) → (j ≡ i → ⊥) → put f i x j ≡ f j
+  put_other f i j x other = grind (arith, other)
+
+  pub at_other : (f : ℕ → ℕ → X) (i t j k : ℕ) (x : X) → (j ≡ i → ⊥) → put_at f i t x j k ≡ f j k
+  at_other f i t j k x other = grind (arith, other)
+
+  pub grant_other : (f : ℕ → Grant → X) (i : ℕ) (g : Grant) (j : ℕ) (k : Grant) (x : X) → (j ≡ i → ⊥) → put_grant f i g x j k ≡ f j k
+  grant_other f i g j k x other = grind (arith, other)
+
+pub clear_other : {K X : Type 0} (f : ℕ → K → Option X) (i j : ℕ) (k : K) → (j ≡ i → ⊥) → clear f i j k ≡ f j k
+clear_other f i j k other = grind (arith, other)
+
+pub all_same : (v : View) (j : ℕ) → SameAt v v j
+all_same v j = record { mode = refl; minted = refl; asked = refl; seen = λ g. refl; subs = λ g. refl; pending = refl; kept = λ t. refl; roster = refl }
+
+pub same_then : {u v w : View} {j : ℕ} → SameAt u v j → SameAt v w j → SameAt u w j
+same_then a b = record {
+  mode = b.mode ∙ a.mode;
+  minted = b.minted ∙ a.minted;
+  asked = b.asked ∙ a.asked;
+  seen = λ g. b.seen g ∙ a.seen g;
+  subs = λ g. b.subs g ∙ a.subs g;
+  pending = b.pending ∙ a.pending;
+  kept = λ t. b.kept t ∙ a.kept t;
+  roster = b.roster ∙ a.roster;
+}
+
+-- by one move
+pub beside_one : {v w : View} (act : Act v w) (i j : ℕ) → IsActOf act i → (j ≡ i → ⊥) → SameAt v w j
+beside_one {v = v} (starts k new worker) i j is other = absurd is
+beside_one {v = v} (admits k roster joins sent) i j is other =
+    let no : j ≡ k → ⊥ = λ e. other (e ∙ sym is) in
+    record { mode = put_other v.mode k j _ no; minted = refl; asked = refl; seen = λ g. refl; subs = λ g. refl; pending = refl; kept = λ t. refl; roster = put_other v.roster k j _ no }
+beside_one {v = v} (adopts k old roster may) i j is other =
+    let no : j ≡ k → ⊥ = λ e. other (e ∙ sym is) in
+    record { mode = refl; minted = refl; asked = refl; seen = λ g. refl; subs = λ g. refl; pending = refl; kept = λ t. refl; roster = put_other v.roster k j _ no }
+beside_one {v = v} (fails k may) i j is other =
+    let no : j ≡ k → ⊥ = λ e. other (e ∙ sym is) in
+    record { mode = put_other v.mode k j _ no; minted = refl; asked = refl; seen = λ g. refl; subs = λ g. refl; pending = refl; kept = λ t. refl; roster = refl }
+beside_one {v = v} (goes k said) i j is other =
+    let no : j ≡ k → ⊥ = λ e. other (e ∙ sym is) in
+    record { mode = put_other v.mode k j _ no; minted = refl; asked = refl; seen = λ g. refl; subs = λ g. refl; pending = refl; kept = λ t. refl; roster = refl }
+beside_one {v = v} (mourns k used worker lost) i j is other =
+    record { mode = refl; minted = refl; asked = refl; seen = λ g. refl; subs = λ g. refl; pending = refl; kept = λ t. refl; roster = refl }
+beside_one {v = v} (opens k lost roster may) i j is other = absurd is
+beside_one {v = v} (grants_root k thief seq c house may answers begins) i j is other = absurd is
+beside_one {v = v} (closes_root k e) i j is other = absurd is
+beside_one {v = v} (commits k g o may) i j is other = absurd is
+beside_one {v = v} (publishes house roster may) i j is other = absurd is
+beside_one {v = v} (closes k e) i j is other = absurd is
+beside_one {v = v} (asks k victim may) i j is other =
+    let no : j ≡ k → ⊥ = λ e. other (e ∙ sym is) in
+    record { mode = refl; minted = refl; asked = put_other v.asked k j _ no; seen = λ g. refl; subs = λ g. refl; pending = put_other v.pending k j _ no; kept = λ t. refl; roster = refl }
+beside_one {v = v} (refuses k thief seq up may) i j is other =
+    let no : j ≡ k → ⊥ = λ e. other (e ∙ sym is) in
+    record { mode = refl; minted = refl; asked = refl; seen = λ g. refl; subs = λ g. refl; pending = refl; kept = λ t. at_other v.kept k thief j t _ no; roster = refl }
+beside_one {v = v} (grants k g s n thief seq c here may begins steal) i j is other =
+    let no : j ≡ k → ⊥ = λ e. other (e ∙ sym is) in
+    record { mode = refl; minted = put_other v.minted k j _ no; asked = refl; seen = λ h. refl; subs = λ h. grant_other v.subs k g j h _ no; pending = refl; kept = λ t. at_other v.kept k thief j t _ no; roster = refl }
+beside_one {v = v} (takes_grant k t may hop pending) i j is other =
+    let no : j ≡ k → ⊥ = λ e. other (e ∙ sym is) in
+    record { mode = refl; minted = refl; asked = refl; seen = λ h. grant_other v.seen k t.grant j h _ no; subs = λ h. grant_other v.subs k t.grant j h _ no; pending = put_other v.pending k j _ no; kept = λ u. refl; roster = refl }
+beside_one {v = v} (hears_refuse k x sent thief pending) i j is other =
+    let no : j ≡ k → ⊥ = λ e. other (e ∙ sym is) in
+    record { mode = refl; minted = refl; asked = refl; seen = λ g. refl; subs = λ g. refl; pending = put_other v.pending k j _ no; kept = λ t. refl; roster = refl }
+beside_one {v = v} (gives_up k why) i j is other =
+    let no : j ≡ k → ⊥ = λ e. other (e ∙ sym is) in
+    record { mode = refl; minted = refl; asked = refl; seen = λ g. refl; subs = λ g. refl; pending = put_other v.pending k j _ no; kept = λ t. refl; roster = refl }
+beside_one {v = v} (freezes k heir offers may) i j is other =
+    let no : j ≡ k → ⊥ = λ e. other (e ∙ sym is) in
+    record { mode = put_other v.mode k j _ no; minted = refl; asked = refl; seen = λ g. refl; subs = λ g. refl; pending = refl; kept = λ t. refl; roster = refl }
+beside_one {v = v} (takes_offer k t h may hop) i j is other =
+    let no : j ≡ k → ⊥ = λ e. other (e ∙ sym is) in
+    record { mode = refl; minted = refl; asked = refl; seen = λ h. grant_other v.seen k t.grant j h _ no; subs = λ h. grant_other v.subs k t.grant j h _ no; pending = put_other v.pending k j _ no; kept = λ u. refl; roster = refl }
+beside_one {v = v} (acknowledges t sent taken up) i j is other =
+    record { mode = refl; minted = refl; asked = refl; seen = λ g. refl; subs = λ g. refl; pending = refl; kept = λ t. refl; roster = refl }
+beside_one {v = v} (releases k heir g s may) i j is other =
+    let no : j ≡ k → ⊥ = λ e. other (e ∙ sym is) in
+    record { mode = refl; minted = refl; asked = refl; seen = λ h. refl; subs = λ h. grant_other v.subs k g j h _ no; pending = refl; kept = λ t. refl; roster = refl }
+beside_one {v = v} (leaves k heir roster keeps may) i j is other =
+    record { mode = refl; minted = refl; asked = refl; seen = λ g. refl; subs = λ g. refl; pending = refl; kept = λ t. refl; roster = refl }
+beside_one {v = v} (alters k g s c fill results gone here change why) i j is other =
+    let no : j ≡ k → ⊥ = λ e. other (e ∙ sym is) in
+    record { mode = refl; minted = refl; asked = refl; seen = λ h. refl; subs = λ h. grant_other v.subs k g j h _ no; pending = refl; kept = λ t. refl; roster = refl }
+beside_one {v = v} (drops k g s gone here records why) i j is other =
+    let no : j ≡ k → ⊥ = λ e. other (e ∙ sym is) in
+    record { mode = refl; minted = refl; asked = refl; seen = λ h. refl; subs = λ h. grant_other v.subs k g j h _ no; pending = refl; kept = λ t. refl; roster = refl }
+beside_one {v = v} (renames k g s roster host here sent resolves) i j is other =
+    let no : j ≡ k → ⊥ = λ e. other (e ∙ sym is) in
+    record { mode = refl; minted = refl; asked = refl; seen = λ h. refl; subs = λ h. grant_other v.subs k g j h _ no; pending = refl; kept = λ t. refl; roster = refl }
+beside_one {v = v} (settles k g may) i j is other =
+    record { mode = refl; minted = refl; asked = refl; seen = λ g. refl; subs = λ g. refl; pending = refl; kept = λ t. refl; roster = refl }
+beside_one {v = v} (settles_at_house k g may) i j is other = absurd is
+
+-- and by many
+pub beside : {m : Meaning} {i : ℕ} {v w : View} → MovedBy m i v w → (j : ℕ) → (j ≡ i → ⊥) → SameAt v w j
+beside {v = v} unmoved j other = all_same v j
+beside {i = i} (moved way act right is) j other = same_then (beside way j other) (is.others j other)

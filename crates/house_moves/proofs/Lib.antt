@@ -1,0 +1,13 @@
+pub mod Listed
+pub mod Living
+pub mod Publishing
+pub mod Then
+pub mod Joining
+pub mod Hearing
+pub mod Stealing
+pub mod Returning
+pub mod Settling
+pub mod Mapping
+pub mod Moments
+pub mod Leaving
+pub mod Table

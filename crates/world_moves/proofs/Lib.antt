@@ -1,0 +1,13 @@
+pub mod Keyed
+pub mod Places
+pub mod Disks
+pub mod Stepping
+pub mod Starting
+pub mod Filled
+pub mod Holding
+pub mod Recorded
+pub mod Housing
+pub mod Stopping
+pub mod Opening
+pub mod HouseEvents
+pub mod Events
