@@ -1,56 +1,13 @@
-//! Worked values of the operators, and turns that come from other threads.
+//! Turns that come from other threads.
 ghost use Rattle.std.specs.Prelude.{◌≡◌, IfSome, Some};
 ghost use Rattle.kind_check.specs.Turns.{turn_of};
 
-use crate::expression::operate;
 use crate::{Done, Turn};
 use kind_check::check;
 use std::alloc::Global;
 use std::test::Fail;
 use std::thread;
-use task_syntax::{Operator, parse};
-
-#[test]
-fn operators_give_the_worked_values(rt: HostRuntime) {
-    let rows = [
-        (Operator::Or, 12, 10, 14),
-        (Operator::Xor, 12, 10, 6),
-        (Operator::And, 12, 10, 8),
-        (Operator::And, -1, 10, 10),
-        (Operator::Equal, 5, 5, 1),
-        (Operator::Equal, 5, -5, 0),
-        (Operator::NotEqual, 5, -5, 1),
-        (Operator::NotEqual, 5, 5, 0),
-        (Operator::Less, -1, 0, 1),
-        (Operator::Less, 0, 0, 0),
-        (Operator::AtMost, 0, 0, 1),
-        (Operator::AtMost, 0, -1, 0),
-        (Operator::ShiftLeft, 1, 65, 2),
-        (Operator::ShiftLeft, 1, -1, i64::MIN),
-        (Operator::ShiftLeft, 3, 63, i64::MIN),
-        (Operator::ShiftRight, -8, 1, -4),
-        (Operator::ShiftRight, -1, 63, -1),
-        (Operator::ShiftRight, i64::MIN, i64::MIN, i64::MIN),
-        (Operator::Add, i64::MAX, 1, i64::MIN),
-        (Operator::Subtract, i64::MIN, 1, i64::MAX),
-        (Operator::Multiply, i64::MAX, 2, -2),
-        (Operator::Divide, 7, 0, 0),
-        (Operator::Divide, -7, 2, -3),
-        (Operator::Divide, 7, -2, -3),
-        (Operator::Divide, i64::MIN, -1, i64::MIN),
-        (Operator::Remainder, 7, 0, 0),
-        (Operator::Remainder, -7, 2, -1),
-        (Operator::Remainder, 7, -2, 1),
-        (Operator::Remainder, i64::MIN, -1, 0),
-    ];
-    for (operator, a, b, wanted) in rows {
-        assert_eq!(rt;
-            operate(operator, a, b),
-            wanted,
-            "{operator:?} of {a} and {b}"
-        );
-    }
-}
+use task_syntax::parse;
 
 /// A turn of a thread that sends one more than its number.
 fn turn_on(alloc: Global, number: i64) -> Option<Done> {

@@ -12,8 +12,6 @@ mod publish;
 mod record;
 mod reopen;
 mod store;
-#[cfg(test)]
-mod tests;
 
 pub use blank::format;
 pub use laws::a_commit_at_any_moment;

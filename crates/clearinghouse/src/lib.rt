@@ -8,8 +8,6 @@ mod house;
 mod laws;
 mod parts;
 mod sending;
-#[cfg(test)]
-mod tests;
 
 pub use error::HouseError;
 pub use house::House;

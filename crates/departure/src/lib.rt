@@ -3,8 +3,6 @@
 
 mod accepting;
 mod freezing;
-#[cfg(test)]
-mod tests;
 
 pub use accepting::accept_offer;
 pub use freezing::{FreezeError, Move};

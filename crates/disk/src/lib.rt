@@ -8,8 +8,6 @@ mod fail_once;
 mod file;
 mod laws;
 mod memory;
-#[cfg(test)]
-mod tests;
 
 pub use device::{DeviceFailed, Disk};
 pub use fail_once::FailOnce;

@@ -6,8 +6,6 @@ mod numbers;
 mod parts;
 mod reading;
 mod script;
-#[cfg(test)]
-mod tests;
 mod written;
 
 pub use event::{Asked, Cut, Event, FrameOf, HouseEvent, NodeEvent, NodePlace};

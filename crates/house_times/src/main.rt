@@ -6,13 +6,16 @@
 //! calls.
 //!
 //! `house_times format|open|record FILE ROUNDS` makes a checkpoint in FILE, ROUNDS times, and goes on so far over it; it prints
-//! the time of that last step.
+//! the time of that last step. For `bench/codec`, `house_times read|write FILE ROUNDS` reads or writes the packet of FILE so often,
+//! and prints how many bytes it read or wrote.
 #![tactic(auto)]
 
+mod coding;
 mod files;
 mod kinds;
 mod packets;
 
+use crate::coding::coded;
 use crate::files::{deed_of, opened, rounds};
 use crate::kinds::{KINDS, Kind, call, hears, prepare};
 use crate::packets::{JOB, join};
@@ -23,11 +26,11 @@ use disk::{FileDisk, MemDisk};
 use kind_check::check;
 use serial_meaning::Job;
 use std::alloc::Global;
-use std::env;
 use std::fs::{File, OpenOptions};
 use std::io::Write;
 use std::rt::{Clock, Env, Files};
 use std::time::CpuClock;
+use std::{env, fs};
 use task_syntax::parse;
 
 /// The program of the Fibonacci numbers.
@@ -154,6 +157,34 @@ fn on_file<R: Env + Clock + Files<File = File> + AllocGlobal, O: Write>(
     Ok(())
 }
 
+/// Reads or writes a file's packet so often, with a line of how many bytes those were.
+fn on_packet<R: Files + AllocGlobal, O: Write>(
+    rt: &R,
+    out: &mut O,
+    word: &str,
+    path: &str,
+    count: u64,
+) -> Result<()> {
+    let bytes = fs::read(rt, path).context("reading the packet")?;
+    let total = coded(rt.alloc(), word, bytes.as_slice(), count)?;
+    writeln!(out, "{total}")?;
+    Ok(())
+}
+
+/// What is done with a file.
+fn with_file<R: Env + Clock + Files<File = File> + AllocGlobal, O: Write>(
+    rt: &R,
+    out: &mut O,
+    word: &str,
+    path: &str,
+    count: u64,
+) -> Result<()> {
+    match word {
+        "read" | "write" => on_packet(rt, out, word, path, count),
+        _ => on_file(rt, out, word, path, count),
+    }
+}
+
 /// A number of the command line.
 fn number(word: &String) -> Result<u64> {
     word.as_str().parse::<u64>().context("reading a number")
@@ -174,7 +205,7 @@ fn run<R: Env + Clock + CpuClock + Files<File = File> + AllocGlobal, O: Write>(
 ) -> Result<()> {
     let words: Vec<String> = env::args(rt)?.collect(rt.alloc())?;
     match words.as_slice() {
-        [_, word, path, times] => on_file(rt, out, word.as_str(), path.as_str(), number(times)?),
+        [_, word, path, times] => with_file(rt, out, word.as_str(), path.as_str(), number(times)?),
         [_, word, members, made, times] => {
             by_kind(
                 rt.alloc(),

@@ -2,7 +2,5 @@
 #![tactic(auto)]
 
 mod posts;
-#[cfg(test)]
-mod tests;
 
 pub use posts::{Post, PostTest, Posts};

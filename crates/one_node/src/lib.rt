@@ -5,8 +5,6 @@ mod begin;
 mod fault;
 mod laws;
 mod run;
-#[cfg(test)]
-mod tests;
 mod turn;
 
 pub use fault::RunFault;

@@ -3,8 +3,6 @@
 
 mod asker;
 mod replies;
-#[cfg(test)]
-mod tests;
 
 pub use asker::{AskError, Asker, Request};
 pub use replies::{Heard, Replies, Reply};

@@ -10,8 +10,6 @@ mod joining;
 mod laws;
 mod leaving;
 mod readiness;
-#[cfg(test)]
-mod tests;
 
 pub use change::{Change, DoneAgain, Filling, GivenAway, Readied, SubError};
 pub use content::Content;

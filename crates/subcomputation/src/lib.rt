@@ -3,8 +3,6 @@
 
 mod laws;
 mod sub;
-#[cfg(test)]
-mod tests;
 
 pub use laws::{fitting_tasks_are_few, renaming_keeps_fitting};
 pub use sub::{Again, Changed, Given, ReadyIn, Sub};

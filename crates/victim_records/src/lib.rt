@@ -2,7 +2,5 @@
 #![tactic(auto)]
 
 mod store;
-#[cfg(test)]
-mod tests;
 
 pub use store::Records;

@@ -1,0 +1,64 @@
+//! What a node is made of, each by itself: its frames, the posts of its ready frames, its records, the heirs of a roster, its
+//! requests and its answers.
+
+mod asker;
+mod bearers;
+mod kept;
+mod posts;
+mod records;
+mod replies;
+mod words;
+
+use asker::play_asker;
+use bearers::play_heirs;
+use frames::Frames;
+use kept::play_frames;
+use level_deques::Posts;
+use play_words::{Ended, Line, Played};
+use posts::play_posts;
+use records::play_records;
+use replies::play_replies;
+use std::alloc::Global;
+use std::io::Write;
+use steal_protocol::{Asker, Replies};
+use victim_records::Records;
+
+/// One of each.
+#[derive(Drop)]
+pub struct Stores {
+    frames: Frames,
+    posts: Posts,
+    records: Records,
+    asker: Asker,
+    replies: Replies,
+}
+
+impl Stores {
+    pub fn new(alloc: Global) -> Stores {
+        Stores {
+            frames: Frames::new(alloc),
+            posts: Posts::new(alloc),
+            records: Records::new(alloc),
+            asker: Asker::new(),
+            replies: Replies::new(alloc),
+        }
+    }
+
+    /// Plays a command on one of them, and writes what it answers.
+    pub fn play<O: Write>(
+        &mut self,
+        alloc: Global,
+        line: &Line<'_>,
+        out: &mut O,
+    ) -> Result<Played, Ended> {
+        match line.word(0) {
+            Some("frames") => play_frames(alloc, line, &mut self.frames, out),
+            Some("posts") => play_posts(line, &mut self.posts, out),
+            Some("records") => play_records(alloc, line, &mut self.records, out),
+            Some("heirs") => play_heirs(alloc, line, out),
+            Some("asker") => play_asker(line, &mut self.asker, out),
+            Some("replies") => play_replies(alloc, line, &mut self.replies, out),
+            _ => Ok(Played::NotMine),
+        }
+    }
+}

@@ -1,0 +1,31 @@
+//! Commands of transcripts on nodes: workers by their start words, the packets that they sent, and what each call of a node
+//! answers.
+//!
+//! A job is set before the first start: `program TEXT`, `input NUMBERS..` and `job NUMBER` answer nothing, but for the refusal of
+//! a text that is no program. Another `program` begins another job, of the nodes that start behind it. Then
+//!
+//! - `start W` and `crash W` begin and end worker W; `crash` answers nothing.
+//! - `ask W V` and `ask W house`, `run W` (the first frame that it shows as ready), `exec W GRANT FRAME` (that frame, by its own
+//!   turn), `exec W GRANT FRAME thread=T on=NUMBERS` (that frame, by the turn of a thread on numbers), `exec W GRANT FRAME given
+//!   thread=T on=NUMBERS` (by that turn if it is the frame's own, else by its own), `depart W HEIR` and `resend W` are calls of
+//!   worker W's node.
+//! - `give W PACKET` carries a packet to worker W. PACKET is `#N`, the Nth of all that were sent; `KIND`, `KIND from V`,
+//!   `first KIND` or `first KIND from V`, the last or the first packet of a kind to W (of worker V); a packet in words, which
+//!   comes of nobody; or `bytes HEX`. A packet that was sent may be followed by `with AT HEX`: the byte at AT, from 0, is another.
+//! - `make WORDS` makes a packet by hand and gives it the next number, as if it was sent.
+//! - `same #N #M` tells whether two packets have the same bytes, and `hex #N` what these are.
+//! - `ready W` shows its ready frames, in the order in which its workers take them, or `nothing ready`, and `subs W` what it
+//!   holds, or `nothing held`.
+//!
+//! A call answers each packet that it sends, in words behind its number, and then each value that came to a slot; `ignored`,
+//! for a packet that was ignored; `nothing`, where it neither sends nor fills; `nothing ready`, where `run` finds no frame; or the
+//! number of its refusal. Behind E63 or E9, for want of memory, the same call is made once more.
+#![tactic(auto)]
+
+mod job;
+mod named;
+mod nodes;
+mod player;
+mod shown;
+
+pub use nodes::Nodes;

@@ -1,0 +1,228 @@
+//! A node and its job.
+ghost use Rattle.std.specs.Prelude.{◌≡◌, IfOk, IfSome};
+
+use body_eval::Done;
+use ids::{FrameNo, GrantId, Incarnation};
+use node_core::{Node, NodeError, Step, SubView, Victim, Work};
+use serial_meaning::Job;
+use std::alloc::{AllocError, Global};
+
+/// A frame, by the numbers of its grant and its own, which may name none.
+#[derive(Clone, Copy, PartialEq, Eq, Debug)]
+pub struct FrameName {
+    pub minter: u64,
+    pub number: u64,
+    pub frame: u64,
+}
+
+/// The grant and the number of a frame.
+#[derive(Clone, Copy, PartialEq, Eq, Debug)]
+pub struct FrameOf {
+    pub grant: GrantId,
+    pub frame: FrameNo,
+}
+
+/// A thread on numbers, whose turn is evaluated.
+#[derive(Drop)]
+pub struct Turn {
+    pub thread: u8,
+    pub numbers: Vec<i64>,
+}
+
+/// What a node is called for.
+#[derive(Drop)]
+pub enum Call<'a> {
+    /// Bytes come to it.
+    Hear(&'a [u8]),
+    /// It asks the clearinghouse for work.
+    AskHouse,
+    /// It asks a worker for work, by its start word, which may be none.
+    Ask(u64),
+    /// The first frame that it shows as ready runs.
+    Run,
+    /// A frame runs by its own turn.
+    Exec(FrameName),
+    /// A frame runs by a turn, its own or not.
+    ExecBy(FrameOf, Turn),
+    /// A frame runs by a turn if that is its own, else by its own.
+    ExecGiven(FrameName, Turn),
+    /// It leaves to an heir, by its start word, which may be none.
+    Depart(u64),
+    /// It sends again what isn't answered.
+    Resend,
+}
+
+/// What a call comes to.
+#[derive(Drop)]
+pub enum Answer {
+    Does(Step),
+    Refused(NodeError),
+    /// No frame is ready.
+    Idle,
+    /// The job's program has no such turn.
+    NoTurn,
+}
+
+/// A node of a job.
+#[derive(Drop)]
+pub struct Player {
+    pub word: u64,
+    job: &'static Job,
+    node: Node<'static>,
+    ghost same: { ∥ node.job ≡ job.now ∥₁ },
+}
+
+fn answer_of(answered: Result<Step, NodeError>) -> Answer {
+    match answered {
+        Ok(step) => Answer::Does(step),
+        Err(refused) => Answer::Refused(refused),
+    }
+}
+
+impl Answer {
+    /// Whether there was no memory.
+    pub fn is_starved(&self) -> bool {
+        matches!(self, Answer::Refused(NodeError::Memory))
+    }
+}
+
+/// What comes in a packet's bytes is done.
+fn hears(alloc: Global, node: &mut Node<'_>, bytes: &[u8]) -> Result<Step, NodeError>
+    ensures { node.new.job ≡ node.old.job }
+{
+    node.on_bytes(alloc, bytes)
+}
+
+/// A request of the clearinghouse.
+fn asks_house(alloc: Global, node: &mut Node<'_>) -> Result<Step, NodeError>
+    ensures { node.new.job ≡ node.old.job }
+{
+    node.ask(alloc, Victim::House)
+}
+
+/// A request of a worker.
+fn asks(alloc: Global, node: &mut Node<'_>, word: u64) -> Result<Step, NodeError>
+    ensures { node.new.job ≡ node.old.job }
+{
+    node.ask_named(alloc, word)
+}
+
+/// A frame is carried out by its own turn.
+fn runs(alloc: Global, node: &mut Node<'_>, name: FrameName) -> Result<Step, NodeError>
+    ensures { node.new.job ≡ node.old.job }
+{
+    node.exec_ready_named(alloc, name.minter, name.number, name.frame)
+}
+
+/// A frame is carried out by a turn.
+fn runs_by(alloc: Global, node: &mut Node<'_>, at: FrameOf, done: &Done) -> Result<Step, NodeError>
+    requires { done.now.program ≡ node.old.job.program }
+    ensures { node.new.job ≡ node.old.job }
+{
+    node.exec(alloc, at.grant, at.frame, done)
+}
+
+/// A frame is carried out by a turn that was evaluated before.
+fn runs_given(
+    alloc: Global,
+    node: &mut Node<'_>,
+    name: FrameName,
+    done: &Done,
+) -> Result<Step, NodeError>
+    requires { done.now.program ≡ node.old.job.program }
+    ensures { node.new.job ≡ node.old.job }
+{
+    node.exec_turn_named(alloc, name.minter, name.number, name.frame, done)
+}
+
+/// A node leaves to an heir.
+fn departs(alloc: Global, node: &mut Node<'_>, heir: u64) -> Result<Step, NodeError>
+    ensures { node.new.job ≡ node.old.job }
+{
+    node.depart_named(alloc, heir)
+}
+
+/// A turn of a job's program; none where it has no such thread, or that takes another count of numbers.
+fn evaluated(alloc: Global, job: &Job, turn: &Turn) -> Result<Option<Done>, AllocError>
+    ensures { IfOk result (λ o. IfSome o (λ d. d.program ≡ job.now.program)) }
+{
+    let checked = job.checked();
+    if usize::from(turn.thread) >= checked.threads()
+        || checked.program().thread(turn.thread).numbers.len() != turn.numbers.len()
+    {
+        return Ok(None);
+    }
+    let numbers = Vec::from_slice(alloc, &turn.numbers)?;
+    Ok(Some(Done::of(alloc, checked, turn.thread, numbers)?))
+}
+
+impl Player {
+    /// A worker starts, with the packet that it sends.
+    pub fn starts(
+        alloc: Global,
+        job: &'static Job,
+        worker: Incarnation,
+    ) -> Result<(Player, Step), NodeError> {
+        let (node, step) = Node::start(alloc, job, worker)?;
+        let word = worker.word();
+        Ok((Player { word, job, node }, step))
+    }
+
+    /// The work behind so many others, as the node shows it.
+    pub fn ready_at(&self, alloc: Global, index: usize) -> Result<Option<Work>, NodeError> {
+        self.node.ready_at(alloc, index)
+    }
+
+    /// What it holds.
+    pub fn subs(&self, alloc: Global) -> Result<Vec<SubView>, NodeError> {
+        Ok(self.node.subs(alloc)?.into_vec())
+    }
+
+    /// The first frame that it shows as ready runs.
+    fn runs_first(&mut self, alloc: Global) -> Answer {
+        let work = match self.node.ready_at(alloc, 0) {
+            Ok(Some(work)) => work,
+            Ok(None) => return Answer::Idle,
+            Err(refused) => return Answer::Refused(refused),
+        };
+        let name = FrameName {
+            minter: work.grant.minter().word(),
+            number: work.grant.number(),
+            frame: u64::from(work.frame.number()),
+        };
+        answer_of(runs(alloc, &mut self.node, name))
+    }
+
+    /// A frame runs by a turn.
+    fn runs_by(&mut self, alloc: Global, at: FrameOf, turn: &Turn) -> Answer {
+        match evaluated(alloc, self.job, turn) {
+            Ok(Some(done)) => answer_of(runs_by(alloc, &mut self.node, at, &done)),
+            Ok(None) => Answer::NoTurn,
+            Err(_) => Answer::Refused(NodeError::Memory),
+        }
+    }
+
+    /// A frame runs by a turn if that is its own.
+    fn runs_given(&mut self, alloc: Global, name: FrameName, turn: &Turn) -> Answer {
+        match evaluated(alloc, self.job, turn) {
+            Ok(Some(done)) => answer_of(runs_given(alloc, &mut self.node, name, &done)),
+            Ok(None) => Answer::NoTurn,
+            Err(_) => Answer::Refused(NodeError::Memory),
+        }
+    }
+
+    /// What a call comes to.
+    pub fn calls(&mut self, alloc: Global, call: &Call<'_>) -> Answer {
+        match call {
+            Call::Hear(bytes) => answer_of(hears(alloc, &mut self.node, bytes)),
+            Call::AskHouse => answer_of(asks_house(alloc, &mut self.node)),
+            Call::Ask(word) => answer_of(asks(alloc, &mut self.node, *word)),
+            Call::Run => self.runs_first(alloc),
+            Call::Exec(name) => answer_of(runs(alloc, &mut self.node, *name)),
+            Call::ExecBy(at, turn) => self.runs_by(alloc, *at, turn),
+            Call::ExecGiven(name, turn) => self.runs_given(alloc, *name, turn),
+            Call::Depart(heir) => answer_of(departs(alloc, &mut self.node, *heir)),
+            Call::Resend => answer_of(self.node.resend(alloc)),
+        }
+    }
+}
