@@ -3,7 +3,7 @@ use Rattle.std.proofs.Common.{◌≡◌, ℕ, List, Option, refl, inr, ◌∙◌
 use Rattle.run_tables.specs.View.{View}
 use Rattle.run_tables.specs.Meaning.{Meaning}
 use Rattle.run_tables.specs.Acts.{Act, starts, admits, adopts, fails, goes, mourns, opens, grants_root, closes_root, commits, publishes, closes, asks, refuses, grants, takes_grant, hears_refuse, gives_up, freezes, takes_offer, acknowledges, releases, leaves, alters, drops, renames, settles, settles_at_house}
-use Rattle.run_tables.specs.Runs.{Run, by_right}
+use Rattle.run_tables.specs.Runs.{Run, by_right, Leads, leads_on}
 use Rattle.run_tables.proofs.Lists.{later}
 use Rattle.actor_moves.proofs.Others.{all_same, beside_one, grant_other, at_other, put_other}
 use Rattle.ids.specs.Names.{Grant}
@@ -141,6 +141,11 @@ house_all {i = i} (moved way act right is) =
 pub runs_on : {m : Meaning} {i : ℕ} {v w : View} → Run m v → MovedBy m i v w → Run m w
 runs_on run unmoved = run
 runs_on run (moved way act right is) = by_right (runs_on run way) act right
+
+-- what led to tables leads on by moves of a worker
+pub leads_all : {m : Meaning} {i : ℕ} {base v w : View} → Leads base v → MovedBy m i v w → Leads base w
+leads_all since unmoved = since
+leads_all since (moved way act right is) = leads_on (leads_all since way) act
 
 -- a move of a worker
 pub of_act : {v w : View} (act : Act v w) (i : ℕ) → IsActOf act i → IsBeside i v w

@@ -5,8 +5,6 @@ ghost use Rattle.heirs.specs.Chains.{name_of_chain, bearing_of};
 ghost use Rattle.ids.specs.Ordered.{AreInOrder};
 
 mod chains;
-#[cfg(test)]
-mod tests;
 
 use chains::{Chain, after_steps, first_step, guessed, listed};
 use ids::{Actor, Incarnation, Member, Named, Store};

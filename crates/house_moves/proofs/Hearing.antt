@@ -107,7 +107,7 @@ module _ (job : JobOf) (v : View) (run : Run (meaning_of job) v) (h : HouseOf) (
 
 -- a step that tells a worker who is listed
 pub tells_shown : (job : JobOf) (v : View) (run : Run (meaning_of job) v) (i : ℕ) (h k : HouseOf) → name_of h ≡ name_of k → OpenShown v k → HouseStepShown job v h (moves.tells job i k)
-tells_shown job v run i h k name s = record { view = v; run = λ x. x; keeps = all_kept v; others = λ j apart. all_same v j; used = refl; same_name = name; after = s; sent = one_shown v (moves.roster_for job i k) (told_shown job v run k s i); transfers = λ t m. inl m; fills = refl; keeps_transfers = λ k e. cc }
+tells_shown job v run i h k name s = record { view = v; run = λ x. x; since = λ base x. x; keeps = all_kept v; others = λ j apart. all_same v j; used = refl; same_name = name; after = s; sent = one_shown v (moves.roster_for job i k) (told_shown job v run k s i); transfers = λ t m. inl m; fills = refl; keeps_transfers = λ k e. cc }
 
 module _ (job : JobOf) (v : View) (run : Run (meaning_of job) v) (h : HouseOf) (s : OpenShown v h) (rising : AreInOrder name_of_enlisted h.workers) where
   -- a Join

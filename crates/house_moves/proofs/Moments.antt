@@ -29,7 +29,7 @@ at_moment : (v : View) (h : HouseOf) (now : ℕ) → OpenShown v h → OpenShown
 at_moment v h now s = record { mode = s.mode; roster = s.roster; is = s.is; shows = s.shows; room = s.room; minted = s.minted; replies = s.replies; said = s.said; root = s.root; stored = s.stored; epoch = s.epoch; only = s.only }
 
 from_moment : (job : JobOf) (v : View) (h : HouseOf) (now : ℕ) (s : house.StepOf) → HouseStepShown job v (record h { moment = now }) s → HouseStepShown job v h s
-from_moment job v h now s x = record { view = x.view; run = x.run; keeps = x.keeps; others = x.others; used = x.used; same_name = x.same_name; after = x.after; sent = x.sent; transfers = x.transfers; fills = x.fills; keeps_transfers = x.keeps_transfers }
+from_moment job v h now s x = record { view = x.view; run = x.run; since = x.since; keeps = x.keeps; others = x.others; used = x.used; same_name = x.same_name; after = x.after; sent = x.sent; transfers = x.transfers; fills = x.fills; keeps_transfers = x.keeps_transfers }
 
 module _ (job : JobOf) (v : View) (run : Run (meaning_of job) v) (h : HouseOf) (s : OpenShown v h) (now : ℕ) where
   abbrev ws : List Enlisted

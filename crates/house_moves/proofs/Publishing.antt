@@ -18,7 +18,7 @@ use Rattle.run_tables.specs.Facts.{Grows, of_worker}
 use Rattle.run_tables.specs.Guards.{MayPublish, ShowsLeft, before, now}
 use Rattle.run_tables.specs.Moves.{publish}
 use Rattle.run_tables.specs.Acts as acts
-use Rattle.run_tables.specs.Runs.{Run, by_right}
+use Rattle.run_tables.specs.Runs.{Run, by_right, leads_on}
 use Rattle.run_tables.proofs.RostersReached.{rosters_reached}
 use Rattle.run_tables.proofs.ValuesKept.{run_reached}
 use Rattle.actor_moves.specs.Beside.{Keeps}
@@ -139,6 +139,7 @@ module _ (job : JobOf) (v : View) (run : Run (meaning_of job) v) (h : HouseOf) (
       record {
         view = view;
         run = λ k. by_right k act tt;
+        since = λ base k. leads_on k act;
         keeps = keeps;
         others = λ j apart. assumption (all_same v j);
         used = refl;

@@ -20,7 +20,7 @@ use Rattle.run_tables.specs.Facts.{result_to}
 use Rattle.run_tables.specs.Guards.{MayCommit, MaySettleAtHouse}
 use Rattle.run_tables.specs.Moves.{commit, settle}
 use Rattle.run_tables.specs.Acts as acts
-use Rattle.run_tables.specs.Runs.{Run, by_right}
+use Rattle.run_tables.specs.Runs.{Run, by_right, leads_on}
 use Rattle.content_moves.specs.Shown.{number_of}
 use Rattle.actor_moves.specs.Beside.{Keeps}
 use Rattle.actor_moves.proofs.Others.{all_same}
@@ -64,6 +64,7 @@ module _ (job : JobOf) (v : View) (run : Run (meaning_of job) v) (h : HouseOf) (
       record {
         view = view;
         run = λ k. by_right k act tt;
+        since = λ base k. leads_on k act;
         keeps = keeps;
         others = λ j apart. assumption (all_same v j);
         used = refl;
@@ -84,6 +85,7 @@ module _ (job : JobOf) (v : View) (run : Run (meaning_of job) v) (h : HouseOf) (
       record {
         view = view;
         run = λ k. by_right k act tt;
+        since = λ base k. leads_on k act;
         keeps = keeps;
         others = λ j apart. assumption (all_same v j);
         used = refl;

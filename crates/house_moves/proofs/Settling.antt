@@ -11,7 +11,7 @@ use Rattle.clearinghouse.specs.declared.parts.RootGrant.{RootGrant}
 use Rattle.run_tables.specs.View.{View}
 use Rattle.run_tables.specs.Moves.{close_root}
 use Rattle.run_tables.specs.Acts as acts
-use Rattle.run_tables.specs.Runs.{by_right}
+use Rattle.run_tables.specs.Runs.{by_right, leads_on}
 use Rattle.actor_moves.specs.Beside.{Keeps}
 use Rattle.actor_moves.proofs.Others.{all_same}
 use Rattle.actor_moves.proofs.Sent.{keeps_one}
@@ -44,6 +44,7 @@ module _ (job : JobOf) (v : View) (h : HouseOf) (s : OpenShown v h) where
           record {
             view = view;
             run = λ k. by_right k act tt;
+            since = λ base k. leads_on k act;
             keeps = keeps;
             others = λ j apart. assumption (all_same v j);
             used = refl;

@@ -27,7 +27,7 @@ use Rattle.run_tables.specs.Guards.{MayAnswer, MayBegin}
 use Rattle.run_tables.specs.Meaning.{Fits}
 use Rattle.run_tables.specs.Moves.{grant_root, refuse}
 use Rattle.run_tables.specs.Acts as acts
-use Rattle.run_tables.specs.Runs.{Run, by_right}
+use Rattle.run_tables.specs.Runs.{Run, by_right, leads_on}
 use Rattle.content_moves.specs.Moved.{IsBegun}
 use Rattle.content_moves.proofs.Beginning.{task_begins}
 use Rattle.content_moves.proofs.Entries.{put_here, put_other}
@@ -56,6 +56,7 @@ module _ (job : JobOf) (v : View) (run : Run (meaning_of job) v) (h : HouseOf) (
       record {
         view = view;
         run = λ k. by_right k act tt;
+        since = λ base k. leads_on k act;
         keeps = keeps;
         others = λ j apart. record { mode = refl; minted = refl; asked = refl; seen = λ g. refl; subs = λ g. refl; pending = refl; kept = λ t. at_other v.kept (name_of h) b.from j t _ apart; roster = refl };
         used = refl;
@@ -88,6 +89,7 @@ module _ (job : JobOf) (v : View) (run : Run (meaning_of job) v) (h : HouseOf) (
       record {
         view = view;
         run = λ k. by_right k act fits;
+        since = λ base k. leads_on k act;
         keeps = keeps;
         others = λ j apart. record { mode = refl; minted = put_other v.minted (name_of h) j _ apart; asked = refl; seen = λ g. refl; subs = λ g. refl; pending = refl; kept = λ u. at_other v.kept (name_of h) b.from j u _ apart; roster = refl };
         used = refl;
@@ -122,7 +124,7 @@ module _ (job : JobOf) (v : View) (run : Run (meaning_of job) v) (h : HouseOf) (
 
   -- its last answer, again
   again_shown : (thief : ℕ) (reply : Reply) → reply_in thief h.replies ≡ Some reply → HouseStepShown job v h (house.sends (reply.packet ∷ []) h)
-  again_shown thief reply there = record { view = v; run = λ k. k; keeps = all_kept v; others = λ j apart. all_same v j; used = refl; same_name = refl; after = s; sent = one_shown v reply.packet (s.said thief reply there); transfers = λ t m. inl m; fills = refl; keeps_transfers = λ k e. cc }
+  again_shown thief reply there = record { view = v; run = λ k. k; since = λ base k. k; keeps = all_kept v; others = λ j apart. all_same v j; used = refl; same_name = refl; after = s; sent = one_shown v reply.packet (s.said thief reply there); transfers = λ t m. inl m; fills = refl; keeps_transfers = λ k e. cc }
 
   -- a request that is newer
   served_shown : (b : Steal) → MayAnswer v (name_of h) b.from b.seq → HouseAnswerShown job v h (cases.served job b (cases.free_task job h) h)

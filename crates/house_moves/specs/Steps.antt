@@ -7,7 +7,7 @@ use Rattle.run_tables.specs.Tables.{◌∈◌}
 use Rattle.run_tables.specs.View.{Transfer, View}
 use Rattle.run_tables.specs.Meaning.{Meaning}
 use Rattle.run_tables.specs.Program.{program_meaning}
-use Rattle.run_tables.specs.Runs.{Run}
+use Rattle.run_tables.specs.Runs.{Run, Leads}
 use Rattle.actor_moves.specs.Beside.{SameAt, Keeps}
 use Rattle.node_moves.specs.Steps.{AllShown, IsSent}
 use Rattle.house_moves.specs.Shows.{OpenShown}
@@ -21,6 +21,7 @@ meaning_of job = program_meaning job.program job.input
 pub record HouseStepShown (job : JobOf) (v : View) (h : HouseOf) (s : StepOf) : Type 0 where
   pub view : View
   pub run : Run (meaning_of job) v → Run (meaning_of job) view
+  pub since : (base : View) → Leads base v → Leads base view
   pub keeps : Keeps v view
   pub others : (j : ℕ) → (j ≡ name_of h → ⊥) → SameAt v view j
   pub used : view.used ≡ v.used

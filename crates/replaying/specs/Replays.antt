@@ -4,8 +4,8 @@ use Rattle.serial_meaning.specs.Job.{JobOf}
 use Rattle.jobs.specs.Jobs.{IsJobOf, IsRefusal}
 use Rattle.event_script.specs.Scripts.{script}
 use Rattle.event_script.specs.declared.event.Event.{Event}
-use Rattle.world.specs.Calls.{IsRun}
-use Rattle.world.specs.World.{WorldOf, recorded}
+use Rattle.world.specs.Runs.{IsRun}
+use Rattle.world_steps.specs.World.{WorldOf, recorded}
 use Rattle.replaying.specs.declared.fault.ReplayFault.{ReplayFault}
 use Rattle.replaying.specs.declared.fault.ReplayFault.TheVariants as fault
 use Rattle.replaying.specs.declared.replayed.Replayed.{Replayed}

@@ -18,8 +18,9 @@
 //! (specs/Program) has them (`a_programs_meaning_is_serial`).
 //!
 //! Left out are the checkpoint's disk, which frame is granted, and when, and want of memory. A guard asks what its case of the
-//! protocol gives, mostly less. The tie to running nodes is still to come: that each step of a worker or of the clearinghouse is
-//! a list of these moves, on the view that shows its world. Until then the theorems speak of tables alone.
+//! protocol gives, mostly less. That each step of a worker, of the clearinghouse and of a
+//! world is a list of these moves, on a view that shows it, is said by the crates of the tie above this one; here the theorems speak of
+//! tables alone.
 //!
 //! In the definitions v and w are views, i and j names, g, h and k grants, t and u transfers, c and d contents, s is a sub,
 //! n and m are frame numbers; m is the meaning of a job where there is one.

@@ -10,13 +10,14 @@ use Rattle.event_script.specs.declared.event.Event.{Event}
 use Rattle.event_script.proofs.Lefts.{length_parts}
 use Rattle.disk.specs.Device.{Device}
 use Rattle.serial_meaning.specs.Job.{JobOf}
-use Rattle.world.specs.Answers.{Outturn}
-use Rattle.world.specs.Calls.{IsRunTo, IsStarved, StopsIn, StopsReading, WorldOn}
-use Rattle.world.specs.Runs.{Entry, IsFormattedFor, Runs, ends, goes, last_of}
-use Rattle.world.specs.Steps.{Step}
-use Rattle.world.specs.World.{WorldOf, first_over}
-use Rattle.world.specs.declared.parts.NoMemory.{NoMemory}
-use Rattle.world.proofs.Going.{goes_on, last_on}
+use Rattle.world_steps.specs.Answers.{Outturn}
+use Rattle.world_steps.specs.Calls.{IsStarved, WorldOn}
+use Rattle.world_steps.specs.Runs.{Entry, IsFormattedFor, Runs, ends, goes, last_of}
+use Rattle.world_steps.specs.Steps.{Step}
+use Rattle.world_steps.specs.World.{WorldOf, first_over}
+use Rattle.world_steps.specs.declared.parts.NoMemory.{NoMemory}
+use Rattle.world.specs.Runs.{IsRunTo, StopsIn, StopsReading}
+use Rattle.world_steps.proofs.Going.{goes_on, last_on}
 
 -- these events, one after another, led from a first world to this one
 pub record IsUnderWay (job : JobOf) (past : List Event) (v : WorldOf) : Type 0 where

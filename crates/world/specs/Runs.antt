@@ -1,48 +1,47 @@
--- Runs: events one after another, and the worlds that they lead to.
-use Rattle.std.specs.Prelude.{◌≡◌, ℕ, IsTrue, List, [], ◌∷◌, Some}
-use Rattle.ids.specs.declared.outcome.Outcome.{Outcome}
-use Rattle.disk.specs.Device.{Device, Unarmed}
-use Rattle.disk.specs.File.{CrashLeaves}
-use Rattle.checkpoint.specs.Format.{IsFormatted}
-use Rattle.checkpoint.specs.Store.{Keeps}
-use Rattle.checkpoint.specs.declared.record.Record.{Record}
-use Rattle.serial_meaning.specs.Job.{JobOf, meaning_of}
+-- Runs from a first world on, by lists of events and by scripts, and what is promised of them.
+use Rattle.std.specs.Prelude.{◌∷◌, ◌≡◌, ◌⊎◌, ℕ, List, length, map, take, Option, None, Some, IsTrue, slice_get}
+use Rattle.disk.specs.Device.{Device}
+use Rattle.serial_meaning.specs.Job.{JobOf}
+use Rattle.event_script.specs.Left.{is_cut}
 use Rattle.event_script.specs.declared.event.Event.{Event}
-use Rattle.world.specs.Answers.{Answer}
-use Rattle.world.specs.Steps.{Step}
-use Rattle.world.specs.World.{WorldOf}
+use Rattle.world_steps.specs.Answers.{Outturn}
+use Rattle.world_steps.specs.Runs.{Entry, IsFormattedFor, Runs, last_of}
+use Rattle.world_steps.specs.Steps.{Starves}
+use Rattle.world_steps.specs.World.{WorldOf, first_over}
+use Rattle.world_steps.specs.declared.parts.NoMemory.{NoMemory}
+use Rattle.world_steps.specs.Calls.{StarvesBehind}
+use Rattle.safe_runs.specs.Promises.{AllSafe}
 
--- an event and its answer
-pub record Entry : Type 0 where
-  pub event : Event
-  pub answer : Answer
+-- an event of a run finds no memory: the world is as it was, but a clearinghouse that was to answer is stopped
+abbrev pub StopsIn : JobOf → Event → (last v : WorldOf) → Type 0
+StopsIn job e last v = (o : Outturn) × (Starves job e last o ⊎ StarvesBehind e last o) × (v ≡ o.world)
 
--- entries, the first one first, lead from a world through these worlds, one after each
-pub data Runs (job : JobOf) : WorldOf → List Entry → List WorldOf → Type 0 where
-  ends : {w : WorldOf} → Runs job w [] []
-  goes : {w v : WorldOf} {e : Entry} {entries : List Entry} {worlds : List WorldOf}
-      → Step job e.event w (record { world = v; answer = e.answer })
-      → Runs job v entries worlds
-      → Runs job w (e ∷ entries) (v ∷ worlds)
+-- in a replay the bytes of a Cut may find none too, before the Cut is an event of the world: then nothing changes
+abbrev pub StopsReading : JobOf → Event → (last v : WorldOf) → Type 0
+StopsReading job e last v = StopsIn job e last v ⊎ (IsTrue (is_cut e) × (v ≡ last))
 
--- the world after the last entry
-abbrev pub last_of : WorldOf → List WorldOf → WorldOf
-last_of w [] = w
-last_of w (v ∷ worlds) = last_of v worlds
+-- where a run ends: where its events are over, or one of them stops it
+abbrev pub EndsIn : (Event → (last v : WorldOf) → Type 0) → List Event → ℕ → Option NoMemory → (last v : WorldOf) → Type 0
+EndsIn Stops events done None last v = (done ≡ length events) × (v ≡ last)
+EndsIn Stops events done (Some lacks) last v = (e : Event) × (slice_get events done ≡ Some e) × Stops e last v
 
--- a disk on which a run of a job can begin: whatever a crash leaves is a checkpoint of the job, without an outcome or with its
--- meaning
-pub record CanBegin (job : JobOf) (d : Device) : Type 0 where
-  pub unarmed : d.arming ≡ Unarmed
-  pub sequence : ℕ
-  pub found : Record
-  pub kept : Keeps d.file sequence found
-  pub own : found.job ≡ job.number
-  pub meant : (o : Outcome) → found.outcome ≡ Some o → o ≡ meaning_of job
+-- so many of the events, the first ones, were carried out from a first world on, over a formatted disk, and led to this one
+pub record IsRunTo (Stops : Event → (last v : WorldOf) → Type 0) (job : JobOf) (events : List Event) (done : ℕ) (stopped : Option NoMemory) (v : WorldOf) : Type 0 where
+  pub disk : Device
+  pub formatted : IsFormattedFor job disk
+  pub entries : List Entry
+  pub worlds : List WorldOf
+  pub runs : Runs job (first_over disk) entries worlds
+  pub carried : map (λ e. e.event) entries ≡ take done events
+  pub ends : EndsIn Stops events done stopped (last_of (first_over disk) worlds) v
 
--- a disk that was formatted for a job: it can be cut and isn't armed, and whatever a crash leaves of it is the store of a job that
--- has just begun. A run can begin on it
-pub record IsFormattedFor (job : JobOf) (d : Device) : Type 0 where
-  pub unarmed : d.arming ≡ Unarmed
-  pub can_cut : IsTrue d.can_cut
-  pub formatted : (bytes : List ℕ) → CrashLeaves d.file bytes → IsFormatted bytes job.number
+-- so it was, and all its worlds are safe, agree with the serial meaning and have lost nothing
+pub record IsSafeRunTo (Stops : Event → (last v : WorldOf) → Type 0) (job : JobOf) (events : List Event) (done : ℕ) (stopped : Option NoMemory) (v : WorldOf) : Type 0 where
+  pub run : IsRunTo Stops job events done stopped v
+  pub safe : AllSafe job (first_over run.disk ∷ run.worlds)
+
+abbrev pub IsRun : JobOf → List Event → ℕ → Option NoMemory → WorldOf → Type 0
+IsRun job = IsSafeRunTo (StopsIn job) job
+
+abbrev pub IsReplay : JobOf → List Event → ℕ → Option NoMemory → WorldOf → Type 0
+IsReplay job = IsSafeRunTo (StopsReading job) job

@@ -1,19 +1,13 @@
-//! The world: the nodes and the clearinghouse of a job, all that was ever sent, and how they go by lists of events.
+//! Runs of a world: the nodes and the clearinghouse of a job, by lists of events and by scripts.
+//!
+//! `run` and `replay` carry out events one after another and say what is true of every run (specs/Runs): each event is a step of the
+//! world, as crate `world_steps` defines it; in each world no slot was filled twice and each value in one is the serial program's, no
+//! grant has two live holders, a recorded outcome is the job's meaning and stays, what was sent and what is held agrees with the serial
+//! meaning, and nothing is lost. That it is so of every list of events is the law of crate `safe_runs`.
 #![tactic(auto)]
 
-mod kept;
-mod laws;
-mod nodes;
-mod parts;
 mod runs;
-mod seat;
-mod world;
 
 pub use event_script::line;
-pub use laws::{
-    a_cut_stops, a_run_can_begin, nothing_is_taken_back, only_an_opening_fails, starts_are_new,
-    the_first_world, unfit_changes_nothing,
-};
-pub use parts::{NoMemory, Told};
 pub use runs::{ReplayError, RunEnd, replay, run};
-pub use world::World;
+pub use world_steps::{NoMemory, Told, World};

@@ -3,20 +3,20 @@ ghost use Rattle.std.specs.Prelude.{◌≡◌, ◌+◌, ◌<◌, ◌^◌, IfErr,
 ghost use Rattle.disk.specs.Device.{Device};
 ghost use Rattle.event_script.specs.Scripts.{script};
 ghost use Rattle.event_script.specs.declared.event.Event.{Event as EventOf};
-ghost use Rattle.world.specs.Answers.{Outturn};
-ghost use Rattle.world.specs.Calls.{IsReplay, IsRun, IsStarved};
-ghost use Rattle.world.specs.Runs.{IsFormattedFor};
-ghost use Rattle.world.specs.Steps.{Step as StepOf};
-ghost use Rattle.world.specs.World.{first_over};
-ghost use Rattle.world.specs.declared.parts.NoMemory.{NoMemory as NoMemoryOf};
+ghost use Rattle.world_steps.specs.Answers.{Outturn};
+ghost use Rattle.world_steps.specs.Calls.{IsStarved};
+ghost use Rattle.world_steps.specs.Runs.{IsFormattedFor};
+ghost use Rattle.world_steps.specs.Steps.{Step as StepOf};
+ghost use Rattle.world_steps.specs.World.{first_over};
+ghost use Rattle.world_steps.specs.declared.parts.NoMemory.{NoMemory as NoMemoryOf};
+ghost use Rattle.world.specs.Runs.{IsReplay, IsRun, IsRunTo, StopsIn, StopsReading};
 ghost use Rattle.world.specs.declared.runs.ReplayError.TheVariants as replay_error;
 
-use crate::parts::NoMemory;
-use crate::world::World;
 use event_script::{Event, Line, Script};
 use serial_meaning::Job;
 use std::alloc::Global;
 use thiserror::Error;
+use world_steps::{NoMemory, World};
 
 /// Where a run ended: the world to which it led, how many events were carried out, and E9 where the next one found no memory.
 #[derive(Drop)]
@@ -39,10 +39,33 @@ pub enum ReplayError {
 
 /// Events are carried out one after another, from the first world of a job on. It stops (E9) only at an event that applies and finds
 /// no memory; where that was the clearinghouse's, the clearinghouse is stopped. Refused where there is no memory for the first world
-/// alone (E9).
+/// alone (E9). In each world of it, from the first one on, no slot was filled twice and each value in one is the serial program's, no
+/// grant has two live holders, a recorded outcome is the job's meaning and stays, what was sent and what is held agrees with the
+/// serial meaning, and nothing is lost.
 pub fn run<'a>(alloc: Global, job: &'a Job, events: &[Event]) -> Result<RunEnd<'a>, NoMemory>
     ensures job { IfOk result (λ r. r.world.job ≡ job.now) }
     ensures run { IfOk result (λ r. IsRun job.now events.now r.done r.stopped r.world.world) }
+{
+    let _checked = job.checked();
+    carried_out(alloc, job, events)
+}
+
+/// The events of a script are carried out one after another, as `run` does. Refused by the first line that isn't of the form of
+/// `Script::new`, and no event is carried out then; and where there is no memory for the first world (E9). E9 may stop it at a
+/// Cut too, for whose bytes there is no memory; then nothing changes.
+pub fn replay<'a>(alloc: Global, job: &'a Job, text: &[u8]) -> Result<RunEnd<'a>, ReplayError>
+    ensures job { IfOk result (λ r. r.world.job ≡ job.now) }
+    ensures run { IfOk result (λ r. (events : List EventOf) × (script text.now ≡ Ok events) × IsReplay job.now events r.done r.stopped r.world.world) }
+    ensures line { (l : _) → result ≡ Err (replay_error.Line l) → script text.now ≡ Err l }
+{
+    let _checked = job.checked();
+    script_carried_out(alloc, job, text)
+}
+
+/// Events are carried out one after another.
+fn carried_out<'a>(alloc: Global, job: &'a Job, events: &[Event]) -> Result<RunEnd<'a>, NoMemory>
+    ensures job { IfOk result (λ r. r.world.job ≡ job.now) }
+    ensures run { IfOk result (λ r. IsRunTo (StopsIn job.now) job.now events.now r.done r.stopped r.world.world) }
 {
     let mut run = begun(alloc, job)?;
     for event in events {
@@ -53,12 +76,14 @@ pub fn run<'a>(alloc: Global, job: &'a Job, events: &[Event]) -> Result<RunEnd<'
     Ok(run)
 }
 
-/// The events of a script are carried out one after another, as `run` does. Refused by the first line that isn't of the form of
-/// `Script::new`, and no event is carried out then; and where there is no memory for the first world (E9). E9 may stop it at a
-/// Cut too, for whose bytes there is no memory; then nothing changes.
-pub fn replay<'a>(alloc: Global, job: &'a Job, text: &[u8]) -> Result<RunEnd<'a>, ReplayError>
+/// The events of a script are carried out one after another.
+fn script_carried_out<'a>(
+    alloc: Global,
+    job: &'a Job,
+    text: &[u8],
+) -> Result<RunEnd<'a>, ReplayError>
     ensures job { IfOk result (λ r. r.world.job ≡ job.now) }
-    ensures run { IfOk result (λ r. (events : List EventOf) × (script text.now ≡ Ok events) × IsReplay job.now events r.done r.stopped r.world.world) }
+    ensures run { IfOk result (λ r. (events : List EventOf) × (script text.now ≡ Ok events) × IsRunTo (StopsReading job.now) job.now events r.done r.stopped r.world.world) }
     ensures line { (l : _) → result ≡ Err (replay_error.Line l) → script text.now ≡ Err l }
 {
     let mut script = match Script::new(text) {

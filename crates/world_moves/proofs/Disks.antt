@@ -12,7 +12,7 @@ use Rattle.checkpoint.specs.Store.{Keeps, Reads}
 use Rattle.checkpoint.specs.declared.record.Record.{Record}
 use Rattle.checkpoint.proofs.Kept.{before_or_after}
 use Rattle.run_tables.proofs.Lists.{same_or}
-use Rattle.world.specs.Houses.{halted, made}
+use Rattle.world_steps.specs.Houses.{halted, made}
 
 -- what isn't synced settles
 pub settled_keeps : (f : List Cell) (bytes : List ℕ) (n : ℕ) (r : Record) → Keeps f n r → Keeps (settled f bytes) n r

@@ -8,9 +8,10 @@ use Rattle.run_tables.specs.Fills.{Once, SameSlot}
 use Rattle.run_tables.proofs.FillsKept.{fills_reached}
 use Rattle.run_tables.proofs.ValuesKept.{run_reached}
 use Rattle.node_moves.specs.Steps.{shown_fill, shown_fills}
-use Rattle.world.specs.Safe.{FilledOnce, SlotName, slot_of}
-use Rattle.world.specs.World.{WorldOf}
+use Rattle.world_steps.specs.Safe.{FilledOnce, SlotName, slot_of}
+use Rattle.world_steps.specs.World.{WorldOf}
 use Rattle.world_moves.specs.Shown.{Tied}
+use Rattle.world_moves.proofs.Places.{got}
 
 -- what was before is still of different slots
 once_before : (fs : List Fill) (before : List tables.Fill) → Once (shown_fills fs before) → Once before
@@ -22,15 +23,6 @@ later_apart : (fs : List Fill) (before : List tables.Fill) → Once (shown_fills
 later_apart [] before o f m y k = absurd m
 later_apart (x ∷ fs) before o f (inl e) y k = λ same. (once_before fs (shown_fill x ∷ before) o).0 y k (record { grant = ap (λ (z : Fill). z.grant) (sym e) ∙ same.grant; frame = ap (λ (z : Fill). z.frame) (sym e) ∙ same.frame; slot = ap (λ (z : Fill). z.slot) (sym e) ∙ same.slot })
 later_apart (x ∷ fs) before o f (inr m) y k = later_apart fs (shown_fill x ∷ before) o f m y (inr k)
-
-got : (fs : List Fill) (i : ℕ) (f : Fill) → slice_get fs i ≡ Some f → f ∈ fs
-got [] i f e = absurd (none i e)
-  where
-    none : (i : ℕ) → slice_get [] i ≡ Some f → ⊥
-    none zero e = cc
-    none (suc i) e = cc
-got (x ∷ fs) zero f e = inl (cc)
-got (x ∷ fs) (suc i) f e = inr (got fs i f e)
 
 same_slot : (f g : Fill) → slot_of f ≡ slot_of g → SameSlot (shown_fill f) (shown_fill g)
 same_slot f g e = record { grant = ap (λ (s : SlotName). s.grant) e; frame = ap (λ (s : SlotName). s.frame) e; slot = ap (λ (s : SlotName). s.slot) e }

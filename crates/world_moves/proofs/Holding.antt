@@ -16,7 +16,7 @@ use Rattle.run_tables.proofs.ValuesKept.{run_reached}
 use Rattle.node_moves.specs.Shows.{IsShown, NodeShown}
 use Rattle.node_moves.proofs.Held.{HeldAt, held_at}
 use Rattle.node_moves.proofs.Members.{member_shown}
-use Rattle.world.specs.World.{Holder, WorldOf, live_at}
+use Rattle.world_steps.specs.World.{Holder, WorldOf, live_at}
 use Rattle.world_moves.specs.Shown.{Tied}
 
 -- who holds something that isn't frozen is a member

@@ -18,23 +18,18 @@ use Rattle.run_tables.specs.View.{View}
 use Rattle.house_moves.specs.Steps.{HouseAnswerShown, HouseStepShown}
 use Rattle.house_moves.proofs.Moments.{passes_shown}
 use Rattle.house_moves.proofs.Table.{packet_shown}
-use Rattle.world.specs.Answers.{Outturn, house_same}
-use Rattle.world.specs.Houses.{Ends, Halts, Opens, RestartHalts, Restarts, calls_of, halted, made}
-use Rattle.world.specs.Steps.{HouseEnds, HouseHalts}
-use Rattle.world.specs.World.{Down, HouseAt, IsUp, WorldOf}
-use Rattle.world_moves.specs.Shown.{Closed, DiskShown, HouseShown, Tied}
+use Rattle.world_steps.specs.Answers.{Outturn, house_same}
+use Rattle.world_steps.specs.Houses.{Ends, Halts, Opens, RestartHalts, Restarts, calls_of, halted, made}
+use Rattle.world_steps.specs.Steps.{HouseEnds, HouseHalts}
+use Rattle.world_steps.specs.World.{Down, HouseAt, IsUp, WorldOf}
+use Rattle.world_moves.specs.Shown.{Closed, DiskShown, HouseShown, TiedSince}
 use Rattle.world_moves.proofs.Disks.{read_fails, read_keeps}
 use Rattle.world_moves.proofs.Housing.{own, stepped_tied}
 use Rattle.world_moves.proofs.Opening.{half_opened, opened_tied}
+use Rattle.world_moves.proofs.Places.{got}
 use Rattle.world_moves.proofs.Stopping.{IsShut, is_down, is_stopped, halted_tied, net_as, same_record, shut_tied, shuts}
 
-got : {X : Type 0} (xs : List X) (i : ℕ) (x : X) → slice_get xs i ≡ Some x → x ∈ xs
-got [] zero x e = cc
-got [] (suc i) x e = cc
-got (y ∷ ys) zero x e = inl (cc)
-got (y ∷ ys) (suc i) x e = inr (got ys i x e)
-
-module _ (job : JobOf) (w : WorldOf) (tied : Tied job w) where
+module _ (job : JobOf) (base : View) (w : WorldOf) (tied : TiedSince job base w) where
   abbrev v : View
   v = tied.view
 
@@ -50,35 +45,35 @@ module _ (job : JobOf) (w : WorldOf) (tied : Tied job w) where
   packet_promises p h (house.Does s) e = packet_keeps job p h s e
 
   module _ (h : HouseOf) (is : w.house ≡ IsUp (Open h)) where
-    ends_tied : (a : house.Answer) → HouseAnswerShown job v h a → Promises h a → (o : Outturn) → Ends job h a w o → Tied job o.world
+    ends_tied : (a : house.Answer) → HouseAnswerShown job v h a → Promises h a → (o : Outturn) → Ends job h a w o → TiedSince job base o.world
     ends_tied house.Ignored step keeps o e = rw e tied
     ends_tied (house.Refused f) step keeps o e = rw e tied
-    ends_tied (house.Does s) step keeps o e = rw (e.2) (stepped_tied job v w tied.run tied.shown h is s step keeps.holds keeps.commits e.0 e.1)
+    ends_tied (house.Does s) step keeps o e = rw (e.2) (stepped_tied job base v w tied.run tied.since tied.shown h is s step keeps.holds keeps.commits e.0 e.1)
 
-    halts_tied : (a : house.Answer) → HouseAnswerShown job v h a → Promises h a → (k : ℕ) (bytes : List ℕ) (o : Outturn) → Halts job h a k bytes w o → Tied job o.world
+    halts_tied : (a : house.Answer) → HouseAnswerShown job v h a → Promises h a → (k : ℕ) (bytes : List ℕ) (o : Outturn) → Halts job h a k bytes w o → TiedSince job base o.world
     halts_tied house.Ignored step keeps k bytes o e = absurd e
     halts_tied (house.Refused f) step keeps k bytes o e = absurd e
-    halts_tied (house.Does s) step keeps k bytes o e = rw (e.3) (halted_tied job v w tied.run tied.shown h is s step keeps.holds keeps.commits e.0 k bytes by.Device e.1 e.2)
+    halts_tied (house.Does s) step keeps k bytes o e = rw (e.3) (halted_tied job base v w tied.run tied.since tied.shown h is s step keeps.holds keeps.commits e.0 k bytes by.Device e.1 e.2)
 
     packet_here : (p : PacketOf) → p ∈ w.net → HouseAnswerShown job v h (on_packet job p h)
-    packet_here p m = let x = own job v w tied.run tied.shown h is in packet_shown job v tied.run h x.shown x.sound.listing.rising p (tied.shown.net p m)
+    packet_here p m = let x = own job base v w tied.run tied.since tied.shown h is in packet_shown job v tied.run h x.shown x.sound.listing.rising p (tied.shown.net p m)
 
     moment_here : (now : ℕ) → HouseStepShown job v h (passes job now h)
-    moment_here now = passes_shown job v tied.run h (own job v w tied.run tied.shown h is).shown now
+    moment_here now = passes_shown job v tied.run h (own job base v w tied.run tied.since tied.shown h is).shown now
 
-    open_ends : (e : HouseEvent) (o : Outturn) → HouseEnds job e (IsUp (Open h)) w o → Tied job o.world
+    open_ends : (e : HouseEvent) (o : Outturn) → HouseEnds job e (IsUp (Open h)) w o → TiedSince job base o.world
     open_ends (Deliver i) o ends = by_packet (slice_get w.net i) refl
       where
-        by_packet : (q : Option PacketOf) → slice_get w.net i ≡ q → Tied job o.world
+        by_packet : (q : Option PacketOf) → slice_get w.net i ≡ q → TiedSince job base o.world
         by_packet None e = let same : o ≡ house_same None w = rw e at ends in rw same tied
         by_packet (Some p) e = let done : Ends job h (on_packet job p h) w o = rw e at ends in ends_tied (on_packet job p h) (packet_here p (got w.net i p e)) (packet_promises p h (on_packet job p h) refl) o done
     open_ends (Tick now) o ends = ends_tied (house.Does (passes job now h)) (moment_here now) (moment_keeps job now h) o ends
     open_ends Restart o ends = rw ends tied
 
-    open_halts : (e : HouseEvent) (k : ℕ) (bytes : List ℕ) (o : Outturn) → HouseHalts job e (IsUp (Open h)) k bytes w o → Tied job o.world
+    open_halts : (e : HouseEvent) (k : ℕ) (bytes : List ℕ) (o : Outturn) → HouseHalts job e (IsUp (Open h)) k bytes w o → TiedSince job base o.world
     open_halts (Deliver i) k bytes o halts = by_packet (slice_get w.net i) refl
       where
-        by_packet : (q : Option PacketOf) → slice_get w.net i ≡ q → Tied job o.world
+        by_packet : (q : Option PacketOf) → slice_get w.net i ≡ q → TiedSince job base o.world
         by_packet None e = let never : ⊥ = rw e at halts in absurd never
         by_packet (Some p) e = let done : Halts job h (on_packet job p h) k bytes w o = rw e at halts in halts_tied (on_packet job p h) (packet_here p (got w.net i p e)) (packet_promises p h (on_packet job p h) refl) k bytes o done
     open_halts (Tick now) k bytes o halts = halts_tied (house.Does (passes job now h)) (moment_here now) (moment_keeps job now h) k bytes o halts
@@ -93,25 +88,25 @@ module _ (job : JobOf) (w : WorldOf) (tied : Tied job w) where
         by_shut _ is_down c = c
         by_shut _ (is_stopped s) c = c
 
-    restarts_tied : (o : Outturn) → Restarts job w o → Tied job o.world
-    restarts_tied o (inl (way, e)) = rw e (opened_tied job v w tied.run tied.shown closed way)
-    restarts_tied o (inr (f, refused, e)) = rw e (rw_house (shut_tied job w tied house (made w.disk opening) shut (λ n r k. read_keeps w.disk n r k)))
+    restarts_tied : (o : Outturn) → Restarts job w o → TiedSince job base o.world
+    restarts_tied o (inl (way, e)) = rw e (opened_tied job base v w tied.run tied.since tied.shown closed way)
+    restarts_tied o (inr (f, refused, e)) = rw e (rw_house (shut_tied job base w tied house (made w.disk opening) shut (λ n r k. read_keeps w.disk n r k)))
       where
-        rw_house : Tied job (record w { house = house; disk = made w.disk opening }) → Tied job (record w { disk = made w.disk opening })
-        rw_house t = subst (λ (x : HouseAt). Tied job (record w { house = x; disk = made w.disk opening })) (sym is) t
+        rw_house : TiedSince job base (record w { house = house; disk = made w.disk opening }) → TiedSince job base (record w { disk = made w.disk opening })
+        rw_house t = subst (λ (x : HouseAt). TiedSince job base (record w { house = x; disk = made w.disk opening })) (sym is) t
 
-    restart_halts_tied : (k : ℕ) (bytes : List ℕ) (o : Outturn) → RestartHalts job k bytes w o → Tied job o.world
+    restart_halts_tied : (k : ℕ) (bytes : List ℕ) (o : Outturn) → RestartHalts job k bytes w o → TiedSince job base o.world
     restart_halts_tied k bytes o (calls, why, within, e) = rw e (by_calls why)
       where
-        stops : (d : Device) → DiskShown job v d Down → Tied job (record w { house = IsUp (Stopped by.Device); disk = d; net = w.net ++ [] })
-        stops d disk = net_as job w (IsUp (Stopped by.Device)) d (shuts job v w tied.run tied.shown (IsUp (Stopped by.Device)) d (is_stopped by.Device) disk)
+        stops : (d : Device) → DiskShown job v d Down → TiedSince job base (record w { house = IsUp (Stopped by.Device); disk = d; net = w.net ++ [] })
+        stops d disk = net_as job base w (IsUp (Stopped by.Device)) d (shuts job base v w tied.run tied.since tied.shown (IsUp (Stopped by.Device)) d (is_stopped by.Device) disk)
 
-        by_calls : ((calls ≡ opening) ⊎ ((way : Opens job w.disk) × (calls ≡ calls_of way))) → Tied job (record w { house = IsUp (Stopped by.Device); disk = halted w.disk calls k bytes; net = w.net ++ [] })
+        by_calls : ((calls ≡ opening) ⊎ ((way : Opens job w.disk) × (calls ≡ calls_of way))) → TiedSince job base (record w { house = IsUp (Stopped by.Device); disk = halted w.disk calls k bytes; net = w.net ++ [] })
         by_calls (inl reads) = stops (halted w.disk calls k bytes) (same_record job v w.disk (halted w.disk calls k bytes) w.house (λ n r kept. (let one : k < length opening = rw reads at within in rw reads (read_fails w.disk n r kept bytes k one))) tied.shown.disk)
-        by_calls (inr (way, opens)) = stops (halted w.disk calls k bytes) (let some : k < length (calls_of way) = rw opens at within in rw opens (half_opened job v w tied.run tied.shown closed way k bytes some))
+        by_calls (inr (way, opens)) = stops (halted w.disk calls k bytes) (let some : k < length (calls_of way) = rw opens at within in rw opens (half_opened job base v w tied.run tied.since tied.shown closed way k bytes some))
 
   -- an event that ends, wherever the clearinghouse stands
-  pub house_ends : (e : HouseEvent) (x : HouseAt) → w.house ≡ x → (o : Outturn) → HouseEnds job e x w o → Tied job o.world
+  pub house_ends : (e : HouseEvent) (x : HouseAt) → w.house ≡ x → (o : Outturn) → HouseEnds job e x w o → TiedSince job base o.world
   house_ends e (IsUp (Open h)) is o ends = open_ends h is e o ends
   house_ends (Deliver i) (IsUp (Stopped s)) is o ends = rw ends tied
   house_ends (Tick now) (IsUp (Stopped s)) is o ends = rw ends tied
@@ -121,7 +116,7 @@ module _ (job : JobOf) (w : WorldOf) (tied : Tied job w) where
   house_ends Restart Down is o ends = restarts_tied Down is is_down o ends
 
   -- one in which a call of the disk fails
-  pub house_halts : (e : HouseEvent) (x : HouseAt) → w.house ≡ x → (k : ℕ) (bytes : List ℕ) (o : Outturn) → HouseHalts job e x k bytes w o → Tied job o.world
+  pub house_halts : (e : HouseEvent) (x : HouseAt) → w.house ≡ x → (k : ℕ) (bytes : List ℕ) (o : Outturn) → HouseHalts job e x k bytes w o → TiedSince job base o.world
   house_halts e (IsUp (Open h)) is k bytes o halts = open_halts h is e k bytes o halts
   house_halts (Deliver i) (IsUp (Stopped s)) is k bytes o halts = absurd halts
   house_halts (Tick now) (IsUp (Stopped s)) is k bytes o halts = absurd halts

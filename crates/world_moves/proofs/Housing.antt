@@ -15,7 +15,7 @@ use Rattle.clearinghouse.specs.Steps as house
 use Rattle.run_tables.specs.Tables.{◌∈◌}
 use Rattle.run_tables.specs.View.{Transfer, View}
 use Rattle.run_tables.specs.Facts.{of_worker}
-use Rattle.run_tables.specs.Runs.{Run}
+use Rattle.run_tables.specs.Runs.{Run, Leads}
 use Rattle.run_tables.proofs.HomesKept.{homes_reached}
 use Rattle.run_tables.proofs.Lists.{same_or}
 use Rattle.run_tables.proofs.ValuesKept.{run_reached}
@@ -24,9 +24,9 @@ use Rattle.node_moves.proofs.Told.{all_shown, both_shown, sent_early, sent_late}
 use Rattle.node_moves.specs.Steps.{AllShown, IsSent}
 use Rattle.house_moves.specs.Shows.{OpenShown}
 use Rattle.house_moves.specs.Steps.{HouseStepShown, meaning_of}
-use Rattle.world.specs.Houses.{MakesCalls, made}
-use Rattle.world.specs.World.{Down, HouseAt, IsUp, WorldOf, node_in}
-use Rattle.world_moves.specs.Shown.{UpAt, OpenHouse, DiskShown, Shown, Tied}
+use Rattle.world_steps.specs.Houses.{MakesCalls, made}
+use Rattle.world_steps.specs.World.{Down, HouseAt, IsUp, WorldOf, node_in}
+use Rattle.world_moves.specs.Shown.{UpAt, OpenHouse, DiskShown, Shown, TiedSince}
 use Rattle.world_moves.proofs.Disks.{committed}
 
 -- what is kept, by other names
@@ -37,7 +37,7 @@ kept_as {f = f} {n = n} {t = t} e q k = subst (λ x. Keeps f x t) e (subst (λ y
 pub open_disk : (job : JobOf) (v : View) (h : HouseOf) (d : Device) → OpenShown v h → Keeps d.file h.sequence (record_of job (kept_of h)) → DiskShown job v d (IsUp (Open h))
 open_disk job v h d s keeps = record { sequence = h.sequence; found = record_of job (kept_of h); keeps = keeps; stored = s.stored; epoch = rw s.epoch (omega arith); held = (refl, refl) }
 
-module _ (job : JobOf) (v : View) (w : WorldOf) (run : Run (meaning_of job) v) (shown : Shown job v w) (h : HouseOf) (is : w.house ≡ IsUp (Open h)) where
+module _ (job : JobOf) (base v : View) (w : WorldOf) (run : Run (meaning_of job) v) (since : Leads base v) (shown : Shown job v w) (h : HouseOf) (is : w.house ≡ IsUp (Open h)) where
   pub own : OpenHouse v h
   own = let s = shown.house in rw is at s
 
@@ -97,5 +97,5 @@ module _ (job : JobOf) (v : View) (w : WorldOf) (run : Run (meaning_of job) v) (
         by_commit None e none = by_none none e
         by_commit (Some k) e commit = same k (h.sequence + 1) (made w.disk calls).file e.0 e.2 (committed w.disk h.sequence (record_of job (kept_of h)) (record_of job k) calls own_kept commit)
 
-    pub stepped_tied : Tied job (record w { house = IsUp (Open s.after); disk = made w.disk calls; net = w.net ++ s.sent })
-    stepped_tied = record { view = step.view; run = step.run run; shown = house_stepped s (made w.disk calls) s.sent step (holds own.sound) after_kept step.sent step.transfers }
+    pub stepped_tied : TiedSince job base (record w { house = IsUp (Open s.after); disk = made w.disk calls; net = w.net ++ s.sent })
+    stepped_tied = record { view = step.view; run = step.run run; since = step.since base since; shown = house_stepped s (made w.disk calls) s.sent step (holds own.sound) after_kept step.sent step.transfers }

@@ -11,3 +11,4 @@ pub mod Stopping
 pub mod Opening
 pub mod HouseEvents
 pub mod Events
+pub mod Staying

@@ -16,7 +16,7 @@ use Rattle.run_tables.specs.Facts.{of_worker}
 use Rattle.run_tables.specs.Guards.{MayOpen}
 use Rattle.run_tables.specs.Moves.{open_house}
 use Rattle.run_tables.specs.Acts as acts
-use Rattle.run_tables.specs.Runs.{Run, by_right}
+use Rattle.run_tables.specs.Runs.{Run, by_right, Leads, leads_on}
 use Rattle.run_tables.proofs.EpochsKept.{epochs_reached, house_named, name_new}
 use Rattle.run_tables.proofs.Lists.{same_or}
 use Rattle.run_tables.proofs.ValuesKept.{run_reached}
@@ -28,9 +28,9 @@ use Rattle.node_moves.proofs.Beside.{node_beside}
 use Rattle.node_moves.proofs.Told.{all_shown, both_shown, none_shown, sent_early}
 use Rattle.house_moves.specs.Shows.{OpenShown, stored_of}
 use Rattle.house_moves.specs.Steps.{meaning_of}
-use Rattle.world.specs.Houses.{Opens, calls_of, halted, made, silence}
-use Rattle.world.specs.World.{Down, IsUp, WorldOf}
-use Rattle.world_moves.specs.Shown.{UpAt, Closed, DiskShown, Shown, Tied}
+use Rattle.world_steps.specs.Houses.{Opens, calls_of, halted, made, silence}
+use Rattle.world_steps.specs.World.{Down, IsUp, WorldOf}
+use Rattle.world_moves.specs.Shown.{UpAt, Closed, DiskShown, Shown, TiedSince}
 use Rattle.world_moves.proofs.Disks.{opening_committed, opening_cut_off}
 use Rattle.world_moves.proofs.Housing.{kept_as, open_disk}
 
@@ -78,7 +78,7 @@ lost_all v (k ∷ js) j m not = by_mode (λ x. lost_all v js j x not) (joins (v.
 clear_here : {K X : Type 0} (f : ℕ → K → Option X) (i : ℕ) (k : K) → clear f i i k ≡ None
 clear_here f i k = grind arith
 
-module _ (job : JobOf) (v : View) (w : WorldOf) (run : Run (meaning_of job) v) (shown : Shown job v w) (closed : Closed v) (way : Opens job w.disk) where
+module _ (job : JobOf) (base v : View) (w : WorldOf) (run : Run (meaning_of job) v) (since : Leads base v) (shown : Shown job v w) (closed : Closed v) (way : Opens job w.disk) where
   -- what is read is what is kept
   abbrev read : Kept
   read = kept_in way.sequence way.found
@@ -165,13 +165,14 @@ module _ (job : JobOf) (v : View) (w : WorldOf) (run : Run (meaning_of job) v) (
   no_worker : (n : NodeOf) → of_worker n.incarnation ≡ true → n.incarnation ≡ i → ⊥
   no_worker n worker e = let house : of_worker n.incarnation ≡ false = rw e (house_named (way.found.epoch + 1)) in let two : true ≡ false = sym worker ∙ house in cc
 
-  pub opened_tied : Tied job (record w { house = IsUp (Open new); disk = made w.disk (calls_of way); net = w.net ++ [] })
+  pub opened_tied : TiedSince job base (record w { house = IsUp (Open new); disk = made w.disk (calls_of way); net = w.net ++ [] })
   unfolding act
   opened_tied =
       let keeps : KeepsTables v x = keeps_one act in
       record {
         view = x;
         run = by_right run act tt;
+        since = leads_on since act;
         shown = record {
           nodes = λ a n at. node_beside v x n (others n.incarnation (no_worker n (shown.workers a n at))) keeps (shown.nodes a n at);
           workers = shown.workers;

@@ -1,9 +1,10 @@
--- The node at each place after one place changed.
-use Rattle.std.proofs.Common.{◌≡◌, ℕ, List, ◌⊎◌, inl, inr, ⊎_elim, Option, None, Some, sym, ap, ◌∙◌}
+-- The node at each place after one place changed, and what stands at a place of a list.
+use Rattle.std.proofs.Common.{◌≡◌, ℕ, suc, zero, List, [], ◌∷◌, ◌⊎◌, inl, inr, ⊎_elim, Option, None, Some, slice_get, sym, ap, ◌∙◌}
 use Rattle.ids.specs.Options.{◌>>=◌}
 use Rattle.node_state.specs.Node.{NodeOf}
+use Rattle.run_tables.specs.Tables.{◌∈◌}
 use Rattle.run_tables.proofs.Lists.{same_or}
-use Rattle.world.specs.World.{Up, node_in, place_of, put_node, without_node}
+use Rattle.world_steps.specs.World.{Up, node_in, place_of, put_node, without_node}
 use Rattle.world_moves.proofs.Keyed.{found, others, gone, none}
 
 pub put_here : (a : ℕ) (n : NodeOf) (nodes : List Up) → node_in a (put_node a n nodes) ≡ Some n
@@ -27,3 +28,10 @@ new_or_old a b n o nodes there = ⊎_elim
   where
     some_same : {x y : NodeOf} → Some x ≡ Some y → x ≡ y
     some_same e = cc
+
+-- an item of a list, by its place
+pub got : {X : Type 0} (xs : List X) (i : ℕ) (x : X) → slice_get xs i ≡ Some x → x ∈ xs
+got [] zero x e = cc
+got [] (suc i) x e = cc
+got (y ∷ ys) zero x e = inl (cc)
+got (y ∷ ys) (suc i) x e = inr (got ys i x e)

@@ -10,7 +10,7 @@ use Rattle.run_tables.specs.Program.{program_meaning}
 use Rattle.run_tables.proofs.ProgramMeaning.{program_serial}
 use Rattle.run_tables.proofs.ValuesKept.{values_run}
 use Rattle.content_moves.specs.Shown.{number_of}
-use Rattle.world.specs.World.{Down, HouseAt, IsUp, WorldOf, recorded, recorded_at}
+use Rattle.world_steps.specs.World.{Down, HouseAt, IsUp, WorldOf, recorded, recorded_at}
 use Rattle.house_moves.specs.Shows.{stored_of}
 use Rattle.world_moves.specs.Shown.{HouseShown, Tied}
 

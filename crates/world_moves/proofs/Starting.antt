@@ -16,7 +16,7 @@ use Rattle.run_tables.specs.View as tables
 use Rattle.run_tables.specs.Facts.{of_worker}
 use Rattle.run_tables.specs.Moves.{start}
 use Rattle.run_tables.specs.Acts as acts
-use Rattle.run_tables.specs.Runs.{Run, by_right}
+use Rattle.run_tables.specs.Runs.{Run, by_right, Leads, leads_on}
 use Rattle.run_tables.proofs.HomesKept.{homes_reached}
 use Rattle.run_tables.proofs.Lists.{same_or}
 use Rattle.run_tables.proofs.ValuesKept.{run_reached}
@@ -24,16 +24,16 @@ use Rattle.content_moves.proofs.Entries.{put_here as entry_here, put_other as en
 use Rattle.content_moves.proofs.Orders.{none_order}
 use Rattle.actor_moves.specs.Beside.{SameAt, SameHouse, Keeps, unmoved}
 use Rattle.actor_moves.proofs.Others.{beside, clear_other}
-use Rattle.actor_moves.proofs.Sent.{house_all, keeps_all, keeps_one, runs_on, used_all}
+use Rattle.actor_moves.proofs.Sent.{house_all, keeps_all, keeps_one, runs_on, used_all, leads_all}
 use Rattle.node_moves.specs.Shows.{PartsShown, NodeShown}
 use Rattle.node_moves.specs.Steps.{StepShown}
 use Rattle.node_moves.proofs.Beside.{node_beside}
 use Rattle.node_moves.proofs.Told.{all_shown, both_shown, one_shown, sent_early, fills_on}
 use Rattle.node_moves.proofs.Rostering.{ends_shown}
-use Rattle.world.specs.Answers.{stepped}
-use Rattle.world.specs.World.{WorldOf, is_used, name_of_word, node_in, with_used, without_node}
+use Rattle.world_steps.specs.Answers.{stepped}
+use Rattle.world_steps.specs.World.{WorldOf, is_used, name_of_word, node_in, with_used, without_node}
 use Rattle.house_moves.specs.Steps.{meaning_of}
-use Rattle.world_moves.specs.Shown.{UpAt, Shown, Tied}
+use Rattle.world_moves.specs.Shown.{UpAt, Shown, TiedSince}
 use Rattle.world_moves.proofs.Places.{put_here, put_beside, gone_here, gone_beside, new_or_old}
 use Rattle.world_moves.proofs.Stepping.{disk_beside, house_beside, not_house}
 
@@ -72,9 +72,9 @@ used_still word i w used = ⊎_elim
     (λ (other : i ≡ word → ⊥). ap (λ (o : Option ℕ). is_some o) (put_stays name_of_word (i, 0) word w.used (λ z. other (ap (λ (k : ℕ × ℕ). k.0) z))) ∙ used)
     (same_or i word)
 
-module _ (job : JobOf) (v : View) (w : WorldOf) (run : Run (meaning_of job) v) (shown : Shown job v w) where
+module _ (job : JobOf) (base v : View) (w : WorldOf) (run : Run (meaning_of job) v) (since : Leads base v) (shown : Shown job v w) where
   -- a node starts at a place where none is, with a word that wasn't used
-  pub start_tied : (a word : ℕ) → of_worker word ≡ true → is_used word w ≡ false → node_in a w.nodes ≡ None → Tied job (stepped a (call.start job word) (with_used word w)).world
+  pub start_tied : (a word : ℕ) → of_worker word ≡ true → is_used word w ≡ false → node_in a w.nodes ≡ None → TiedSince job base (stepped a (call.start job word) (with_used word w)).world
   start_tied a word worker unused free =
       let new : word ∈ v.used → ⊥ = λ m. (let used = shown.words word m worker in let two : true ≡ false = sym used ∙ unused in cc) in
       let act : acts.Act v (start v word) = acts.starts word new worker in
@@ -88,6 +88,7 @@ module _ (job : JobOf) (v : View) (w : WorldOf) (run : Run (meaning_of job) v) (
       record {
         view = x;
         run = by_right run act tt;
+        since = leads_on since act;
         shown = record {
           nodes = λ b o at. ⊎_elim
               (λ now. rw (now.1) (start_shown v word))
@@ -117,7 +118,7 @@ module _ (job : JobOf) (v : View) (w : WorldOf) (run : Run (meaning_of job) v) (
       }
 
   -- a node is gone, whose work is over in the tables
-  pub gone_tied : (a : ℕ) (n : NodeOf) → node_in a w.nodes ≡ Some n → Tied job (record w { nodes = without_node a w.nodes })
+  pub gone_tied : (a : ℕ) (n : NodeOf) → node_in a w.nodes ≡ Some n → TiedSince job base (record w { nodes = without_node a w.nodes })
   gone_tied a n there = by_stage n.state refl
     where
       one : {o : Option NodeOf} {p q : NodeOf} → o ≡ Some p → o ≡ Some q → p ≡ q
@@ -132,7 +133,7 @@ module _ (job : JobOf) (v : View) (w : WorldOf) (run : Run (meaning_of job) v) (
           (λ (other : b ≡ a → ⊥). (other, sym (gone_beside a b w.nodes other) ∙ at))
           (same_or b a)
 
-      by_step : (s : StepShown (meaning_of job) job.number v n (quiet (ended n))) → Tied job (record w { nodes = without_node a w.nodes })
+      by_step : (s : StepShown (meaning_of job) job.number v n (quiet (ended n))) → TiedSince job base (record w { nodes = without_node a w.nodes })
       by_step s =
           let x = s.view in
           let keeps : Keeps v x = keeps_all s.way in
@@ -144,6 +145,7 @@ module _ (job : JobOf) (v : View) (w : WorldOf) (run : Run (meaning_of job) v) (
           record {
             view = x;
             run = runs_on run s.way;
+            since = leads_all since s.way;
             shown = record {
               nodes = λ b o at. (let k = old_at b o at in node_beside v x o (others o.incarnation (λ e. k.0 (shown.apart b a o n k.1 there e))) keeps (shown.nodes b o k.1));
               workers = λ b o at. shown.workers b o (old_at b o at).1;
@@ -166,10 +168,10 @@ module _ (job : JobOf) (v : View) (w : WorldOf) (run : Run (meaning_of job) v) (
             };
           }
 
-      ends : Works (v.mode n.incarnation) → Tied job (record w { nodes = without_node a w.nodes })
+      ends : Works (v.mode n.incarnation) → TiedSince job base (record w { nodes = without_node a w.nodes })
       ends up = by_step (ends_shown (meaning_of job) job v n run (shown.nodes a n there) up (not_house v n (shown.nodes a n there)))
 
-      by_stage : (x : Stage) → n.state ≡ x → Tied job (record w { nodes = without_node a w.nodes })
+      by_stage : (x : Stage) → n.state ≡ x → TiedSince job base (record w { nodes = without_node a w.nodes })
       by_stage Joining e = ends (rw ((shown.nodes a n there).mode, e) tt)
       by_stage (Member r) e = ends (rw ((shown.nodes a n there).mode, e) tt)
       by_stage (Leaving r heir) e = ends (rw ((shown.nodes a n there).mode, e) tt)

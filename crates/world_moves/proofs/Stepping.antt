@@ -8,23 +8,23 @@ use Rattle.node_core.specs.Steps as node
 use Rattle.clearinghouse.specs.House.{HouseOf, Open, Stopped, name_of}
 use Rattle.run_tables.specs.View.{House, View}
 use Rattle.run_tables.specs.Facts.{of_worker}
-use Rattle.run_tables.specs.Runs.{Run}
+use Rattle.run_tables.specs.Runs.{Run, Leads}
 use Rattle.run_tables.proofs.HomesKept.{homes_reached}
 use Rattle.run_tables.proofs.Lists.{same_or}
 use Rattle.run_tables.proofs.ValuesKept.{run_reached}
 use Rattle.actor_moves.specs.Beside.{SameAt, SameHouse, Keeps}
 use Rattle.actor_moves.proofs.Others.{beside}
-use Rattle.actor_moves.proofs.Sent.{house_all, keeps_all, runs_on, used_all}
+use Rattle.actor_moves.proofs.Sent.{house_all, keeps_all, runs_on, used_all, leads_all}
 use Rattle.node_moves.specs.Shows.{mode_of, NodeShown}
 use Rattle.node_moves.specs.Steps.{StepShown, AnswerShown, shown_fills}
 use Rattle.node_moves.proofs.Beside.{node_beside}
 use Rattle.node_moves.proofs.Told.{packet_kept, all_shown, both_shown, sent_early, sent_late, fills_on}
-use Rattle.world.specs.Answers.{answered, stepped}
-use Rattle.world.specs.World.{Down, HouseAt, IsUp, Up, WorldOf, node_in, put_node}
+use Rattle.world_steps.specs.Answers.{answered, stepped}
+use Rattle.world_steps.specs.World.{Down, HouseAt, IsUp, Up, WorldOf, node_in, put_node}
 use Rattle.house_moves.specs.Shows.{OpenShown}
 use Rattle.house_moves.specs.Steps.{meaning_of}
 use Rattle.disk.specs.Device.{Device}
-use Rattle.world_moves.specs.Shown.{UpAt, Closed, HouseShown, DiskShown, Shown, Tied}
+use Rattle.world_moves.specs.Shown.{UpAt, Closed, HouseShown, DiskShown, Shown, TiedSince}
 use Rattle.world_moves.proofs.Places.{put_here, put_beside, new_or_old}
 
 -- the clearinghouse stays shown by moves of a worker
@@ -73,7 +73,7 @@ not_house v n s e = by_state n.state (sym s.mode ∙ e)
     by_state (Leaving r heir) e = cc
     by_state Ended e = cc
 
-module _ (job : JobOf) (v : View) (w : WorldOf) (run : Run (meaning_of job) v) (shown : Shown job v w) (a : ℕ) (n : NodeOf) (there : node_in a w.nodes ≡ Some n) where
+module _ (job : JobOf) (base v : View) (w : WorldOf) (run : Run (meaning_of job) v) (since : Leads base v) (shown : Shown job v w) (a : ℕ) (n : NodeOf) (there : node_in a w.nodes ≡ Some n) where
   stepped_shown : (s : node.StepOf) → (step : StepShown (meaning_of job) job.number v n s) → Shown job step.view (stepped a s w).world
   stepped_shown s step =
       let x = step.view in
@@ -127,7 +127,7 @@ module _ (job : JobOf) (v : View) (w : WorldOf) (run : Run (meaning_of job) v) (
       one e f = cc
 
   -- what a node answers leads to a world that is tied as well
-  pub answered_tied : (ans : node.Answer) → AnswerShown (meaning_of job) job.number v n ans → Tied job (answered a ans w).world
-  answered_tied node.Ignored s = record { view = v; run = run; shown = shown }
-  answered_tied (node.Refused e) s = record { view = v; run = run; shown = shown }
-  answered_tied (node.Does step) s = record { view = s.view; run = runs_on run s.way; shown = stepped_shown step s }
+  pub answered_tied : (ans : node.Answer) → AnswerShown (meaning_of job) job.number v n ans → TiedSince job base (answered a ans w).world
+  answered_tied node.Ignored s = record { view = v; run = run; since = since; shown = shown }
+  answered_tied (node.Refused e) s = record { view = v; run = run; since = since; shown = shown }
+  answered_tied (node.Does step) s = record { view = s.view; run = runs_on run s.way; since = leads_all since s.way; shown = stepped_shown step s }

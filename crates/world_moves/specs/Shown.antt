@@ -11,12 +11,12 @@ use Rattle.clearinghouse.specs.Meeting.{record_of}
 use Rattle.run_tables.specs.Tables.{◌∈◌}
 use Rattle.run_tables.specs.View.{Transfer, House, Works, View}
 use Rattle.run_tables.specs.Facts.{of_worker}
-use Rattle.run_tables.specs.Runs.{Run}
+use Rattle.run_tables.specs.Runs.{Run, Leads, stays_at}
 use Rattle.node_moves.specs.Shows.{NodeShown}
 use Rattle.node_moves.specs.Steps.{AllShown, IsSent, shown_fills}
 use Rattle.house_moves.specs.Shows.{OpenShown, stored_of}
 use Rattle.house_moves.specs.Steps.{meaning_of}
-use Rattle.world.specs.World.{Down, HouseAt, IsUp, WorldOf, is_used, node_in}
+use Rattle.world_steps.specs.World.{Down, HouseAt, IsUp, WorldOf, is_used, node_in}
 
 -- a node of that name is up
 pub record UpAt (w : WorldOf) (i : ℕ) : Type 0 where
@@ -83,3 +83,17 @@ pub record Tied (job : JobOf) (w : WorldOf) : Type 0 where
   pub view : View
   pub run : Run (meaning_of job) view
   pub shown : Shown job view w
+
+-- and so do tables to which others lead by moves
+pub record TiedSince (job : JobOf) (base : View) (w : WorldOf) : Type 0 where
+  pub view : View
+  pub run : Run (meaning_of job) view
+  pub since : Leads base view
+  pub shown : Shown job view w
+
+-- a world is tied by itself, and a step from tables to tables
+abbrev pub tied_of : {job : JobOf} {base : View} {w : WorldOf} → TiedSince job base w → Tied job w
+tied_of t = record { view = t.view; run = t.run; shown = t.shown }
+
+abbrev pub tied_here : {job : JobOf} {w : WorldOf} → (t : Tied job w) → TiedSince job t.view w
+tied_here t = record { view = t.view; run = t.run; since = stays_at; shown = t.shown }

@@ -11,9 +11,6 @@
 //! crashes, the disk over commits, openings, Cuts and crashes (proofs/Disks, Stopping, Opening), and how one actor's moves leave the
 //! rest of the world shown (proofs/Stepping, Housing). A call of the disk that fails in a commit leaves the record before or the
 //! next one; the tables follow what the disk has then.
-//!
-//! Still to come: that each fill is by the serial value, that an outcome stays from world to world, that packets and what is held
-//! agree with the serial meaning, that nothing is lost, and all of it as the contract of a run.
 #![tactic(auto)]
 
 mod laws;

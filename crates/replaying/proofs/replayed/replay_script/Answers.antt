@@ -1,9 +1,9 @@
 use Rattle.std.proofs.Common.{◌≡◌, ◌∙◌, ℕ, List, refl, subst, sym, false, Option, None, Some, is_some}
 use Rattle.event_script.specs.declared.event.Event.{Event}
 use Rattle.serial_meaning.specs.Job.{JobOf}
-use Rattle.world.specs.Calls.{IsReplay, IsRun}
-use Rattle.world.specs.World.{WorldOf}
-use Rattle.world.specs.declared.parts.NoMemory.{NoMemory}
+use Rattle.world.specs.Runs.{IsReplay, IsRun}
+use Rattle.world_steps.specs.World.{WorldOf}
+use Rattle.world_steps.specs.declared.parts.NoMemory.{NoMemory}
 use Rattle.replaying.proofs.replayed.replay_script.Goals as goal
 
 none_is : (o : Option NoMemory) → is_some o ≡ false → o ≡ None
@@ -14,7 +14,7 @@ none_is (Some e) is = absurd cc
 whole : (job : JobOf) (events : List Event) (done : ℕ) (stopped : Option NoMemory) (v : WorldOf) → stopped ≡ None → IsReplay job events done stopped v → IsRun job events done None v
 whole job events done stopped v none replay =
     let r : IsReplay job events done None v = subst (λ s. IsReplay job events done s v) none replay in
-    record { disk = r.disk; formatted = r.formatted; entries = r.entries; worlds = r.worlds; runs = r.runs; carried = r.carried; ends = r.ends }
+    record { run = record { disk = r.run.disk; formatted = r.run.formatted; entries = r.run.entries; worlds = r.run.worlds; runs = r.run.runs; carried = r.run.carried; ends = r.run.ends }; safe = r.safe }
 
 pub returns-clause-run : goal.returns-clause-run
 returns-clause-run c =

@@ -1,12 +1,12 @@
-use Rattle.world.specs.World.{first_over}
-use Rattle.world_moves.proofs.Events.{first_tied, runs_tied, step_tied}
+use Rattle.world_moves.specs.Shown.{tied_here}
+use Rattle.world_moves.proofs.Events.{first_tied, run_tied, step_tied}
 use Rattle.world_moves.proofs.laws.steps_are_moves.Goals as goal
 
 pub returns-clause-first : goal.returns-clause-first
 returns-clause-first c = λ job d can. first_tied job d can
 
 pub returns-clause-step : goal.returns-clause-step
-returns-clause-step c = λ job w e o tied step. step_tied job w tied e o step
+returns-clause-step c = λ job w e o tied step. step_tied job tied.view w (tied_here tied) e o step
 
 pub returns-clause-runs : goal.returns-clause-runs
-returns-clause-runs c = λ job d entries worlds v can runs m. runs_tied job (first_over d) entries worlds runs (first_tied job d can) v m
+returns-clause-runs c = λ job d entries worlds v can runs m. run_tied job d entries worlds v can runs m

@@ -1,0 +1,84 @@
+-- A content changes: by a turn that is carried out, or by a Result.
+use Rattle.std.proofs.Common.{◌≡◌, ℕ, [], ◌∷◌, Option, None, Some, Result, Ok, Err, inl, inr, refl}
+use Rattle.ids.specs.Names.{Grant}
+use Rattle.ids.specs.Options.{◌>>=◌}
+use Rattle.ids.specs.declared.work.Record.{Record}
+use Rattle.kind_check.specs.Turns.{turn_of}
+use Rattle.kind_check.specs.declared.turn.Turn.{Turn}
+use Rattle.body_eval.specs.Done.{DoneOf}
+use Rattle.codec.specs.declared.body.TaskResult.{TaskResult}
+use Rattle.serial_meaning.specs.Job.{JobOf, IsJob}
+use Rattle.victim_records.specs.Records.{record_in}
+use Rattle.sub_rules.specs.Carrying.{exec as carried_out}
+use Rattle.sub_rules.specs.Changes.{closed}
+use Rattle.sub_rules.specs.declared.change.Change.{Change}
+use Rattle.sub_rules.specs.declared.change.Filling.{Filling}
+use Rattle.sub_rules.specs.declared.change.SubError.{SubError}
+use Rattle.sub_rules.specs.declared.change.SubError.TheVariants as sub
+use Rattle.subcomputation.specs.Subs.{SubOf, host_in, sub_in, with_content}
+use Rattle.node_state.specs.Node.{NodeOf}
+use Rattle.node_state.specs.Posts.{ReadyFrame, ready_at}
+use Rattle.node_core.specs.Calls as calls
+use Rattle.node_core.specs.Cases.{by_option, returned}
+use Rattle.node_core.specs.Moves.{aborts, changes, closes, result_ack, results}
+use Rattle.node_core.specs.Steps.{Refused, fill_of, fills_of, for_some, sends}
+use Rattle.node_core.specs.declared.error.NodeError.TheVariants as error
+use Rattle.node_core.specs.declared.parts.Fill.{Fill}
+use Rattle.run_tables.specs.Tables.{◌∈◌}
+use Rattle.agreement.specs.Agreement.{FillAgrees, IsReceived}
+use Rattle.content_moves.proofs.Apart.{own_grant}
+use Rattle.actor_agreement.specs.Values.{AnswerIsRight, IsOutcomeAt, NodeIsRight, StepIsRight, filling_of}
+use Rattle.actor_agreement.proofs.Among.{found_among}
+use Rattle.actor_agreement.proofs.Contents.{ChangeIsRight, closed_right, executed_right}
+use Rattle.actor_agreement.proofs.Sent.{aborts_right, both_sent, results_right}
+use Rattle.actor_agreement.proofs.Steps.{if_there, in_state, put_right, quiet_right, sends_one, then_right}
+
+-- the value that a change puts into a slot
+fills_right : (job : JobOf) (g : Grant) (o : Option Filling) → FillAgrees job o → (f : Fill) → f ∈ fills_of g o → IsReceived job (filling_of f)
+fills_right job g None agrees f m = absurd m
+fills_right job g (Some x) agrees f (inl e) = let received : IsReceived job (filling_of (fill_of g x)) = agrees in rw e received
+fills_right job g (Some x) agrees f (inr m) = absurd m
+
+module _ (job : JobOf) (n : NodeOf) (right : NodeIsRight job n) where
+  changes_right : (s : SubOf) (c : Change) → ChangeIsRight job c → StepIsRight job (changes job s c n)
+  changes_right s c changed = record {
+    after = record { subs = put_right job (with_content s c.after) n.subs changed.after right.subs; replies = right.replies };
+    sent = both_sent job (aborts job c.dropped) (results job n.incarnation (with_content s c.after)) (aborts_right job c.dropped) (results_right job n.incarnation (with_content s c.after));
+    fills = fills_right job s.grant c.fill changed.fill;
+  }
+
+  -- a record is closed by a Result that tells the outcome of its task
+  closes_right : (b : TaskResult) → IsOutcomeAt job n b → StepIsRight job (closes job b.grant b.outcome n)
+  unfolding for_some
+  closes_right b is = by_sub (host_in b.grant n.subs) refl
+    where
+      by_record : (s : SubOf) → s ∈ n.subs → (o : Option Record) → record_in b.grant s.content.records ≡ o → StepIsRight job (for_some o (λ x. changes job s (closed x b.outcome s.content)) n)
+      by_record s held None e = quiet_right job n right
+      by_record s held (Some x) e = changes_right s (closed x b.outcome s.content) (closed_right job s.content x b.outcome (right.subs s held) (rw (own_grant b.grant x s.content.records e) at e) (is s x held e))
+
+      by_sub : (o : Option SubOf) → host_in b.grant n.subs ≡ o → StepIsRight job (for_some o (λ s. for_some (record_in b.grant s.content.records) (λ x. changes job s (closed x b.outcome s.content))) n)
+      by_sub None e = quiet_right job n right
+      by_sub (Some s) e = by_record s (found_among _ s n.subs e) (record_in b.grant s.content.records) refl
+
+  pub returned_right : (b : TaskResult) → IsOutcomeAt job n b → AnswerIsRight job (returned job b n)
+  returned_right b is = then_right job (sends (result_ack job b.from b.grant ∷ []) n) (closes job b.grant b.outcome) (sends_one job (result_ack job b.from b.grant) n tt right) (closes_right b is)
+
+  -- a turn is carried out that ends as the job's program does
+  exec_right : IsJob job → (d : DoneOf) (g : Grant) (f : ℕ) → turn_of job.program d.thread d.numbers ≡ Some d.turn → AnswerIsRight job (calls.exec job d g f n)
+  unfolding calls.exec
+  exec_right accepted d g f end = in_state job n.state _ _ _ _ tt (λ r. if_there job (sub_in g n.subs) _ _ tt (λ s e. by_change s (found_among _ s n.subs e) (carried_out d f s.content) refl)) (λ r heir. tt) tt
+    where
+      by_change : (s : SubOf) → s ∈ n.subs → (o : Result Change SubError) → carried_out d f s.content ≡ o → AnswerIsRight job (calls.changed job s n o)
+      by_change s held (Ok c) is = changes_right s c (executed_right job s.content d f c accepted end (right.subs s held) is)
+      by_change s held (Err sub.Stale) is = tt
+      by_change s held (Err sub.Spent) is = tt
+      by_change s held (Err sub.Memory) is = tt
+
+  -- that of a ready frame
+  pub exec_ready_right : IsJob job → (g : Grant) (f : ℕ) → AnswerIsRight job (calls.exec_ready job g f n)
+  unfolding by_option
+  exec_ready_right accepted g f = in_state job n.state _ _ _ _ tt (λ r. if_there job (ready_at n g f) _ _ tt (λ x e. by_turn x (turn_of job.program x.ready.frame.thread x.ready.numbers) refl)) (λ r heir. tt) tt
+    where
+      by_turn : (x : ReadyFrame) (o : Option Turn) → turn_of job.program x.ready.frame.thread x.ready.numbers ≡ o → AnswerIsRight job (by_option (o >>= (λ turn. Some (record { program = job.program; thread = x.ready.frame.thread; numbers = x.ready.numbers; turn = turn }))) (Refused error.Stale) (λ d. calls.exec job d g f n))
+      by_turn x None e = tt
+      by_turn x (Some turn) e = exec_right accepted (record { program = job.program; thread = x.ready.frame.thread; numbers = x.ready.numbers; turn = turn }) g f e

@@ -1,0 +1,427 @@
+//! The world, and its steps.
+ghost use Rattle.std.specs.Prelude.{◌≡◌, ◌++◌, ◌&&◌, [], true, false, if◌then◌else◌, is_some, length, IfOk, Option, OnErr, OnOk, Some, None, option_copied, replicate, slice_get};
+ghost use Rattle.disk.specs.Device.{Device};
+ghost use Rattle.world_steps.specs.Answers.{Outturn};
+ghost use Rattle.node_core.specs.Cases.{Choice};
+ghost use Rattle.node_core.specs.Choosing.{MayChoose};
+ghost use Rattle.node_core.specs.declared.error.NodeError.TheVariants.{Memory};
+ghost use Rattle.node_state.specs.Node.{NodeOf};
+ghost use Rattle.world_steps.specs.Calls.{Came, IsOfJob, IsStarved, delivered_in, is_there, told_of};
+ghost use Rattle.world_steps.specs.Nodes.{can_start};
+ghost use Rattle.world_steps.specs.Seats.{IsFound};
+ghost use Rattle.world_steps.specs.Runs.{IsFormattedFor};
+ghost use Rattle.world_steps.specs.Steps.{Step as StepOf};
+ghost use Rattle.world_steps.specs.World.{WorldOf, first_over, node_in, put_node, recorded, with_used, without_node};
+ghost use Rattle.world_steps.specs.declared.parts.Told.TheVariants as told;
+ghost use Rattle.event_script.specs.declared.event.Event.TheVariants as events;
+
+use crate::kept::Kept;
+use crate::nodes::carry_out;
+use crate::parts::{NoMemory, Told, Word};
+use crate::seat::{Reply, Seat};
+use body_eval::Done;
+use codec::Datagram;
+use event_script::{Cut, Event, HouseEvent, NodeEvent, NodePlace};
+use ids::{Incarnation, Outcome, Store};
+use node_core::{Fill, Node, NodeError, Step};
+use serial_meaning::Job;
+use std::alloc::Global;
+use std::marker::Model;
+use std::mem;
+
+/// How many places of nodes there are.
+const PLACES: usize = 64;
+
+/// The world of a job: the nodes that are up, the clearinghouse and its disk, the packets that were sent, the values that were put
+/// into slots, and the start words that were used. Contracts see the job, these, and whether all that was sent and put into slots
+/// has its place.
+#[derive(Drop)]
+pub struct World<'a> {
+    job: &'a Job,
+    nodes: Vec<Option<Node<'a>>>,
+    seat: Seat<'a>,
+    net: Kept<Datagram>,
+    fills: Kept<Fill>,
+    used: Store<Word>,
+}
+
+impl<'a> Model for World<'a> {
+    ghost use Rattle.std.specs.Prelude.{◌&&◌};
+    ghost use Rattle.std.specs.Coded.{codes as known};
+    ghost use Rattle.task_syntax.specs.contracts.tree.Expr as expr;
+    ghost use Rattle.task_syntax.specs.contracts.tree.Block as block;
+    ghost use Rattle.task_syntax.specs.contracts.tree.End as end;
+    ghost use Rattle.world_steps.specs.Calls.{WorldOn};
+    ghost use Rattle.world_steps.specs.Places.{IsWorld, ups};
+
+    ghost Value = { WorldOn };
+
+    ghost coded = { Prim.hlevel (known, expr.the_row.coded, block.the_row.coded, end.the_row.coded) };
+
+    ghost view = { λ w. record { job = w.job.now; world = record { nodes = ups w.nodes.items; house = w.seat.house; disk = w.seat.disk; net = w.net.all; fills = w.fills.all; used = w.used }; is_placed = w.net.is_placed && w.fills.is_placed } };
+
+    ghost invariant = { λ w. IsWorld w.job.now w.seat.job w.nodes.items };
+}
+
+impl<'a> World<'a> {
+    /// The first world of a job: no node is up, the clearinghouse is down over a disk that was formatted for the job, which can be cut
+    /// and isn't armed, and nothing was sent.
+    /// Refused for want of memory alone (E9).
+    pub fn new(alloc: Global, job: &'a Job) -> Result<World<'a>, NoMemory>
+        ensures { IfOk result (λ w. (d : Device) × IsFormattedFor job.now d × (w ≡ record { job = job.now; world = first_over d; is_placed = true })) }
+    {
+        Ok(World {
+            job,
+            nodes: no_nodes(alloc)?,
+            seat: Seat::new(alloc, job)?,
+            net: Kept::new(alloc),
+            fills: Kept::new(alloc),
+            used: Store::new(alloc),
+        })
+    }
+
+    /// How many packets were sent.
+    pub fn packets(&self) -> usize
+        ensures { result ≡ length self.now.world.net }
+    {
+        self.net.len()
+    }
+
+    /// The packet after so many others.
+    pub fn packet(&self, index: u64) -> Option<&Datagram>
+        ensures { option_copied result ≡ slice_get self.now.world.net index }
+    {
+        self.net.get(index)
+    }
+
+    /// How many values were put into slots.
+    pub fn fills(&self) -> usize
+        ensures { result ≡ length self.now.world.fills }
+    {
+        self.fills.len()
+    }
+
+    /// The value after so many others.
+    pub fn fill(&self, index: u64) -> Option<&Fill>
+        ensures { option_copied result ≡ slice_get self.now.world.fills index }
+    {
+        self.fills.get(index)
+    }
+
+    /// The outcome that an open clearinghouse has recorded.
+    pub fn outcome(&self) -> Option<Outcome>
+        ensures { result ≡ recorded self.now.world }
+    {
+        self.seat.outcome()
+    }
+
+    /// An event is carried out. For an Exec a turn may be at hand, of the job's program: one that is the ready frame's own, of its
+    /// thread on its numbers, is used, and another one is put aside. What doesn't apply, or is refused, changes nothing. A device call
+    /// that fails stops the clearinghouse; only the read of an opening does by itself, for want of memory. E9 where the event finds
+    /// no memory: the world is as it was, but a clearinghouse that was to answer is stopped.
+    pub fn step(
+        &mut self,
+        alloc: Global,
+        event: &Event,
+        turn: Option<&Done>,
+    ) -> Result<Told, NoMemory>
+        requires { IsOfJob self.old.job (option_copied turn) }
+        ensures job { self.new.job ≡ self.old.job }
+        ensures step { IfOk result (λ t. (o : Outturn) × StepOf self.old.job event.now self.old.world o × (self.new.world ≡ o.world) × (t ≡ told_of o.answer)) }
+        ensures starved { OnErr result ((o : Outturn) × IsStarved event.now self.old o × (self.new.world ≡ o.world)) }
+    {
+        match event {
+            Event::Start(place, word) => self.start(alloc, *place, *word),
+            Event::AtNode(place, event) => self.at_node(alloc, *place, *event, turn),
+            Event::Crash(place) => Ok(self.crash(*place)),
+            Event::AtHouse(event) => self.at_house(alloc, *event),
+            Event::HouseCrash => {
+                self.seat.fall(alloc);
+                Ok(self.unheard())
+            }
+            Event::Cut(cut) => self.cut(alloc, cut),
+        }
+    }
+
+    /// What is told of an event of the clearinghouse that has no answer.
+    fn unheard(&self) -> Told
+        ensures { result ≡ told.House None 0 (recorded self.now.world) }
+    {
+        Told::House(None, 0, self.seat.outcome())
+    }
+
+    /// All that was sent and put into slots gets its place. Refused for want of memory alone, and only where something has none.
+    fn place(&mut self) -> Result<(), NoMemory>
+        ensures job { self.new.job ≡ self.old.job }
+        ensures same { self.new.world ≡ self.old.world }
+        ensures placed { OnOk result (self.new.is_placed ≡ true) }
+        ensures refused { OnErr result (self.old.is_placed ≡ false) }
+    {
+        self.net.place()?;
+        self.fills.place()?;
+        Ok(())
+    }
+
+    /// A node did a step: what it sent and put into slots is kept.
+    fn did(&mut self, step: Step) -> Told
+        requires { self.old.is_placed ≡ true }
+        ensures job { self.new.job ≡ self.old.job }
+        ensures kept { self.new.world ≡ record self.old.world { net = self.old.world.net ++ step.sent; fills = self.old.world.fills ++ step.fills } }
+        ensures told { result ≡ told.Did (length step.sent) (length step.fills) }
+    {
+        let told = Told::Did(step.sent.len(), step.fills.len());
+        self.net.hold(step.sent);
+        self.fills.hold(step.fills);
+        let _ = self.place();
+        told
+    }
+
+    /// Whether a node is up at a place.
+    fn is_up(&self, place: NodePlace) -> bool
+        ensures { result ≡ is_some (node_in place self.now.world.nodes) }
+    {
+        self.nodes[usize::from(place.index())].is_some()
+    }
+
+    /// Takes the node of a place away; whether one was up there.
+    fn remove(&mut self, place: NodePlace) -> bool
+        ensures job { self.new.job ≡ self.old.job }
+        ensures was { result ≡ is_some (node_in place self.old.world.nodes) }
+        ensures gone { self.new.world ≡ record self.old.world { nodes = without_node place self.old.world.nodes } }
+    {
+        mem::replace(&mut self.nodes[usize::from(place.index())], None).is_some()
+    }
+
+    /// Whether a node can start at a place with a start word: no node is up there, and the word is a worker's and wasn't used before.
+    fn starts(&self, place: NodePlace, word: u64) -> Option<Incarnation>
+        ensures { result ≡ (if can_start place word self.now.world then Some word else None) }
+    {
+        let incarnation = Incarnation::worker(word)?;
+        if self.used.get((word, 0)).is_some() || self.is_up(place) {
+            return None;
+        }
+        Some(incarnation)
+    }
+
+    /// A node is up at a place, with a start word that is used now.
+    fn enter(&mut self, place: NodePlace, word: u64, node: Node<'a>) -> Result<(), NoMemory>
+        requires { node.job ≡ self.old.job }
+        ensures job { self.new.job ≡ self.old.job }
+        ensures placed { self.new.is_placed ≡ self.old.is_placed }
+        ensures ok { OnOk result (self.new.world ≡ record (with_used word self.old.world) { nodes = put_node place node.entry.node self.old.world.nodes }) }
+        ensures err { OnErr result (self.new.world ≡ self.old.world) }
+    {
+        self.used.put(Word::of(word))?;
+        self.nodes[usize::from(place.index())] = Some(node);
+        Ok(())
+    }
+
+    /// A node starts at a place with a start word, if it can.
+    fn start(&mut self, alloc: Global, place: NodePlace, word: u64) -> Result<Told, NoMemory>
+        ensures job { self.new.job ≡ self.old.job }
+        ensures step { IfOk result (λ t. (o : Outturn) × StepOf self.old.job (events.Start place word) self.old.world o × (self.new.world ≡ o.world) × (t ≡ told_of o.answer)) }
+        ensures starved { OnErr result ((o : Outturn) × IsStarved (events.Start place word) self.old o × (self.new.world ≡ o.world)) }
+    {
+        let Some(incarnation) = self.starts(place, word) else {
+            return Ok(Told::Unfit);
+        };
+        self.place()?;
+        let Ok((node, step)) = Node::start(alloc, self.job, incarnation) else {
+            return Err(NoMemory);
+        };
+        self.enter(place, word, node)?;
+        Ok(self.did(step))
+    }
+
+    /// Something comes to the node of a place, if one is up there.
+    fn at_node(
+        &mut self,
+        alloc: Global,
+        place: NodePlace,
+        event: NodeEvent,
+        turn: Option<&Done>,
+    ) -> Result<Told, NoMemory>
+        requires { IsOfJob self.old.job (option_copied turn) }
+        ensures job { self.new.job ≡ self.old.job }
+        ensures step { IfOk result (λ t. (o : Outturn) × StepOf self.old.job (events.AtNode place event) self.old.world o × (self.new.world ≡ o.world) × (t ≡ told_of o.answer)) }
+        ensures starved { OnErr result ((o : Outturn) × IsStarved (events.AtNode place event) self.old o × (self.new.world ≡ o.world)) }
+    {
+        self.may_choose(place);
+        if !self.fits(place, event) {
+            return Ok(Told::Unfit);
+        }
+        self.place()?;
+        match self.come(alloc, place, event, turn) {
+            Ok(step) if step.ignored => Ok(Told::Ignored),
+            Ok(step) => Ok(self.did(step)),
+            Err(error) => refusal(error),
+        }
+    }
+
+    /// Whether a node is up at a place, and the packet that an event delivers is there.
+    fn fits(&self, place: NodePlace, event: NodeEvent) -> bool
+        ensures { result ≡ (is_some (node_in place self.now.world.nodes) && is_there event self.now.world.net) }
+    {
+        if !self.is_up(place) {
+            return false;
+        }
+        match event {
+            NodeEvent::Deliver(index) => self.net.get(index).is_some(),
+            NodeEvent::Exec(_) | NodeEvent::Ask(_) | NodeEvent::Resend | NodeEvent::Depart(_) =>
+                true,
+        }
+    }
+
+    /// Something comes to the node of a place, which is up.
+    fn come(
+        &mut self,
+        alloc: Global,
+        place: NodePlace,
+        event: NodeEvent,
+        turn: Option<&Done>,
+    ) -> Result<Step, NodeError>
+        requires own { IsOfJob self.old.job (option_copied turn) }
+        requires up { is_some (node_in place self.old.world.nodes) ≡ true }
+        requires there { is_there event self.old.world.net ≡ true }
+        ensures job { self.new.job ≡ self.old.job }
+        ensures placed { self.new.is_placed ≡ self.old.is_placed }
+        ensures came { Came self.old self.new.world place event result }
+    {
+        let at = usize::from(place.index());
+        let Some(mut node) = mem::replace(&mut self.nodes[at], None) else {
+            unreachable!();
+        };
+        let answer = carry_out(alloc, &mut node, event, handed(&self.net, event), turn);
+        self.nodes[at] = Some(node);
+        answer
+    }
+
+    /// A node that is up may be asked to choose a frame. Does nothing.
+    fn may_choose(&self, place: NodePlace)
+        ensures { (n : NodeOf) → node_in place self.now.world.nodes ≡ Some n → (choice : Option Choice) × MayChoose n choice }
+    {
+        if let Some(node) = &self.nodes[usize::from(place.index())] {
+            node.may_choose();
+        }
+    }
+
+    /// The node of a place loses its memory, if one is up there.
+    fn crash(&mut self, place: NodePlace) -> Told
+        ensures job { self.new.job ≡ self.old.job }
+        ensures step { (o : Outturn) × StepOf self.old.job (events.Crash place) self.old.world o × (self.new.world ≡ o.world) × (result ≡ told_of o.answer) }
+    {
+        if !self.is_up(place) {
+            return Told::Unfit;
+        }
+        let _ = self.remove(place);
+        Told::Did(0, 0)
+    }
+
+    /// What the clearinghouse replied is kept.
+    fn replied(&mut self, reply: Reply) -> Told
+        requires { self.old.is_placed ≡ true }
+        ensures job { self.new.job ≡ self.old.job }
+        ensures kept { self.new.world ≡ record self.old.world { net = self.old.world.net ++ reply.sent } }
+        ensures told { result ≡ told.House reply.refused (length reply.sent) (recorded self.old.world) }
+    {
+        let sent = reply.sent.len();
+        self.net.hold(reply.sent);
+        let _ = self.place();
+        Told::House(reply.refused, sent, self.seat.outcome())
+    }
+
+    /// Something comes to the clearinghouse, if it applies.
+    fn at_house(&mut self, alloc: Global, event: HouseEvent) -> Result<Told, NoMemory>
+        ensures job { self.new.job ≡ self.old.job }
+        ensures step { IfOk result (λ t. (o : Outturn) × StepOf self.old.job (events.AtHouse event) self.old.world o × (self.new.world ≡ o.world) × (t ≡ told_of o.answer)) }
+        ensures starved { OnErr result ((o : Outturn) × IsStarved (events.AtHouse event) self.old o × (self.new.world ≡ o.world)) }
+    {
+        if !self.seat.applies(event, delivered(&self.net, event)) {
+            return Ok(self.unheard());
+        }
+        if self.place().is_err() {
+            self.seat.starve(alloc);
+            return Err(NoMemory);
+        }
+        let reply = self.seat.meet(alloc, event, delivered(&self.net, event))?;
+        Ok(self.replied(reply))
+    }
+
+    /// An event of the clearinghouse is cut off, if it applies.
+    fn cut(&mut self, alloc: Global, cut: &Cut) -> Result<Told, NoMemory>
+        ensures job { self.new.job ≡ self.old.job }
+        ensures step { IfOk result (λ t. (o : Outturn) × StepOf self.old.job (events.Cut cut.now) self.old.world o × (self.new.world ≡ o.world) × (t ≡ told_of o.answer)) }
+        ensures starved { OnErr result ((o : Outturn) × IsStarved (events.Cut cut.now) self.old o × (self.new.world ≡ o.world)) }
+    {
+        self.seat.can_cut();
+        if !self
+            .seat
+            .applies(cut.event, delivered(&self.net, cut.event))
+        {
+            return Ok(self.unheard());
+        }
+        let Ok(bytes) = Vec::from_slice(alloc, cut.bytes.as_slice()) else {
+            self.seat.starve(alloc);
+            return Err(NoMemory);
+        };
+        if self.place().is_err() {
+            self.seat.starve(alloc);
+            return Err(NoMemory);
+        }
+        let packet = delivered(&self.net, cut.event);
+        let reply = self.seat.cut(alloc, cut.calls, bytes, cut.event, packet)?;
+        Ok(self.replied(reply))
+    }
+}
+
+/// What is told of a refused call of a node.
+fn refusal(error: NodeError) -> Result<Told, NoMemory>
+    ensures told { IfOk result (λ t. (t ≡ told.Refused error) × (error ≡ Memory → ⊥)) }
+    ensures lacks { OnErr result (error ≡ Memory) }
+{
+    match error {
+        NodeError::Memory => Err(NoMemory),
+        NodeError::Bytes(_)
+        | NodeError::Stale
+        | NodeError::Pending
+        | NodeError::TooBig
+        | NodeError::HopSpent
+        | NodeError::NoHeir
+        | NodeError::NotJoined
+        | NodeError::Busy
+        | NodeError::Spent => Ok(Told::Refused(error)),
+    }
+}
+
+/// No node is up at any place.
+fn no_nodes<'a>(alloc: Global) -> Result<Vec<Option<Node<'a>>>, NoMemory>
+    ensures { IfOk result (λ v. v.items ≡ replicate 64 None) }
+{
+    let mut nodes = Vec::with_capacity(alloc, PLACES)?;
+    for _ in 0..PLACES {
+        if nodes.push(None).is_err() {
+            return Err(NoMemory);
+        }
+    }
+    Ok(nodes)
+}
+
+/// The packet that an event of a node delivers, if it is there.
+fn handed(net: &Kept<Datagram>, event: NodeEvent) -> Option<&Datagram>
+    ensures { option_copied result ≡ delivered_in event net.now.all }
+{
+    match event {
+        NodeEvent::Deliver(index) => net.get(index),
+        NodeEvent::Exec(_) | NodeEvent::Ask(_) | NodeEvent::Resend | NodeEvent::Depart(_) => None,
+    }
+}
+
+/// The packet that an event of the clearinghouse delivers, if it is there.
+fn delivered(net: &Kept<Datagram>, event: HouseEvent) -> Option<&Datagram>
+    ensures { (w : WorldOf) → w.net ≡ net.now.all → IsFound event (option_copied result) w }
+{
+    match event {
+        HouseEvent::Deliver(index) => net.get(index),
+        HouseEvent::Tick(_) | HouseEvent::Restart => None,
+    }
+}
