@@ -44,6 +44,10 @@ module _ (job : JobOf) (ok : IsJob job) where
       outcome = λ o e. recorded_is_meant job w s.tied o e;
     }
 
+    -- one of its worlds by itself
+    pub each_safe : (w : WorldOf) → w ∈ (first_over d ∷ worlds) → SafeWorld job w
+    each_safe w m = safe_world w (sound w m)
+
     pub all_safe : AllSafe job (first_over d ∷ worlds)
     all_safe = record {
       safe = record { each = λ i w e. safe_world w (sound w (got (first_over d ∷ worlds) i w e)); stays = runs_stay job d entries worlds can runs };

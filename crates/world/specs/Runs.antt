@@ -10,6 +10,7 @@ use Rattle.world_steps.specs.Steps.{Starves}
 use Rattle.world_steps.specs.World.{WorldOf, first_over}
 use Rattle.world_steps.specs.declared.parts.NoMemory.{NoMemory}
 use Rattle.world_steps.specs.Calls.{StarvesBehind}
+use Rattle.world_steps.specs.Safe.{SafeWorld}
 use Rattle.safe_runs.specs.Promises.{AllSafe}
 
 -- an event of a run finds no memory: the world is as it was, but a clearinghouse that was to answer is stopped
@@ -39,6 +40,8 @@ pub record IsRunTo (Stops : Event → (last v : WorldOf) → Type 0) (job : JobO
 pub record IsSafeRunTo (Stops : Event → (last v : WorldOf) → Type 0) (job : JobOf) (events : List Event) (done : ℕ) (stopped : Option NoMemory) (v : WorldOf) : Type 0 where
   pub run : IsRunTo Stops job events done stopped v
   pub safe : AllSafe job (first_over run.disk ∷ run.worlds)
+  -- and so is the one in which it ended, also where that was for want of memory
+  pub last : SafeWorld job v
 
 abbrev pub IsRun : JobOf → List Event → ℕ → Option NoMemory → WorldOf → Type 0
 IsRun job = IsSafeRunTo (StopsIn job) job
