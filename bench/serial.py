@@ -4,7 +4,6 @@ import shutil
 import subprocess
 import sys
 import tempfile
-import time
 
 PYTHON = """
 import sys
@@ -23,14 +22,33 @@ print(fib(tonumber(arg[1])))
 """
 
 
+# What `serial` is timed on beside FIB: a program, an input that takes next to no turns, and the input.
+PROGRAMS = [
+    ("tak", (0, 0, 0), (18, 12, 6)),
+    ("queens", (1,), (9,)),
+    ("binomial", (0, 0), (18, 9)),
+    ("knary", (0, 0, 0), (8, 3, 1)),
+    ("ackermann", (0, 0), (2, 200)),
+]
+
+
 def seconds_of(words, tries=5):
-    """The least wall time of some tries, in seconds."""
+    """The least processor time of some tries, in seconds."""
     best = float("inf")
     for _ in range(tries):
-        start = time.perf_counter()
-        subprocess.run(words, stdout=subprocess.DEVNULL, check=True)
-        best = min(best, time.perf_counter() - start)
+        child = subprocess.Popen(words, stdout=subprocess.DEVNULL)
+        _, status, used = os.wait4(child.pid, 0)
+        child.returncode = os.waitstatus_to_exitcode(status)
+        if child.returncode != 0:
+            raise SystemExit(f"{words}: status {child.returncode}")
+        best = min(best, used.ru_utime + used.ru_stime)
     return best
+
+
+def between(words, small, large, tries=5):
+    """What a command takes on an input more than on a small one, in seconds."""
+    one, other = ([*words, *map(str, numbers)] for numbers in (small, large))
+    return max(seconds_of(other, tries) - seconds_of(one, tries), 1e-6)
 
 
 def memory_of(words):
@@ -69,7 +87,8 @@ def main():
 
 
 def measure(folder):
-    program, text = sys.argv[1:]
+    program, examples, *others = sys.argv[1:]
+    text = os.path.join(examples, "fib.ck")
     rows = [("cilknow serial", [program, "serial", text]), ("cilknow run", [program, "run", text])]
     rows.append(("CPython " + sys.version.split()[0], [sys.executable, "-c", PYTHON]))
     lua = shutil.which("lua5.4")
@@ -78,16 +97,27 @@ def measure(folder):
         with open(script, "w") as file:
             file.write(LUA)
         rows.append(("Lua 5.4", [lua, script]))
-    print(f"{os.cpu_count()} cores; each time is the least of 5, less that of the smallest input")
+    for other in others:
+        rows += [("other's serial", [other, "serial", text]), ("other's run", [other, "run", text])]
+    print(f"{os.cpu_count()} cores; each is the least processor time of 5, less that of the smallest input")
     times = {}
     for n in (24, 27):
         for name, words in rows:
-            times[name] = max(seconds_of([*words, str(n)]) - seconds_of([*words, "0"]), 1e-6)
+            times[name] = between(words, (0,), (n,))
         base = times[rows[2][0]]
         print(f"\nFIB {n}: {turns(n)} turns")
         for name, _ in rows:
-            rate = f"{turns(n) / times[name] / 1e6:8.2f} M turns/s" if name.startswith("cilknow") else " " * 18
+            rate = f"{turns(n) / times[name] / 1e6:8.2f} M turns/s" if name.startswith(("cilknow", "other")) else " " * 18
             print(f"  {name:18} {times[name] * 1000:9.1f} ms {rate}   {times[name] / base:5.2f} x CPython")
+    print("\nserial on               ms" + "    other's ms   ratio" * len(others))
+    for name, small, large in PROGRAMS:
+        words = ["serial", os.path.join(examples, f"{name}.ck")]
+        taken = between([program, *words], small, large)
+        row = f"  {' '.join([name, *map(str, large)]):16} {taken * 1000:7.1f}"
+        for other in others:
+            beside = between([other, *words], small, large)
+            row += f" {beside * 1000:13.1f} {taken / beside:7.2f}"
+        print(row)
     print("\ninput      turns    serial ms   serial KiB       run ms      run KiB")
     for n in range(20, 28):
         columns = []

@@ -10,6 +10,5 @@ mod walk;
 
 pub use body::turn;
 pub use done::Done;
-pub use expression::value;
+pub use expression::operate;
 pub use kind_check::{Kid, Slot, Turn};
-pub use walk::{above, leaf};

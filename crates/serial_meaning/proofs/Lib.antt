@@ -3,6 +3,8 @@ pub mod FrameLaws
 pub mod JobLaws
 pub mod MeaningLaws
 mod Rows
-pub mod Runs
-pub mod Steps
+pub mod Compiling
+pub mod Running
+pub mod Ending
+pub mod Going
 pub mod EqualMeaning

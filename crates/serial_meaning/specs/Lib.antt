@@ -3,5 +3,8 @@ pub mod Places
 pub mod Job
 pub mod Agrees
 pub mod Count
-pub mod Running
+pub mod Flat
+pub mod Sources
+pub mod Ran
+pub mod Going
 pub mod Errors

@@ -1,10 +1,13 @@
 //! The serial meaning of a job: the outcome that every run of it must have.
 #![tactic(auto)]
 
+mod compile;
+mod instr;
 mod job;
 mod laws;
+mod machine;
 mod meaning;
-mod stack;
+mod sources;
 
 pub use ids::Outcome;
 pub use job::{Job, JobError};
