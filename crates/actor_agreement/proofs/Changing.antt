@@ -25,10 +25,10 @@ use Rattle.node_core.specs.Steps.{Refused, fill_of, fills_of, for_some, sends}
 use Rattle.node_core.specs.declared.error.NodeError.TheVariants as error
 use Rattle.node_core.specs.declared.parts.Fill.{Fill}
 use Rattle.run_tables.specs.Tables.{◌∈◌}
+use Rattle.run_tables.proofs.Among.{found_among}
 use Rattle.agreement.specs.Agreement.{FillAgrees, IsReceived}
 use Rattle.content_moves.proofs.Apart.{own_grant}
 use Rattle.actor_agreement.specs.Values.{AnswerIsRight, IsOutcomeAt, NodeIsRight, StepIsRight, filling_of}
-use Rattle.actor_agreement.proofs.Among.{found_among}
 use Rattle.actor_agreement.proofs.Contents.{ChangeIsRight, closed_right, executed_right}
 use Rattle.actor_agreement.proofs.Sent.{aborts_right, both_sent, results_right}
 use Rattle.actor_agreement.proofs.Steps.{if_there, in_state, put_right, quiet_right, sends_one, then_right}

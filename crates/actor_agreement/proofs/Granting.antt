@@ -22,9 +22,9 @@ use Rattle.node_core.specs.Cases.{Choice, chosen_in, served, stolen}
 use Rattle.node_core.specs.Moves.{answers, grants, packet}
 use Rattle.node_core.specs.Steps.{Does, Ignored, sends}
 use Rattle.run_tables.specs.Tables.{◌∈◌}
+use Rattle.run_tables.proofs.Among.{found_among}
 use Rattle.agreement.proofs.Granting.{granted_task}
 use Rattle.actor_agreement.specs.Values.{AnswerIsRight, BodyIsRight, IsFresh, IsRight, NodeIsRight, StepIsRight, next_grant}
-use Rattle.actor_agreement.proofs.Among.{found_among}
 use Rattle.actor_agreement.proofs.Contents.{granted_right}
 use Rattle.actor_agreement.proofs.Sent.{one_sent, replies_put}
 use Rattle.actor_agreement.proofs.Steps.{by_test, in_order, put_right, sends_one}

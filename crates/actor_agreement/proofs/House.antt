@@ -27,8 +27,8 @@ use Rattle.clearinghouse.specs.House.{HouseOf, is_root, members_of, name_of}
 use Rattle.clearinghouse.specs.Moves as moves
 use Rattle.clearinghouse.specs.Steps as house
 use Rattle.clearinghouse.specs.declared.parts.RootGrant.{RootGrant}
+use Rattle.run_tables.proofs.Among.{found_among}
 use Rattle.actor_agreement.specs.Values.{AllRight, BodyIsRight, HouseAnswerIsRight, HouseStepIsRight, RepliesAreRight}
-use Rattle.actor_agreement.proofs.Among.{found_among}
 use Rattle.actor_agreement.proofs.Sent.{both_sent, none_sent, one_sent, replies_put}
 
 -- the first task of a job agrees with it

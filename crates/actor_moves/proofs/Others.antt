@@ -1,24 +1,10 @@
 -- Who doesn't act keeps its tables.
-use Rattle.std.proofs.Common.{◌≡◌, ℕ, Option, refl, sym, ◌∙◌, arith}
-use Rattle.ids.specs.Names.{Grant}
-use Rattle.run_tables.specs.Tables.{put, put_at, put_grant, clear}
+use Rattle.std.proofs.Common.{◌≡◌, ℕ, refl, sym, ◌∙◌}
 use Rattle.run_tables.specs.View.{View}
 use Rattle.run_tables.specs.Meaning.{Meaning}
 use Rattle.run_tables.specs.Acts.{Act, starts, admits, adopts, fails, goes, mourns, opens, grants_root, closes_root, commits, publishes, closes, asks, refuses, grants, takes_grant, hears_refuse, gives_up, freezes, takes_offer, acknowledges, releases, leaves, alters, drops, renames, settles, settles_at_house}
+use Rattle.run_tables.proofs.Entries.{put_other, at_other_row, grant_other}
 use Rattle.actor_moves.specs.Beside.{SameAt, IsActOf, MovedBy, unmoved, moved}
-
-module _ {X : Type 0} where
-  pub put_other : (f : ℕ → X) (i j : ℕ) (x : X) → (j ≡ i → ⊥) → put f i x j ≡ f j
-  put_other f i j x other = grind (arith, other)
-
-  pub at_other : (f : ℕ → ℕ → X) (i t j k : ℕ) (x : X) → (j ≡ i → ⊥) → put_at f i t x j k ≡ f j k
-  at_other f i t j k x other = grind (arith, other)
-
-  pub grant_other : (f : ℕ → Grant → X) (i : ℕ) (g : Grant) (j : ℕ) (k : Grant) (x : X) → (j ≡ i → ⊥) → put_grant f i g x j k ≡ f j k
-  grant_other f i g j k x other = grind (arith, other)
-
-pub clear_other : {K X : Type 0} (f : ℕ → K → Option X) (i j : ℕ) (k : K) → (j ≡ i → ⊥) → clear f i j k ≡ f j k
-clear_other f i j k other = grind (arith, other)
 
 pub all_same : (v : View) (j : ℕ) → SameAt v v j
 all_same v j = record { mode = refl; minted = refl; asked = refl; seen = λ g. refl; subs = λ g. refl; pending = refl; kept = λ t. refl; roster = refl }
@@ -63,10 +49,10 @@ beside_one {v = v} (asks k victim may) i j is other =
     record { mode = refl; minted = refl; asked = put_other v.asked k j _ no; seen = λ g. refl; subs = λ g. refl; pending = put_other v.pending k j _ no; kept = λ t. refl; roster = refl }
 beside_one {v = v} (refuses k thief seq up may) i j is other =
     let no : j ≡ k → ⊥ = λ e. other (e ∙ sym is) in
-    record { mode = refl; minted = refl; asked = refl; seen = λ g. refl; subs = λ g. refl; pending = refl; kept = λ t. at_other v.kept k thief j t _ no; roster = refl }
+    record { mode = refl; minted = refl; asked = refl; seen = λ g. refl; subs = λ g. refl; pending = refl; kept = λ t. at_other_row v.kept k thief j t _ no; roster = refl }
 beside_one {v = v} (grants k g s n thief seq c here may begins steal) i j is other =
     let no : j ≡ k → ⊥ = λ e. other (e ∙ sym is) in
-    record { mode = refl; minted = put_other v.minted k j _ no; asked = refl; seen = λ h. refl; subs = λ h. grant_other v.subs k g j h _ no; pending = refl; kept = λ t. at_other v.kept k thief j t _ no; roster = refl }
+    record { mode = refl; minted = put_other v.minted k j _ no; asked = refl; seen = λ h. refl; subs = λ h. grant_other v.subs k g j h _ no; pending = refl; kept = λ t. at_other_row v.kept k thief j t _ no; roster = refl }
 beside_one {v = v} (takes_grant k t may hop pending) i j is other =
     let no : j ≡ k → ⊥ = λ e. other (e ∙ sym is) in
     record { mode = refl; minted = refl; asked = refl; seen = λ h. grant_other v.seen k t.grant j h _ no; subs = λ h. grant_other v.subs k t.grant j h _ no; pending = put_other v.pending k j _ no; kept = λ u. refl; roster = refl }

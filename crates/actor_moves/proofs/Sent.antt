@@ -5,7 +5,8 @@ use Rattle.run_tables.specs.Meaning.{Meaning}
 use Rattle.run_tables.specs.Acts.{Act, starts, admits, adopts, fails, goes, mourns, opens, grants_root, closes_root, commits, publishes, closes, asks, refuses, grants, takes_grant, hears_refuse, gives_up, freezes, takes_offer, acknowledges, releases, leaves, alters, drops, renames, settles, settles_at_house}
 use Rattle.run_tables.specs.Runs.{Run, by_right, Leads, leads_on}
 use Rattle.run_tables.proofs.Lists.{later}
-use Rattle.actor_moves.proofs.Others.{all_same, beside_one, grant_other, at_other, put_other}
+use Rattle.run_tables.proofs.Entries.{put_other, at_other_row, grant_other}
+use Rattle.actor_moves.proofs.Others.{all_same, beside_one}
 use Rattle.ids.specs.Names.{Grant}
 use Rattle.run_tables.specs.Content.{Content, Fill}
 use Rattle.run_tables.specs.View.{Result, Sub}
@@ -162,7 +163,7 @@ of_alter v i g s c fill results gone = record {
 pub of_grant : (v : View) (i : ℕ) (g : Grant) (s : Sub) (n thief seq : ℕ) (c : Content) → IsBeside i v (grant_frame v i g s n thief seq c)
 of_grant v i g s n thief seq c = record {
   used = refl;
-  others = λ j no. record { mode = refl; minted = put_other v.minted i j _ no; asked = refl; seen = λ h. refl; subs = λ h. grant_other v.subs i g j h _ no; pending = refl; kept = λ t. at_other v.kept i thief j t _ no; roster = refl };
+  others = λ j no. record { mode = refl; minted = put_other v.minted i j _ no; asked = refl; seen = λ h. refl; subs = λ h. grant_other v.subs i g j h _ no; pending = refl; kept = λ t. at_other_row v.kept i thief j t _ no; roster = refl };
   house = assumption (same_house v);
 }
 

@@ -23,11 +23,12 @@ use Rattle.run_tables.specs.Content as tables
 use Rattle.run_tables.specs.Content.{Content as Tables, Absent, Full, Fill}
 use Rattle.run_tables.specs.Facts.{RecordOf}
 use Rattle.run_tables.specs.Causes.{Ends, Filled, Arrives}
+use Rattle.run_tables.proofs.Lists.{same_or, none_some}
+use Rattle.run_tables.proofs.Entries.{put_here, put_other, row_here, row_other, at_here, at_other_row, at_other_slot}
 use Rattle.content_moves.specs.Shown.{return_of, slot_of, number_of, ShowsFrame, ShowsRecord, ShowsNothing, Shows}
 use Rattle.content_moves.specs.Moved.{fill_of, grants_of}
-use Rattle.content_moves.proofs.Entries.{same_or, put_here, put_other, row_here, row_other, at_here, at_other_row, at_other_slot}
 use Rattle.content_moves.proofs.Rows.{filled_here, filled_other}
-use Rattle.content_moves.proofs.Apart.{none_some, own_number, other_name, same_name, stolen_apart}
+use Rattle.content_moves.proofs.Apart.{own_number, other_name, same_name, stolen_apart}
 use Rattle.content_moves.proofs.Telling.{Settles, settles_none}
 use Rattle.content_moves.proofs.Leaving.{cleared}
 

@@ -12,11 +12,11 @@ use Rattle.run_tables.specs.Content as tables
 use Rattle.run_tables.specs.Content.{Content as Tables, Return, Slot, Absent, Empty, given, Debtor, Sound}
 use Rattle.run_tables.specs.Guards.{Begins}
 use Rattle.run_tables.proofs.Sounder.{given_full}
+use Rattle.run_tables.proofs.Lists.{same_or, some_same, none_some}
+use Rattle.run_tables.proofs.Entries.{put_here, put_other, row_here, row_other}
 use Rattle.content_moves.specs.Shown.{task_of, IsUnused, ShowsFrame, ShowsNothing, Shows}
 use Rattle.content_moves.specs.Moved.{IsBegun}
-use Rattle.content_moves.proofs.Entries.{same_or, put_here, put_other, row_here, row_other}
 use Rattle.content_moves.proofs.Rows.{given_row}
-use Rattle.content_moves.proofs.Apart.{none_some, some_same}
 
 -- tables with nothing in them
 abbrev none_yet : ℕ → Option Return

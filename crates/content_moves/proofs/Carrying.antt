@@ -30,10 +30,10 @@ use Rattle.run_tables.specs.Meaning.{Meaning}
 use Rattle.run_tables.specs.Program.{part_of, end_of, program_meaning}
 use Rattle.run_tables.specs.Causes.{TakesTurn, Ends, Cause, sends, joins, is_deep, hears, hears_deep}
 use Rattle.run_tables.proofs.SounderJoins.{cause_records}
+use Rattle.run_tables.proofs.Lists.{none_some}
 use Rattle.content_moves.specs.Shown.{return_of, number_of, outcome_of, ShowsNothing, Shows}
 use Rattle.content_moves.specs.Moved.{IsKept, IsMove, IsEnd, fill_of, grants_of}
 use Rattle.content_moves.proofs.Rows.{full_row}
-use Rattle.content_moves.proofs.Apart.{none_some}
 use Rattle.content_moves.proofs.Records.{record_shown, returns_bare, listed_shown, left_listed}
 use Rattle.content_moves.proofs.Telling.{Settles, settles_none, alters_told, moved}
 use Rattle.content_moves.proofs.Leaving.{cleared, frame_cleared, record_cleared}

@@ -1,6 +1,7 @@
 -- A turn that was evaluated is carried out: it is the turn of a ready frame on its numbers.
-use Rattle.std.proofs.Common.{◌≡◌, ℕ, ℤ, ◌^◌, ◌&&◌, Bool, true, false, cond, nat_eq, nat_lt, List, [], ◌∷◌, Option, Some, None, Result, Ok, Err, refl}
+use Rattle.std.proofs.Common.{◌≡◌, ℕ, ℤ, ◌^◌, Bool, true, false, cond, nat_eq, nat_lt, List, [], ◌∷◌, Option, Some, None, Result, Ok, Err, refl}
 use Rattle.std.specs.Ordering.{int_eq}
+use Rattle.std.proofs.lemmas.Bool.{and_parts}
 use Rattle.std.proofs.lemmas.Bool.Decides.{Decides-eqb, Decides-int_eq}
 use Rattle.ids.specs.Names.{Grant}
 use Rattle.ids.specs.Slots.{numbers_in}
@@ -23,16 +24,6 @@ use Rattle.content_moves.proofs.Apart.{own_number}
 use Rattle.content_moves.proofs.Carrying.{turn_moves}
 use Rattle.content_moves.proofs.Keeping.{turn_kept}
 
--- both of two tests hold
-first : (a b : Bool) → (a && b) ≡ true → a ≡ true
-first true b both = refl
-first false b both = cc
-
--- so the second does
-second : (a b : Bool) → (a && b) ≡ true → b ≡ true
-second true b both = both
-second false b both = cc
-
 -- slots that hold numbers are full of them
 held_numbers : (slots : List (Option ℤ)) (numbers : List ℤ) → holds_numbers slots numbers ≡ true → numbers_in slots ≡ Some numbers
 held_numbers [] [] holds = refl
@@ -41,8 +32,8 @@ held_numbers (None ∷ slots) [] holds = cc
 held_numbers (Some v ∷ slots) [] holds = cc
 held_numbers (None ∷ slots) (n ∷ ns) holds = cc
 held_numbers (Some v ∷ slots) (n ∷ ns) holds =
-    let same : v ≡ n = (Decides-int_eq v n).0 (first (int_eq v n) (holds_numbers slots ns) holds) in
-    rw (same, held_numbers slots ns (second (int_eq v n) (holds_numbers slots ns) holds)) refl
+    let same : v ≡ n = (Decides-int_eq v n).0 (and_parts (int_eq v n) (holds_numbers slots ns) holds).0 in
+    rw (same, held_numbers slots ns (and_parts (int_eq v n) (holds_numbers slots ns) holds).1) refl
 
 -- what a turn that is carried out is one of
 pub record IsCarried (d : DoneOf) (n : ℕ) (c : Content) (change : Change) : Type 0 where
@@ -60,8 +51,8 @@ carried d n c change is = by_frame (frame_in n c.frames) refl is
     by_next f there turn true at = record {
       frame = f;
       there = own_number n f c.frames there;
-      thread = (Decides-eqb f.thread d.thread).0 (first (nat_eq f.thread d.thread) (holds_numbers f.slots d.numbers) turn);
-      full = held_numbers f.slots d.numbers (second (nat_eq f.thread d.thread) (holds_numbers f.slots d.numbers) turn);
+      thread = (Decides-eqb f.thread d.thread).0 (and_parts (nat_eq f.thread d.thread) (holds_numbers f.slots d.numbers) turn).0;
+      full = held_numbers f.slots d.numbers (and_parts (nat_eq f.thread d.thread) (holds_numbers f.slots d.numbers) turn).1;
       is = cc;
     }
     by_next f there turn false at = cc

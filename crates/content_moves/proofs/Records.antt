@@ -18,10 +18,10 @@ use Rattle.sub_rules.proofs.Departures.{frame_number}
 use Rattle.run_tables.specs.Tables.{◌∈◌}
 use Rattle.run_tables.specs.Content.{Content as Tables}
 use Rattle.run_tables.specs.Facts.{RecordOf}
+use Rattle.run_tables.proofs.Lists.{same_or, some_same, none_some}
 use Rattle.content_moves.specs.Shown.{ShowsNothing, Shows}
 use Rattle.content_moves.specs.Moved.{IsKept, grants_of}
-use Rattle.content_moves.proofs.Entries.{same_or}
-use Rattle.content_moves.proofs.Apart.{none_some, some_same, own_grant}
+use Rattle.content_moves.proofs.Apart.{own_grant}
 
 -- what holds of the names of items holds of an item's
 pub of_names : {X : Type 0} (name : X → Name) (P : Name → Type 0) (xs : List X) → AllByRecursion P (map name xs) → AllByRecursion (λ x. P (name x)) xs

@@ -25,7 +25,7 @@ use Rattle.run_tables.specs.Tables.{◌∈◌}
 use Rattle.run_tables.specs.View.{View}
 use Rattle.run_tables.specs.Moves.{publish}
 use Rattle.run_tables.specs.Runs.{Run}
-use Rattle.run_tables.proofs.Lists.{same_or}
+use Rattle.run_tables.proofs.Lists.{same_or, some_same}
 use Rattle.node_moves.proofs.Told.{one_shown}
 use Rattle.house_moves.specs.Shows.{OpenShown}
 use Rattle.house_moves.specs.Steps.{HouseStepShown, HouseAnswerShown, meaning_of}
@@ -109,14 +109,11 @@ module _ (job : JobOf) (v : View) (run : Run (meaning_of job) v) (h : HouseOf) (
   goes i w there = ⊎_elim
       (λ (same : i ≡ b.from).
       let found : status_in b.from (members_of h) ≡ Some w.status = ap (λ (k : ℕ). status_in k (members_of h)) (sym same) ∙ kept_found i h.workers ∙ ap status_kept there in
-      let lived : w.status ≡ member.Live = one (sym found ∙ live) in
+      let lived : w.status ≡ member.Live = some_same (sym found ∙ live) in
       let said : (say_at w).status ≡ status = ap (λ (x : Enlisted). x.status) (said_of w (sym same ∙ name_is i w there)) in
       goes_by i w.status (say_at w).status lived said same (becomes (resolve (members_of h) b.heir) refl))
       (λ (other : i ≡ b.from → ⊥). let said : (say_at w).status ≡ w.status = ap (λ (x : Enlisted). x.status) (not_said_of w (λ e. other (name_is i w there ∙ e))) in stands_by i w.status (say_at w).status said)
       (same_or i b.from)
-    where
-      one : {x y : Status} → Some x ≡ Some y → x ≡ y
-      one e = cc
 
   -- it has left, or is dead, and is told so
   left_shown : HouseStepShown job v h (house.sends (moves.roster_for job b.from (moves.with_workers ws h) ∷ []) (moves.with_workers ws h))

@@ -3,13 +3,12 @@ use Rattle.std.proofs.Common.{◌≡◌, ℕ, Bool, true, false, cond, List, [],
 use Rattle.std.specs.Ordering.{is_eq}
 use Rattle.std.specs.Option.{option_map}
 use Rattle.ids.specs.Keyed.{has_key}
-use Rattle.ids.specs.Naming.{name_of_member}
 use Rattle.ids.specs.Named.{item_in, name_cmp}
-use Rattle.ids.specs.Options.{◌>>=◌}
 use Rattle.ids.specs.Members.{status_in}
 use Rattle.ids.specs.declared.member.Status.{Status}
 use Rattle.clearinghouse.specs.House.{member_of, name_of_enlisted}
 use Rattle.clearinghouse.specs.declared.parts.Enlisted.{Enlisted}
+use Rattle.clearinghouse.proofs.Looking.{status_found}
 
 -- what is said of a worker that is kept
 abbrev pub status_kept : Option Enlisted → Option Status
@@ -17,12 +16,7 @@ status_kept None = None
 status_kept (Some w) = Some w.status
 
 pub kept_found : (i : ℕ) (ws : List Enlisted) → status_in i (map member_of ws) ≡ status_kept (item_in name_of_enlisted (i, 0) ws)
-kept_found i [] = refl
-kept_found i (w ∷ ws) = by_test (kept_found i ws) (has_key name_of_enlisted name_cmp (i, 0) w)
-  where
-    by_test : status_in i (map member_of ws) ≡ status_kept (item_in name_of_enlisted (i, 0) ws) → (b : Bool) → (cond b (Some (member_of w)) (item_in name_of_member (i, 0) (map member_of ws)) >>= (λ m. Some m.status)) ≡ status_kept (cond b (Some w) (item_in name_of_enlisted (i, 0) ws))
-    by_test rest true = refl
-    by_test rest false = rest
+kept_found i ws = status_found i ws
 
 -- each is changed, and keeps its name
 module _ (f : Enlisted → Enlisted) (names : (w : Enlisted) → name_of_enlisted (f w) ≡ name_of_enlisted w) where

@@ -10,6 +10,7 @@ use Rattle.clearinghouse.specs.House.{HouseOf, member_of, members_of, name_of_en
 use Rattle.clearinghouse.specs.Laws.{living}
 use Rattle.clearinghouse.specs.declared.parts.Enlisted.{Enlisted}
 use Rattle.run_tables.specs.View.{View}
+use Rattle.run_tables.proofs.Lists.{some_same}
 use Rattle.house_moves.proofs.Listed.{kept_found, mapped_status, status_kept}
 use Rattle.house_moves.proofs.Publishing.{IsNext, NewlyLeft}
 
@@ -47,14 +48,8 @@ module _ (v : View) (h : HouseOf) (f : Enlisted → Enlisted) (names : (w : Enli
     where
       by_goes : (x y : Status) → Goes v h ws more i x y → Some x ≡ Some z → Some y ≡ Some z
       by_goes _ _ (stands x) same = same
-      by_goes _ _ dies same = absurd (dead (sym (one same)))
-        where
-          one : {x y : Status} → Some x ≡ Some y → x ≡ y
-          one e = cc
-      by_goes _ _ (leaves_to heir new) same = absurd (dead (sym (one same)))
-        where
-          one : {x y : Status} → Some x ≡ Some y → x ≡ y
-          one e = cc
+      by_goes _ _ dies same = absurd (dead (sym (some_same same)))
+      by_goes _ _ (leaves_to heir new) same = absurd (dead (sym (some_same same)))
 
   left : (i x : ℕ) (o : Option Enlisted) → item i ≡ o → status_kept (option_map f o) ≡ Some (member.Left x) → (status_kept o ≡ Some (member.Left x)) ⊎ NewlyLeft v h ws more i x
   left i x None there e = cc

@@ -1,5 +1,6 @@
 -- The clearinghouse has another list of workers: it publishes its next roster.
-use Rattle.std.proofs.Common.{◌≡◌, ◌+◌, ◌<◌, ◌≤◌, ℕ, true, List, [], ◌∷◌, length, map, ◌⊎◌, inl, inr, ⊎_elim, Option, None, Some, refl, sym, ap, ◌∙◌, arith}
+use Rattle.std.proofs.Common.{◌≡◌, ◌+◌, ◌<◌, ◌≤◌, ℕ, true, List, length, map, ◌⊎◌, inl, inr, ⊎_elim, Option, None, Some, refl, sym, ap, ◌∙◌, arith}
+use Rattle.std.proofs.lemmas.List.{length-map}
 use Rattle.ids.specs.Members.{resolve, status_in}
 use Rattle.ids.specs.declared.member.Status.{Status}
 use Rattle.ids.specs.declared.member.Status.TheVariants as member
@@ -39,7 +40,7 @@ none_of (Some member.Live) e = cc
 none_of (Some member.Dead) e = cc
 none_of (Some (member.Left h)) e = cc
 
-dead_of : (o : Option Status) → status_of o ≡ tables.Dead → o ≡ Some member.Dead
+pub dead_of : (o : Option Status) → status_of o ≡ tables.Dead → o ≡ Some member.Dead
 dead_of None e = cc
 dead_of (Some member.Live) e = cc
 dead_of (Some member.Dead) e = refl
@@ -121,12 +122,8 @@ module _ (job : JobOf) (v : View) (run : Run (meaning_of job) v) (h : HouseOf) (
     left_most = omega arith;
   }
 
-  many : (xs : List Enlisted) → length (map member_of xs) ≡ length xs
-  many [] = refl
-  many (x ∷ xs) = let rest = many xs in omega (arith, rest)
-
   shows : ShowsRoster next_roster (roster_of (with_workers ws h))
-  shows = let room = next.room in let old = s.room in let same = many ws in record { epoch = s.shows.epoch; version = refl; members = record { status = λ i. refl; few = omega (arith, room, old, same) } }
+  shows = let room = next.room in let old = s.room in let same = length-map ws member_of in record { epoch = s.shows.epoch; version = refl; members = record { status = λ i. refl; few = omega (arith, room, old, same) } }
 
   -- the tables after it show the clearinghouse with these workers, and what it tells
   pub publishes_shown : (sent : List PacketOf) → AllShown (publish v next_roster) sent → HouseStepShown job v h (house.sends sent (with_workers ws h))

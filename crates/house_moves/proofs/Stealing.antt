@@ -28,12 +28,11 @@ use Rattle.run_tables.specs.Meaning.{Fits}
 use Rattle.run_tables.specs.Moves.{grant_root, refuse}
 use Rattle.run_tables.specs.Acts as acts
 use Rattle.run_tables.specs.Runs.{Run, by_right, leads_on}
+use Rattle.run_tables.proofs.Entries.{put_here, put_other, at_other_row}
 use Rattle.content_moves.specs.Moved.{IsBegun}
 use Rattle.content_moves.proofs.Beginning.{task_begins}
-use Rattle.content_moves.proofs.Entries.{put_here, put_other}
 use Rattle.content_moves.proofs.Rooting.{first_fits}
 use Rattle.actor_moves.specs.Beside.{Keeps}
-use Rattle.actor_moves.proofs.Others.{at_other}
 use Rattle.actor_moves.proofs.Sent.{keeps_one, all_kept}
 use Rattle.actor_moves.proofs.Others.{all_same}
 use Rattle.node_moves.specs.Shows.{ShowsReply, PacketShown}
@@ -58,7 +57,7 @@ module _ (job : JobOf) (v : View) (run : Run (meaning_of job) v) (h : HouseOf) (
         run = λ k. by_right k act tt;
         since = λ base k. leads_on k act;
         keeps = keeps;
-        others = λ j apart. record { mode = refl; minted = refl; asked = refl; seen = λ g. refl; subs = λ g. refl; pending = refl; kept = λ t. at_other v.kept (name_of h) b.from j t _ apart; roster = refl };
+        others = λ j apart. record { mode = refl; minted = refl; asked = refl; seen = λ g. refl; subs = λ g. refl; pending = refl; kept = λ t. at_other_row v.kept (name_of h) b.from j t _ apart; roster = refl };
         used = refl;
         same_name = refl;
         after = record { mode = s.mode; roster = s.roster; is = s.is; shows = s.shows; room = s.room; minted = s.minted; replies = reply_put v.kept (name_of h) h.replies (record { seq = b.seq; given = None }) (record { thief = b.from; seq = b.seq; packet = sent }) s.replies (record { seq = refl; to = refl; given = tt }); said = said_put keeps h.replies (record { thief = b.from; seq = b.seq; packet = sent }) s.said answer; root = s.root; stored = s.stored; epoch = s.epoch; only = s.only };
@@ -91,7 +90,7 @@ module _ (job : JobOf) (v : View) (run : Run (meaning_of job) v) (h : HouseOf) (
         run = λ k. by_right k act fits;
         since = λ base k. leads_on k act;
         keeps = keeps;
-        others = λ j apart. record { mode = refl; minted = put_other v.minted (name_of h) j _ apart; asked = refl; seen = λ g. refl; subs = λ g. refl; pending = refl; kept = λ u. at_other v.kept (name_of h) b.from j u _ apart; roster = refl };
+        others = λ j apart. record { mode = refl; minted = put_other v.minted (name_of h) j _ apart; asked = refl; seen = λ g. refl; subs = λ g. refl; pending = refl; kept = λ u. at_other_row v.kept (name_of h) b.from j u _ apart; roster = refl };
         used = refl;
         same_name = refl;
         after = record {

@@ -1,6 +1,6 @@
 -- A member departs: all that it holds is frozen and offered to its heir.
-use Rattle.std.proofs.Common.{◌≡◌, ◌+◌, ℕ, suc, Bool, true, false, cond, List, [], ◌∷◌, ◌++◌, map, ◌⊎◌, inl, inr, ⊎_elim, Option, None, Some, refl, sym, ap, ◌∙◌, arith}
-use Rattle.std.specs.List.{AllByRecursion, find}
+use Rattle.std.proofs.Common.{◌≡◌, ◌+◌, ℕ, suc, true, List, [], ◌∷◌, ◌++◌, map, ◌⊎◌, inl, inr, ⊎_elim, Option, None, Some, refl, sym, ap, ◌∙◌, arith}
+use Rattle.std.specs.List.{AllByRecursion}
 use Rattle.ids.specs.Names.{Grant}
 use Rattle.ids.specs.Members.{is_live}
 use Rattle.codec.specs.declared.body.Roster.{Roster}
@@ -22,37 +22,17 @@ use Rattle.run_tables.specs.Moves.{freeze}
 use Rattle.run_tables.specs.Acts as acts
 use Rattle.run_tables.specs.Runs.{Run}
 use Rattle.run_tables.proofs.Lists.{early, either, later}
+use Rattle.run_tables.proofs.Among.{found_among}
 use Rattle.run_tables.proofs.RostersReached.{rosters_reached}
 use Rattle.run_tables.proofs.ValuesKept.{run_reached}
-use Rattle.content_moves.proofs.Entries.{put_here}
+use Rattle.run_tables.proofs.Entries.{put_here}
 use Rattle.actor_moves.specs.Beside.{Keeps, unmoved, moved}
 use Rattle.actor_moves.proofs.Sent.{keeps_one, of_act}
-use Rattle.node_moves.specs.Shows.{pending_of, IsShown, ShowsSub, PartsShown, NodeShown}
+use Rattle.node_moves.specs.Shows.{pending_of, ShowsSub, PartsShown, NodeShown}
 use Rattle.node_moves.specs.Steps.{AllShown, IsSent, StepShown}
-use Rattle.node_moves.proofs.Held.{HeldAt, held_at}
+use Rattle.node_moves.proofs.Held.{HeldAt, held_at, found_sub}
 use Rattle.node_moves.proofs.Told.{packet_kept}
 use Rattle.node_moves.proofs.Members.{live_status, member_shown, own_sub}
-
--- an item that is found is one of a list
-pub found_in : {X : Type 0} (test : X → Bool) (x : X) (xs : List X) → find test xs ≡ Some x → x ∈ xs
-found_in test x [] e = cc
-found_in test x (y ∷ ys) e = by_test (found_in test x ys) (test y) e
-  where
-    by_test : (find test ys ≡ Some x → x ∈ ys) → (b : Bool) → cond b (Some y) (find test ys) ≡ Some x → (x ≡ y) ⊎ (x ∈ ys)
-    by_test rest true e = inl (cc)
-    by_test rest false e = inr (rest e)
-
--- the sub of a subcomputation that a sub shows
-pub record FoundSub (t : Sub) (q : Option SubOf) : Type 0 where
-  pub sub : SubOf
-  pub is : q ≡ Some sub
-  pub shown : IsShown t sub
-
-pub found_sub : (o : Option Sub) (q : Option SubOf) (t : Sub) → ShowsSub o q → o ≡ Some t → FoundSub t q
-found_sub None None t s e = cc
-found_sub None (Some x) t s e = absurd s
-found_sub (Some y) None t s e = absurd s
-found_sub (Some y) (Some x) t s e = let same : y ≡ t = cc in record { sub = x; is = refl; shown = rw same at s }
 
 module _ (subs : Grant → Option Sub) (i heir : ℕ) where
   -- the Offer of what is shown
@@ -148,7 +128,7 @@ module _ (m : Meaning) (job : JobOf) (v : View) (n : NodeOf) (r : Roster) (run :
         all = λ g s e. (
             let x = found_sub (v.subs i g) (sub_in g n.subs) s (p.subs g) e in
             let own : g ≡ x.sub.grant = own_sub g x.sub n.subs x.is in
-            let mem = in_offers (v.subs i) i heir n.subs x.sub s (found_in _ x.sub n.subs x.is) (rw (← own) e) in
+            let mem = in_offers (v.subs i) i heir n.subs x.sub s (found_among _ x.sub n.subs x.is) (rw (← own) e) in
             rw own mem);
       } in
       let act : acts.Act v (freeze v i heir news) = acts.freezes i heir news guard in

@@ -33,13 +33,13 @@ use Rattle.run_tables.specs.Moves.{grant_frame, refuse}
 use Rattle.run_tables.specs.Acts as acts
 use Rattle.run_tables.specs.Runs.{Run}
 use Rattle.run_tables.proofs.ValuesKept.{run_reached}
+use Rattle.run_tables.proofs.Entries.{put_here}
 use Rattle.content_moves.specs.Moved.{IsGrantMove, next_grant}
-use Rattle.content_moves.proofs.Entries.{put_here}
 use Rattle.content_moves.proofs.Granting.{grant_moves}
 use Rattle.content_moves.proofs.Keeping.{grant_kept}
 use Rattle.actor_moves.specs.Beside.{Keeps, unmoved, moved}
 use Rattle.actor_moves.proofs.Sent.{keeps_one, of_act, of_grant}
-use Rattle.node_moves.specs.Shows.{IsShown, ShowsReply, PacketShown, PartsShown, NodeShown}
+use Rattle.node_moves.specs.Shows.{IsShown, ShowsReply, PacketShown, KeepsRoster, PartsShown, NodeShown}
 use Rattle.node_moves.specs.Steps.{StepShown, AnswerShown}
 use Rattle.node_moves.proofs.Held.{HeldAt, held_at, shows_put, reply_put}
 use Rattle.node_moves.proofs.Told.{packet_kept, one_shown}
@@ -51,6 +51,65 @@ said_put k replies new old shown thief r there = ⊎_elim
     (λ same. rw (same.1) shown)
     (λ was. packet_kept k r.packet (old thief r was.1))
     (put_or_there name_of_reply (thief, 0) new r replies there)
+
+-- one that is up, a member or one that leaves, answers a thief
+module _ (m : Meaning) (job : JobOf) (v : View) (n : NodeOf) (up : Works (v.mode n.incarnation)) (p : PartsShown v n) (shown : NodeShown v n) where
+  -- it refuses
+  pub refuses_shown : (thief seq : ℕ) → MayAnswer v n.incarnation thief seq → StepShown m job.number v n (refuses job thief seq n)
+  refuses_shown thief seq may =
+      let act : acts.Act v (refuse v n.incarnation thief seq) = acts.refuses n.incarnation thief seq up may in
+      let view : View = refuse v n.incarnation thief seq in
+      let sent : PacketOf = packet job thief (body.Refuse (record { seq = seq })) in
+      let keeps : Keeps v view = keeps_one act in
+      let answer : PacketShown view sent = record { steal = steal_of thief seq n.incarnation; sent = inl refl; thief = refl; seq_is = refl } in
+      let parts : PartsShown view (refuses job thief seq n).after = record {
+        minted = p.minted;
+        asked = p.asked;
+        pending = p.pending;
+        seen = p.seen;
+        subs = p.subs;
+        order = p.order;
+        replies = reply_put v.kept n.incarnation n.replies (record { seq = seq; given = None }) (record { thief = thief; seq = seq; packet = sent }) p.replies (record { seq = refl; to = refl; given = tt });
+        said = said_put keeps n.replies (record { thief = thief; seq = seq; packet = sent }) p.said answer;
+        reply_order = put_order name_of_reply (record { thief = thief; seq = seq; packet = sent }) n.replies p.reply_order;
+        confirmed = p.confirmed;
+        roster = p.roster;
+      } in
+      record {
+        view = view;
+        way = moved unmoved act tt (of_act act n.incarnation refl);
+        name = refl;
+        node = record { mode = shown.mode; parts = λ x. parts };
+        sent = one_shown view sent answer;
+        transfers = λ u old. inl old;
+        fills = refl;
+      }
+
+  -- it sends its last answer again
+  again_shown : (thief : ℕ) (reply : Reply) → reply_in thief n.replies ≡ Some reply → StepShown m job.number v n (sends (reply.packet ∷ []) n)
+  again_shown thief reply there = record { view = v; way = unmoved; name = refl; node = shown; sent = one_shown v reply.packet (p.said thief reply there); transfers = λ u old. inl old; fills = refl }
+
+  -- a Steal comes, whatever serves a newer request
+  module _ (r : Roster) (k : KeepsRoster (v.roster n.incarnation) r) (o : Option ReadyFrame) (serves : (b : Steal) → MayAnswer v n.incarnation b.from b.seq → AnswerShown m job.number v n (served job b o n)) where
+    pub stolen_by : (b : Steal) → steal_of b.from b.seq n.incarnation ∈ v.steals → AnswerShown m job.number v n (stolen job r b o n)
+    unfolding by_order
+    stolen_by b asked = by_live (is_live b.from r.members) refl
+      where
+        may : is_live b.from r.members ≡ true → (Answered (v.kept n.incarnation b.from) b.seq → ⊥) → MayAnswer v n.incarnation b.from b.seq
+        may live due = record { asked = asked; due = due; listed = inr (k.roster, k.is, k.shows.members.status b.from ∙ live_status b.from r.members live) }
+
+        by_seq : is_live b.from r.members ≡ true → (reply : Reply) → reply_in b.from n.replies ≡ Some reply → ShowsReply n.incarnation b.from (v.kept n.incarnation b.from) (Some reply) → (x : Ordering) → nat_cmp b.seq reply.seq ≡ x → AnswerShown m job.number v n (by_order x Ignored (Does (sends (reply.packet ∷ []) n)) (served job b o n))
+        by_seq live reply there kept Less e = tt
+        by_seq live reply there kept Equal e = again_shown b.from reply there
+        by_seq live reply there kept Greater e = serves b (may live (unanswered_newer n.incarnation b.from b.seq (v.kept n.incarnation b.from) reply kept e))
+
+        by_kept : is_live b.from r.members ≡ true → (x : Option Reply) → reply_in b.from n.replies ≡ x → ShowsReply n.incarnation b.from (v.kept n.incarnation b.from) x → AnswerShown m job.number v n (by_reply x b.seq Ignored (λ reply. Does (sends (reply ∷ []) n)) (served job b o n))
+        by_kept live None there kept = serves b (may live (unanswered_none n.incarnation b.from b.seq (v.kept n.incarnation b.from) kept))
+        by_kept live (Some reply) there kept = by_seq live reply there kept (nat_cmp b.seq reply.seq) refl
+
+        by_live : (live : Bool) → is_live b.from r.members ≡ live → AnswerShown m job.number v n (cond live (by_reply (reply_in b.from n.replies) b.seq Ignored (λ reply. Does (sends (reply ∷ []) n)) (served job b o n)) Ignored)
+        by_live false e = tt
+        by_live true e = by_kept e (reply_in b.from n.replies) refl (p.replies b.from)
 
 module _ (m : Meaning) (job : JobOf) (v : View) (n : NodeOf) (r : Roster) (run : Run m v) (is : n.state ≡ Member r) (shown : NodeShown v n) where
   abbrev new_grant : Grant
@@ -102,39 +161,6 @@ module _ (m : Meaning) (job : JobOf) (v : View) (n : NodeOf) (r : Roster) (run :
         fills = refl;
       }
 
-  -- it is refused
-  pub refuses_shown : (thief seq : ℕ) → MayAnswer v n.incarnation thief seq → StepShown m job.number v n (refuses job thief seq n)
-  refuses_shown thief seq may =
-      let h = member_shown v n r is shown in
-      let p = h.parts in
-      let act : acts.Act v (refuse v n.incarnation thief seq) = acts.refuses n.incarnation thief seq (rw h.mode tt) may in
-      let view : View = refuse v n.incarnation thief seq in
-      let sent : PacketOf = packet job thief (body.Refuse (record { seq = seq })) in
-      let keeps : Keeps v view = keeps_one act in
-      let answer : PacketShown view sent = record { steal = steal_of thief seq n.incarnation; sent = inl refl; thief = refl; seq_is = refl } in
-      let parts : PartsShown view (refuses job thief seq n).after = record {
-        minted = p.minted;
-        asked = p.asked;
-        pending = p.pending;
-        seen = p.seen;
-        subs = p.subs;
-        order = p.order;
-        replies = reply_put v.kept n.incarnation n.replies (record { seq = seq; given = None }) (record { thief = thief; seq = seq; packet = sent }) p.replies (record { seq = refl; to = refl; given = tt });
-        said = said_put keeps n.replies (record { thief = thief; seq = seq; packet = sent }) p.said answer;
-        reply_order = put_order name_of_reply (record { thief = thief; seq = seq; packet = sent }) n.replies p.reply_order;
-        confirmed = p.confirmed;
-        roster = p.roster;
-      } in
-      record {
-        view = view;
-        way = moved unmoved act tt (of_act act n.incarnation refl);
-        name = refl;
-        node = record { mode = shown.mode; parts = λ up. parts };
-        sent = one_shown view sent answer;
-        transfers = λ u old. inl old;
-        fills = refl;
-      }
-
   -- a newer request is answered
   pub served_shown : (b : Steal) (choice : Option Choice) → MayAnswer v n.incarnation b.from b.seq → AnswerShown m job.number v n (served job b (chosen_in n choice) n)
   served_shown b choice may = by_choice choice
@@ -144,38 +170,15 @@ module _ (m : Meaning) (job : JobOf) (v : View) (n : NodeOf) (r : Roster) (run :
       by_room f k g at true = let x = ready_there n r g k f is at in grants_shown b.from b.seq x.number f.sub f.ready may x.held x.ready
 
       by_frame : (o : Option ReadyFrame) → ((f : ReadyFrame) → o ≡ Some f → (g : Grant) × (k : ℕ) × (ready_at n g k ≡ Some f)) → AnswerShown m job.number v n (served job b o n)
-      by_frame None from = refuses_shown b.from b.seq may
+      by_frame None from = let h = member_shown v n r is shown in refuses_shown m job v n (rw h.mode tt) h.parts shown b.from b.seq may
       by_frame (Some f) from = let x = from f refl in by_room f x.1 x.0 x.2 (nat_lt (n.minted + 1) (2 ^ 64))
 
       by_choice : (c : Option Choice) → AnswerShown m job.number v n (served job b (chosen_in n c) n)
       by_choice None = by_frame None (λ f e. cc)
       by_choice (Some c) = by_frame (ready_at n c.grant c.frame) (λ f e. (c.grant, c.frame, e))
 
-  -- the last answer, again
-  pub again_shown : (thief : ℕ) (reply : Reply) → reply_in thief n.replies ≡ Some reply → StepShown m job.number v n (sends (reply.packet ∷ []) n)
-  again_shown thief reply there =
-      let h = member_shown v n r is shown in
-      record { view = v; way = unmoved; name = refl; node = shown; sent = one_shown v reply.packet (h.parts.said thief reply there); transfers = λ u old. inl old; fills = refl }
-
   -- a Steal comes
   pub stolen_shown : (b : Steal) (choice : Option Choice) → steal_of b.from b.seq n.incarnation ∈ v.steals → AnswerShown m job.number v n (stolen job r b (chosen_in n choice) n)
-  unfolding by_order
-  stolen_shown b choice asked = by_live (is_live b.from r.members) refl
-    where
-      may : is_live b.from r.members ≡ true → (Answered (v.kept n.incarnation b.from) b.seq → ⊥) → MayAnswer v n.incarnation b.from b.seq
-      may live due =
-          let k = (member_shown v n r is shown).roster in
-          record { asked = asked; due = due; listed = inr (k.roster, k.is, k.shows.members.status b.from ∙ live_status b.from r.members live) }
-
-      by_seq : is_live b.from r.members ≡ true → (reply : Reply) → reply_in b.from n.replies ≡ Some reply → ShowsReply n.incarnation b.from (v.kept n.incarnation b.from) (Some reply) → (o : Ordering) → nat_cmp b.seq reply.seq ≡ o → AnswerShown m job.number v n (by_order o Ignored (Does (sends (reply.packet ∷ []) n)) (served job b (chosen_in n choice) n))
-      by_seq live reply there kept Less e = tt
-      by_seq live reply there kept Equal e = again_shown b.from reply there
-      by_seq live reply there kept Greater e = served_shown b choice (may live (unanswered_newer n.incarnation b.from b.seq (v.kept n.incarnation b.from) reply kept e))
-
-      by_kept : is_live b.from r.members ≡ true → (o : Option Reply) → reply_in b.from n.replies ≡ o → ShowsReply n.incarnation b.from (v.kept n.incarnation b.from) o → AnswerShown m job.number v n (by_reply o b.seq Ignored (λ reply. Does (sends (reply ∷ []) n)) (served job b (chosen_in n choice) n))
-      by_kept live None there kept = served_shown b choice (may live (unanswered_none n.incarnation b.from b.seq (v.kept n.incarnation b.from) kept))
-      by_kept live (Some reply) there kept = by_seq live reply there kept (nat_cmp b.seq reply.seq) refl
-
-      by_live : (live : Bool) → is_live b.from r.members ≡ live → AnswerShown m job.number v n (cond live (by_reply (reply_in b.from n.replies) b.seq Ignored (λ reply. Does (sends (reply ∷ []) n)) (served job b (chosen_in n choice) n)) Ignored)
-      by_live false e = tt
-      by_live true e = by_kept e (reply_in b.from n.replies) refl ((member_shown v n r is shown).parts.replies b.from)
+  stolen_shown b choice asked =
+      let h = member_shown v n r is shown in
+      stolen_by m job v n (rw h.mode tt) h.parts shown r h.roster (chosen_in n choice) (λ x may. served_shown x choice may) b asked

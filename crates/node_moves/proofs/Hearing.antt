@@ -28,13 +28,14 @@ use Rattle.run_tables.specs.Moves.{remove, settle, unpend}
 use Rattle.run_tables.specs.Acts as acts
 use Rattle.run_tables.specs.Runs.{Run}
 use Rattle.run_tables.proofs.Lists.{early}
+use Rattle.run_tables.proofs.Among.{found_among}
 use Rattle.run_tables.proofs.RequestsReached.{requests_reached}
 use Rattle.run_tables.proofs.ValuesKept.{run_reached}
+use Rattle.run_tables.proofs.Entries.{put_here}
 use Rattle.content_moves.specs.Shown.{number_of}
 use Rattle.content_moves.specs.Moved.{IsMove, grants_of}
 use Rattle.content_moves.proofs.Apart.{own_grant}
 use Rattle.content_moves.proofs.Carrying.{result_moves}
-use Rattle.content_moves.proofs.Entries.{put_here}
 use Rattle.content_moves.proofs.Keeping.{result_kept}
 use Rattle.content_moves.proofs.Orders.{without_order}
 use Rattle.content_moves.proofs.Records.{listed_shown, record_there}
@@ -42,10 +43,9 @@ use Rattle.actor_moves.specs.Beside.{Keeps, unmoved, moved}
 use Rattle.actor_moves.proofs.Sent.{keeps_one, of_act}
 use Rattle.node_moves.specs.Shows.{pending_of, RefusalShown, PartsShown, NodeShown}
 use Rattle.node_moves.specs.Steps.{AllShown, StepShown, AnswerShown}
-use Rattle.node_moves.proofs.Held.{HeldAt, held_at, shows_gone}
+use Rattle.node_moves.proofs.Held.{HeldAt, held_at, found_sub, shows_gone}
 use Rattle.node_moves.proofs.Told.{packet_kept, none_shown, one_shown}
 use Rattle.node_moves.proofs.Changing.{aborts_shown, changes_behind}
-use Rattle.node_moves.proofs.Departing.{found_in, found_sub}
 use Rattle.node_moves.proofs.Members.{member_shown, own_sub}
 
 -- what isn't found among a list's items is none of them
@@ -148,7 +148,7 @@ module _ (m : Meaning) (job : JobOf) (v : View) (n : NodeOf) (r : Roster) (run :
       let without : (g : Grant) (t : Sub) → v.subs i g ≡ Some t → RecordOf t.content b.grant → ⊥ = λ g t e has. (
       let x = found_sub (v.subs i g) (sub_in g n.subs) t (p.subs g) e in
       let there = record_there t.content x.sub.content b.grant x.shown.kept x.shown.content has in
-      let not_so = unfound (has_record b.grant) x.sub n.subs none (found_in _ x.sub n.subs x.is) in
+      let not_so = unfound (has_record b.grant) x.sub n.subs none (found_among _ x.sub n.subs x.is) in
       let so : has_record b.grant x.sub ≡ true = rw (there.1) refl in
       let two : true ≡ false = sym so ∙ not_so in
       cc) in

@@ -1,6 +1,7 @@
 -- A node that leaves and is done says Leave: thieves that needn't be waited for turn out to be lost first.
 use Rattle.std.proofs.Common.{◌≡◌, ℕ, Bool, true, false, cond, not, ◌&&◌, List, [], ◌∷◌, ◌++◌, map, ◌⊎◌, inl, inr, ⊎_elim, Option, None, Some, refl, sym, subst, ap, ◌∙◌}
 use Rattle.std.specs.List.{filter}
+use Rattle.std.proofs.lemmas.Bool.{not-false}
 use Rattle.ids.specs.Names.{Grant, house_of}
 use Rattle.ids.specs.Members.{is_live, says_live, status_in}
 use Rattle.ids.specs.declared.member.Status.{Status}
@@ -24,6 +25,7 @@ use Rattle.run_tables.specs.Meaning.{Meaning}
 use Rattle.run_tables.specs.Moves as moves
 use Rattle.run_tables.specs.Acts as acts
 use Rattle.run_tables.specs.Runs.{Run}
+use Rattle.run_tables.proofs.Among.{found_among}
 use Rattle.run_tables.proofs.HomesKept.{homes_reached}
 use Rattle.run_tables.proofs.KnownKept.{known_reached, unheard}
 use Rattle.run_tables.proofs.NamesReached.{names_reached}
@@ -36,7 +38,6 @@ use Rattle.actor_moves.proofs.Sent.{keeps_all, of_act, of_mourn}
 use Rattle.node_moves.specs.Shows.{mode_of, IsReply, ShowsGiven, ShowsReply, ShowsSub, KeepsRoster, PartsShown, NodeShown}
 use Rattle.node_moves.specs.Steps.{StepShown}
 use Rattle.node_moves.proofs.Told.{packet_kept, none_shown, one_shown}
-use Rattle.node_moves.proofs.Departing.{found_in}
 use Rattle.node_moves.proofs.Offering.{same_ack}
 
 pub record LeaverShown (v : View) (n : NodeOf) (r : Roster) (heir : ℕ) : Type 0 where
@@ -172,11 +173,7 @@ live_says (Some (member.Left heir)) e = cc
 awaited_lacks : (b : Bool) (confirmed : List Confirmed) (thief : ℕ) (o : Option Grant) (g : Grant) → b ≡ true → o ≡ Some g → (b && lacks confirmed thief o) ≡ false → is_confirmed thief g confirmed ≡ true
 awaited_lacks false confirmed thief o g e f none = cc
 awaited_lacks true confirmed thief None g e f none = cc
-awaited_lacks true confirmed thief (Some h) g e f none = let same : h ≡ g = cc in rw (← same) (not_false (is_confirmed thief h confirmed) none)
-  where
-    not_false : (b : Bool) → not b ≡ false → b ≡ true
-    not_false true e = refl
-    not_false false e = cc
+awaited_lacks true confirmed thief (Some h) g e f none = let same : h ≡ g = cc in rw (← same) (not-false (is_confirmed thief h confirmed) none)
 
 lacks_as : (r : Roster) (confirmed : List Confirmed) (thief other : ℕ) (o : Option Grant) (g : Grant) → thief ≡ other → is_live thief r.members ≡ true → o ≡ Some g → (is_live other r.members && lacks confirmed other o) ≡ false → is_confirmed thief g confirmed ≡ true
 lacks_as r confirmed thief other o g same live f none =
@@ -226,7 +223,7 @@ module _ (m : Meaning) (job : JobOf) (v : View) (n : NodeOf) (r : Roster) (heir 
           g = given_some n.incarnation y.given (given_by x.reply.packet.body) t x.shown.given f
 
           in_replies : x.reply ∈ n.replies
-          in_replies = found_in _ x.reply n.replies x.there
+          in_replies = found_among _ x.reply n.replies x.there
 
           not_awaited : is_awaited r n.confirmed x.reply ≡ false
           not_awaited = unfiltered (is_awaited r n.confirmed) x.reply n.replies nobody in_replies

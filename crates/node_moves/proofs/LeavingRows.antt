@@ -1,7 +1,8 @@
 -- The rows of a leaving node.
-use Rattle.std.proofs.Common.{◌≡◌, ◌<◌, ◌+◌, ℕ, suc, Bool, true, false, cond, not, nat_eq, nat_lt, ◌&&◌, [], ◌∷◌, inl, inr, ⊎_elim, Option, None, Some, refl, sym, ap, ◌∙◌, Ordering, Less, Equal, Greater, arith}
+use Rattle.std.proofs.Common.{◌≡◌, ◌<◌, ◌+◌, ℕ, suc, Bool, true, false, cond, not, nat_eq, nat_lt, ◌&&◌, [], inl, ⊎_elim, Option, None, Some, refl, sym, ap, ◌∙◌, Ordering, Less, Equal, Greater, arith}
 use Rattle.std.specs.List.{list_any}
 use Rattle.std.specs.Ordering.{eq_by_cmp, is_eq, nat_cmp}
+use Rattle.std.proofs.lemmas.Bool.{and_parts}
 use Rattle.ids.specs.Named.{item_in, name_cmp}
 use Rattle.ids.specs.Names.{Grant, grant_cmp}
 use Rattle.ids.specs.Naming.{name_of_grant}
@@ -11,45 +12,40 @@ use Rattle.ids.specs.declared.member.Status.TheVariants as member
 use Rattle.ids.proofs.NameOrder.{exact_names}
 use Rattle.ids.proofs.Replacing.{put_is_found}
 use Rattle.agreement.proofs.Finding.{put_stays}
-use Rattle.codec.specs.Table.{PacketOf}
-use Rattle.codec.specs.declared.body.Body.TheVariants as body
 use Rattle.codec.specs.declared.body.OfferAck.{OfferAck}
 use Rattle.codec.specs.declared.body.Roster.{Roster}
 use Rattle.codec.specs.declared.body.Steal.{Steal}
 use Rattle.serial_meaning.specs.Job.{JobOf}
-use Rattle.steal_protocol.specs.Replies.{by_order, by_reply, name_of_reply, reply_in}
-use Rattle.steal_protocol.specs.declared.replies.Reply.{Reply}
+use Rattle.steal_protocol.specs.Replies.{by_order}
 use Rattle.subcomputation.specs.Subs.{SubOf, name_of_sub, sub_in, without_sub}
 use Rattle.node_state.specs.Node.{NodeOf, ended, is_confirmed, is_grant_of, name_of_confirmed, put_confirmed}
 use Rattle.node_state.specs.declared.parts.State.TheVariants.{Leaving}
 use Rattle.node_state.proofs.Posting.{same_names}
-use Rattle.node_core.specs.Cases.{by_status, confirms, is_released, leaving_roster, stolen, taken, served}
-use Rattle.node_core.specs.Moves.{awaited, is_empty, leaves, packet, refuses}
+use Rattle.node_core.specs.Cases.{by_status, confirms, is_released, leaving_roster, stolen, taken}
+use Rattle.node_core.specs.Moves.{awaited, is_empty, leaves}
 use Rattle.node_core.specs.Steps.{Does, Ignored, quiet, sends}
 use Rattle.run_tables.specs.Tables.{◌∈◌}
 use Rattle.run_tables.specs.View.{Works, View}
 use Rattle.run_tables.specs.View as tables
-use Rattle.run_tables.specs.Facts.{Answered, ack_of, offer_of, steal_of}
-use Rattle.run_tables.specs.Guards.{MayAdopt, MayAnswer, MayRelease}
+use Rattle.run_tables.specs.Facts.{ack_of, offer_of, steal_of}
+use Rattle.run_tables.specs.Guards.{MayAdopt, MayRelease}
 use Rattle.run_tables.specs.Meaning.{Meaning}
-use Rattle.run_tables.specs.Moves.{adopt, refuse, remove}
+use Rattle.run_tables.specs.Moves.{adopt, remove}
 use Rattle.run_tables.specs.Acts as acts
 use Rattle.run_tables.specs.Runs.{Run}
 use Rattle.run_tables.proofs.Lists.{same_or}
-use Rattle.content_moves.proofs.Entries.{put_here}
-use Rattle.content_moves.proofs.Orders.{put_order, without_order}
+use Rattle.run_tables.proofs.Entries.{put_here}
+use Rattle.content_moves.proofs.Orders.{without_order}
 use Rattle.actor_moves.specs.Beside.{Keeps, unmoved, moved}
 use Rattle.actor_moves.proofs.Sent.{keeps_one, of_act, runs_on}
-use Rattle.node_moves.specs.Shows.{RosterShown, ShowsReply, PacketShown, PartsShown, NodeShown}
+use Rattle.node_moves.specs.Shows.{RosterShown, PartsShown, NodeShown}
 use Rattle.node_moves.specs.Steps.{StepShown, AnswerShown}
-use Rattle.node_moves.proofs.Held.{HeldAt, held_at, reply_put, shows_gone}
-use Rattle.node_moves.proofs.Told.{packet_kept, none_shown, one_shown}
+use Rattle.node_moves.proofs.Held.{HeldAt, held_at, shows_gone}
+use Rattle.node_moves.proofs.Told.{packet_kept, none_shown}
 use Rattle.node_moves.proofs.Beside.{steps_on}
-use Rattle.node_moves.proofs.Members.{live_status, unanswered_none, unanswered_newer}
-use Rattle.node_moves.proofs.Granting.{said_put}
+use Rattle.node_moves.proofs.Granting.{refuses_shown, stolen_by}
 use Rattle.node_moves.proofs.Leaving.{leaver_shown, leaves_shown}
 use Rattle.node_moves.proofs.Rostering.{ends_shown}
-use Rattle.node_moves.proofs.Taking.{first, second}
 
 pub exact_grants : (g h : Grant) → eq_by_cmp grant_cmp g h ≡ true → g ≡ h
 exact_grants g h e = same_names g h (exact_names (name_of_grant g) (name_of_grant h) (by_order (name_cmp (name_of_grant g) (name_of_grant h)) e))
@@ -113,48 +109,20 @@ module _ (m : Meaning) (job : JobOf) (v : View) (n : NodeOf) (r : Roster) (heir 
       by_released : (s : SubOf) → sub_in b.grant n.subs ≡ Some s → (x : Bool) → (nat_eq b.hop (s.hop + 1) && nat_eq b.from heir) ≡ x → AnswerShown m job.number v n (cond x (Does (sends (leaves job r heir (record n { subs = without_sub b.grant n.subs })) (record n { subs = without_sub b.grant n.subs }))) (cond (nat_eq b.hop 0 && list_any (confirms b) (awaited r n)) (Does (sends (leaves job r heir (record n { confirmed = put_confirmed (record { thief = b.from; grant = b.grant }) n.confirmed })) (record n { confirmed = put_confirmed (record { thief = b.from; grant = b.grant }) n.confirmed }))) Ignored))
       by_released s there false e = by_any (nat_eq b.hop 0) (list_any (confirms b) (awaited r n)) refl
       by_released s there true e =
-          let hop : b.hop ≡ s.hop + 1 = (let f = first (nat_eq b.hop (s.hop + 1)) (nat_eq b.from heir) e in grind (arith, f)) in
-          let from : b.from ≡ heir = (let f = second (nat_eq b.hop (s.hop + 1)) (nat_eq b.from heir) e in grind (arith, f)) in
+          let hop : b.hop ≡ s.hop + 1 = (let f = (and_parts (nat_eq b.hop (s.hop + 1)) (nat_eq b.from heir) e).0 in grind (arith, f)) in
+          let from : b.from ≡ heir = (let f = (and_parts (nat_eq b.hop (s.hop + 1)) (nat_eq b.from heir) e).1 in grind (arith, f)) in
           behind_shown (record n { subs = without_sub b.grant n.subs }) is (releases_shown b acked s there hop from)
 
       by_sub : (o : Option SubOf) → sub_in b.grant n.subs ≡ o → AnswerShown m job.number v n (cond (is_released heir b o) (Does (sends (leaves job r heir (record n { subs = without_sub b.grant n.subs })) (record n { subs = without_sub b.grant n.subs }))) (cond (nat_eq b.hop 0 && list_any (confirms b) (awaited r n)) (Does (sends (leaves job r heir (record n { confirmed = put_confirmed (record { thief = b.from; grant = b.grant }) n.confirmed })) (record n { confirmed = put_confirmed (record { thief = b.from; grant = b.grant }) n.confirmed }))) Ignored))
       by_sub None e = by_any (nat_eq b.hop 0) (list_any (confirms b) (awaited r n)) refl
       by_sub (Some s) e = by_released s e (nat_eq b.hop (s.hop + 1) && nat_eq b.from heir) refl
 
-  -- a thief is refused
-  leaver_refuses : (thief seq : ℕ) → MayAnswer v n.incarnation thief seq → StepShown m job.number v n (refuses job thief seq n)
-  leaver_refuses thief seq may =
-      let h = leaver_shown v n r heir is shown in
-      let p = h.parts in
-      let act : acts.Act v (refuse v n.incarnation thief seq) = acts.refuses n.incarnation thief seq (rw h.mode tt) may in
-      let view : View = refuse v n.incarnation thief seq in
-      let sent : PacketOf = packet job thief (body.Refuse (record { seq = seq })) in
-      let keeps : Keeps v view = keeps_one act in
-      let answer : PacketShown view sent = record { steal = steal_of thief seq n.incarnation; sent = inl refl; thief = refl; seq_is = refl } in
-      let parts : PartsShown view (refuses job thief seq n).after = record { minted = p.minted; asked = p.asked; pending = p.pending; seen = p.seen; subs = p.subs; order = p.order; replies = reply_put v.kept n.incarnation n.replies (record { seq = seq; given = None }) (record { thief = thief; seq = seq; packet = sent }) p.replies (record { seq = refl; to = refl; given = tt }); said = said_put keeps n.replies (record { thief = thief; seq = seq; packet = sent }) p.said answer; reply_order = put_order name_of_reply (record { thief = thief; seq = seq; packet = sent }) n.replies p.reply_order; confirmed = p.confirmed; roster = p.roster } in
-      record { view = view; way = moved unmoved act tt (of_act act n.incarnation refl); name = refl; node = record { mode = shown.mode; parts = λ up. parts }; sent = one_shown view sent answer; transfers = λ u old. inl old; fills = refl }
-
+  -- a Steal comes: the thief is refused, or gets the last answer again
   pub leaver_stolen : (b : Steal) → steal_of b.from b.seq n.incarnation ∈ v.steals → AnswerShown m job.number v n (stolen job r b None n)
-  unfolding by_order
-  leaver_stolen b asked = by_live (is_live b.from r.members) refl
-    where
-      may : is_live b.from r.members ≡ true → (Answered (v.kept n.incarnation b.from) b.seq → ⊥) → MayAnswer v n.incarnation b.from b.seq
-      may live due =
-          let k = (leaver_shown v n r heir is shown).roster in
-          record { asked = asked; due = due; listed = inr (k.roster, k.is, k.shows.members.status b.from ∙ live_status b.from r.members live) }
-
-      by_seq : is_live b.from r.members ≡ true → (reply : Reply) → reply_in b.from n.replies ≡ Some reply → ShowsReply n.incarnation b.from (v.kept n.incarnation b.from) (Some reply) → (o : Ordering) → nat_cmp b.seq reply.seq ≡ o → AnswerShown m job.number v n (by_order o Ignored (Does (sends (reply.packet ∷ []) n)) (served job b None n))
-      by_seq live reply there kept Less e = tt
-      by_seq live reply there kept Equal e = record { view = v; way = unmoved; name = refl; node = shown; sent = one_shown v reply.packet ((leaver_shown v n r heir is shown).parts.said b.from reply there); transfers = λ u old. inl old; fills = refl }
-      by_seq live reply there kept Greater e = leaver_refuses b.from b.seq (may live (unanswered_newer n.incarnation b.from b.seq (v.kept n.incarnation b.from) reply kept e))
-
-      by_kept : is_live b.from r.members ≡ true → (o : Option Reply) → reply_in b.from n.replies ≡ o → ShowsReply n.incarnation b.from (v.kept n.incarnation b.from) o → AnswerShown m job.number v n (by_reply o b.seq Ignored (λ reply. Does (sends (reply ∷ []) n)) (served job b None n))
-      by_kept live None there kept = leaver_refuses b.from b.seq (may live (unanswered_none n.incarnation b.from b.seq (v.kept n.incarnation b.from) kept))
-      by_kept live (Some reply) there kept = by_seq live reply there kept (nat_cmp b.seq reply.seq) refl
-
-      by_live : (live : Bool) → is_live b.from r.members ≡ live → AnswerShown m job.number v n (cond live (by_reply (reply_in b.from n.replies) b.seq Ignored (λ reply. Does (sends (reply ∷ []) n)) (served job b None n)) Ignored)
-      by_live false e = tt
-      by_live true e = by_kept e (reply_in b.from n.replies) refl ((leaver_shown v n r heir is shown).parts.replies b.from)
+  leaver_stolen b asked =
+      let h = leaver_shown v n r heir is shown in
+      let up : Works (v.mode n.incarnation) = rw h.mode tt in
+      stolen_by m job v n up h.parts shown r h.roster None (λ x may. refuses_shown m job v n up h.parts shown x.from x.seq may) b asked
 
 -- a roster comes to it
 module _ (m : Meaning) (job : JobOf) (old new : Roster) (heir : ℕ) (v : View) (n : NodeOf) (run : Run m v) (is : n.state ≡ Leaving old heir) (shown : NodeShown v n) (told : RosterShown v.rosters new) where

@@ -25,7 +25,7 @@ use Rattle.run_tables.specs.Meaning.{Meaning}
 use Rattle.run_tables.specs.Moves.{acknowledge, admit, adopt, take}
 use Rattle.run_tables.specs.Acts as acts
 use Rattle.run_tables.specs.Runs.{Run}
-use Rattle.content_moves.proofs.Entries.{put_here}
+use Rattle.run_tables.proofs.Entries.{put_here}
 use Rattle.content_moves.proofs.Orders.{put_order}
 use Rattle.actor_moves.specs.Beside.{Keeps, unmoved, moved}
 use Rattle.actor_moves.proofs.Sent.{keeps_one, of_act, runs_on}

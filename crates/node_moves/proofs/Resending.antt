@@ -1,8 +1,7 @@
 -- What isn't answered yet is sent again, by one that joins and by a member.
-use Rattle.std.proofs.Common.{◌≡◌, ℕ, Bool, true, false, cond, List, [], ◌∷◌, ◌++◌, map, ◌⊎◌, inl, inr, ⊎_elim, Option, None, Some, refl, sym, ap, ◌∙◌, Ordering, Less, Equal, Greater}
-use Rattle.std.specs.List.{AllByRecursion, filter, flat_map}
-use Rattle.std.specs.Ordering.{match_ordering}
-use Rattle.ids.specs.Named.{Name, item_in, name_cmp, put_in}
+use Rattle.std.proofs.Common.{◌≡◌, ℕ, List, [], ◌∷◌, ◌++◌, ◌⊎◌, inl, inr, ⊎_elim, Option, None, Some, refl, sym, ap, ◌∙◌}
+use Rattle.std.specs.List.{AllByRecursion, flat_map}
+use Rattle.ids.specs.Named.{item_in, put_in}
 use Rattle.ids.specs.Names.{Grant}
 use Rattle.codec.specs.Table.{PacketOf}
 use Rattle.codec.specs.declared.body.Roster.{Roster}
@@ -26,6 +25,7 @@ use Rattle.run_tables.specs.Facts.{Live}
 use Rattle.run_tables.specs.Meaning.{Meaning}
 use Rattle.run_tables.specs.Moves.{alter}
 use Rattle.run_tables.specs.Runs.{Run}
+use Rattle.run_tables.proofs.Among.{put_among, filtered, mapped, of_each}
 use Rattle.run_tables.proofs.HomesKept.{homes_reached}
 use Rattle.run_tables.proofs.Lists.{early, either, grant_or}
 use Rattle.run_tables.proofs.NamesReached.{names_reached}
@@ -106,18 +106,7 @@ join_again_shown m job v n run is shown =
     let worker = (homes_reached (run_reached run)).worker_name n.incarnation up (λ house. let two : tables.Joining ≡ tables.House = sym mode ∙ house in cc) in
     only_sends m job v n shown (calls.join job n.incarnation ∷ []) (one_shown v (calls.join job n.incarnation) (used, worker))
 
--- what is put in its place, or was there
-put_among : {X : Type 0} (name : X → Name) (x y : X) (xs : List X) → y ∈ put_in name x xs → (y ≡ x) ⊎ (y ∈ xs)
-put_among name x y [] m = m
-put_among name x y (z ∷ zs) m = by_order (put_among name x y zs) (name_cmp (name x) (name z)) m
-  where
-    by_order : (y ∈ put_in name x zs → (y ≡ x) ⊎ (y ∈ zs)) → (o : Ordering) → y ∈ match_ordering o (x ∷ z ∷ zs) (x ∷ zs) (z ∷ put_in name x zs) → (y ≡ x) ⊎ (y ∈ (z ∷ zs))
-    by_order rest Less m = m
-    by_order rest Equal (inl e) = inl e
-    by_order rest Equal (inr m) = inr (inr m)
-    by_order rest Greater (inl e) = inr (inl e)
-    by_order rest Greater (inr m) = ⊎_elim (λ e. inl e) (λ k. inr (inr k)) (rest m)
-
+-- items that are put in order were there
 sorted_among : (gs sorted : List Given) (y : Given) → y ∈ with_given gs sorted → (y ∈ gs) ⊎ (y ∈ sorted)
 sorted_among [] sorted y m = inr m
 sorted_among (g ∷ gs) sorted y m = ⊎_elim
@@ -143,36 +132,17 @@ given_among (r ∷ rs) y m = ⊎_elim
     first (Some g) (inl e) = record { reply = r; there = inl refl; is = ap (λ (z : Given). z.packet) e }
     first (Some g) (inr k) = absurd k
 
-mapped : (gs : List Given) (p : PacketOf) → p ∈ map (λ (g : Given). g.packet) gs → (g : Given) × (g ∈ gs) × (p ≡ g.packet)
-mapped [] p m = absurd m
-mapped (g ∷ gs) p (inl e) = (g, inl refl, e)
-mapped (g ∷ gs) p (inr m) = let x = mapped gs p m in (x.0, inr x.1, x.2)
-
-filtered : {X : Type 0} (test : X → Bool) (x : X) (xs : List X) → x ∈ filter test xs → x ∈ xs
-filtered test x [] m = absurd m
-filtered test x (y ∷ ys) m = by_test (filtered test x ys) (test y) m
-  where
-    by_test : (x ∈ filter test ys → x ∈ ys) → (b : Bool) → x ∈ cond b (y ∷ filter test ys) (filter test ys) → (x ≡ y) ⊎ (x ∈ ys)
-    by_test rest true (inl e) = inl e
-    by_test rest true (inr k) = inr (rest k)
-    by_test rest false k = inr (rest k)
-
-all_of : {X : Type 0} (P : X → Type 0) (x : X) (xs : List X) → AllByRecursion P xs → x ∈ xs → P x
-all_of P x [] a m = absurd m
-all_of P x (y ∷ ys) a (inl e) = rw e (a.0)
-all_of P x (y ∷ ys) a (inr m) = all_of P x ys a.1 m
-
 -- one that leaves
 module _ (m : Meaning) (job : JobOf) (v : View) (n : NodeOf) (r : Roster) (heir : ℕ) (run : Run m v) (is : n.state ≡ Leaving r heir) (shown : NodeShown v n) where
   grants_again : AllShown v (grants_in (awaited r n))
   grants_again p k =
       let own = (leaver_shown v n r heir is shown).parts in
-      let g = mapped (with_given (all_given (awaited r n)) []) p k in
-      let among : g.0 ∈ all_given (awaited r n) = ⊎_elim (λ x. x) (λ x. absurd x) (sorted_among (all_given (awaited r n)) [] g.0 g.1) in
-      let x = given_among (awaited r n) g.0 among in
+      let g = mapped (λ (y : Given). y.packet) (with_given (all_given (awaited r n)) []) p k in
+      let among : g.item ∈ all_given (awaited r n) = ⊎_elim (λ x. x) (λ x. absurd x) (sorted_among (all_given (awaited r n)) [] g.item g.there) in
+      let x = given_among (awaited r n) g.item among in
       let held = filtered _ x.reply n.replies x.there in
-      let found = all_of (λ (z : Reply). item_in name_of_reply (name_of_reply z) n.replies ≡ Some z) x.reply n.replies (all_there name_of_reply n.replies own.reply_order) held in
-      rw (g.2, x.is) (own.said x.reply.thief x.reply found)
+      let found = of_each (λ (z : Reply). item_in name_of_reply (name_of_reply z) n.replies ≡ Some z) n.replies (all_there name_of_reply n.replies own.reply_order) x.reply held in
+      rw (g.is, x.is) (own.said x.reply.thief x.reply found)
 
   offers_again : AllShown v (calls.offers job heir n)
   offers_again =

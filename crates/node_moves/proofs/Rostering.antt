@@ -28,7 +28,7 @@ use Rattle.run_tables.proofs.LeaversKept.{leavers_reached}
 use Rattle.run_tables.proofs.Lists.{same_or}
 use Rattle.run_tables.proofs.RostersReached.{rosters_reached}
 use Rattle.run_tables.proofs.ValuesKept.{run_reached}
-use Rattle.content_moves.proofs.Entries.{put_here}
+use Rattle.run_tables.proofs.Entries.{put_here}
 use Rattle.actor_moves.specs.Beside.{Keeps, unmoved, moved}
 use Rattle.actor_moves.specs.Listed.{status_of, Mourning}
 use Rattle.actor_moves.proofs.Mourners.{mourned}

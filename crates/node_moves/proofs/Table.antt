@@ -1,5 +1,6 @@
 -- The whole table of packets, and a node's own calls.
 use Rattle.std.proofs.Common.{◌≡◌, ◌+◌, ◌^◌, ℕ, Bool, true, false, cond, not, nat_eq, nat_lt, ◌&&◌, inl, Option, None, Some, is_some, refl, sym, ap, ◌∙◌, arith}
+use Rattle.std.proofs.lemmas.Bool.{and_parts}
 use Rattle.ids.specs.Members.{is_live}
 use Rattle.codec.specs.Table.{PacketOf}
 use Rattle.codec.specs.declared.body.Body.{Body}
@@ -29,16 +30,16 @@ use Rattle.run_tables.specs.Acts as acts
 use Rattle.run_tables.specs.Runs.{Run}
 use Rattle.run_tables.proofs.RostersReached.{rosters_reached}
 use Rattle.run_tables.proofs.ValuesKept.{run_reached}
-use Rattle.content_moves.proofs.Entries.{put_here}
 use Rattle.actor_moves.specs.Beside.{Keeps, unmoved, moved}
 use Rattle.run_tables.proofs.EpochsKept.{epochs_reached}
+use Rattle.run_tables.proofs.Entries.{put_here}
 use Rattle.actor_moves.proofs.Sent.{keeps_one, of_act}
 use Rattle.node_moves.specs.Shows.{mode_of, pending_of, BodyShown, PacketShown, PartsShown, NodeShown}
 use Rattle.node_moves.specs.Steps.{StepShown, AnswerShown}
 use Rattle.node_moves.proofs.Told.{packet_kept, one_shown}
 use Rattle.node_moves.proofs.Members.{live_status, member_shown}
 use Rattle.node_moves.proofs.Granting.{stolen_shown}
-use Rattle.node_moves.proofs.Taking.{granted_shown, second}
+use Rattle.node_moves.proofs.Taking.{granted_shown}
 use Rattle.node_moves.proofs.Hearing.{aborted_shown, acknowledged_shown, refused_shown, returned_shown}
 use Rattle.node_moves.proofs.Offering.{joins_shown, leaving_offered_shown, member_offered_shown}
 use Rattle.node_moves.proofs.Rostering.{member_roster_shown}
@@ -170,7 +171,7 @@ module _ (m : Meaning) (job : JobOf) (v : View) (n : NodeOf) (run : Run m v) (sh
       by_victim r is (Worker i) may =
           let k = (member_shown v n r is shown).roster in
           let rosters = rosters_reached (run_reached run) in
-          let live : k.roster.status i ≡ tables.Live = k.shows.members.status i ∙ live_status i r.members (second (not (nat_eq i n.incarnation)) (is_live i r.members) may) in
+          let live : k.roster.status i ≡ tables.Live = k.shows.members.status i ∙ live_status i r.members (and_parts (not (nat_eq i n.incarnation)) (is_live i r.members) may).1 in
           (rosters.members k.roster i (rosters.kept_had n.incarnation k.roster k.is) (λ u. let two : tables.Live ≡ tables.Unlisted = sym live ∙ u in cc)).0
       by_victim r is House may =
           let k = (member_shown v n r is shown).roster in

@@ -1,5 +1,6 @@
 -- A Grant comes: it is taken, or acknowledged again.
 use Rattle.std.proofs.Common.{◌≡◌, ◌<◌, ℕ, Bool, true, false, cond, not, nat_eq, ◌&&◌, [], ◌∷◌, inl, inr, Option, None, Some, is_some, refl, sym, ap, ◌∙◌, arith}
+use Rattle.std.proofs.lemmas.Bool.{and_parts}
 use Rattle.ids.specs.Names.{is_worker}
 use Rattle.codec.specs.declared.body.Grant.{Grant as GrantBody}
 use Rattle.serial_meaning.specs.Job.{JobOf}
@@ -21,7 +22,7 @@ use Rattle.run_tables.specs.Acts as acts
 use Rattle.run_tables.specs.Runs.{Run}
 use Rattle.run_tables.proofs.RequestsReached.{requests_reached}
 use Rattle.run_tables.proofs.ValuesKept.{run_reached}
-use Rattle.content_moves.proofs.Entries.{put_here}
+use Rattle.run_tables.proofs.Entries.{put_here}
 use Rattle.content_moves.proofs.Keeping.{begun_kept}
 use Rattle.content_moves.proofs.Orders.{put_order}
 use Rattle.actor_moves.specs.Beside.{Keeps, unmoved, moved}
@@ -30,15 +31,6 @@ use Rattle.node_moves.specs.Shows.{pending_of, IsShown, GrantShown, PartsShown, 
 use Rattle.node_moves.specs.Steps.{StepShown, AnswerShown}
 use Rattle.node_moves.proofs.Held.{shows_put, seen_put}
 use Rattle.node_moves.proofs.Told.{packet_kept, one_shown, none_shown}
-
--- both of two tests hold
-pub first : (a b : Bool) → (a && b) ≡ true → a ≡ true
-first true b both = refl
-first false b both = cc
-
-pub second : (a b : Bool) → (a && b) ≡ true → b ≡ true
-second true b both = both
-second false b both = cc
 
 -- what answers the pending request
 pub record Answers (b : GrantBody) (o : Option Request) : Type 0 where
@@ -52,8 +44,8 @@ answers_pending b None e = cc
 answers_pending b (Some q) e = record {
   request = q;
   is = refl;
-  seq = (let x = first (nat_eq q.seq b.seq) (nat_eq q.victim b.grant.minter) e in grind (arith, x));
-  victim = (let x = second (nat_eq q.seq b.seq) (nat_eq q.victim b.grant.minter) e in grind (arith, x));
+  seq = (let x = (and_parts (nat_eq q.seq b.seq) (nat_eq q.victim b.grant.minter) e).0 in grind (arith, x));
+  victim = (let x = (and_parts (nat_eq q.seq b.seq) (nat_eq q.victim b.grant.minter) e).1 in grind (arith, x));
 }
 
 request_same : (a b c d : ℕ) → a ≡ c → b ≡ d → ◌≡◌ {A = Option tables.Request} (Some (record { victim = a; seq = b })) (Some (record { victim = c; seq = d }))

@@ -12,9 +12,10 @@ use Rattle.run_tables.specs.View.{Sub, View}
 use Rattle.run_tables.specs.Facts.{Live}
 use Rattle.run_tables.specs.Acts.{Reached}
 use Rattle.run_tables.specs.Work as tables
+use Rattle.run_tables.proofs.Lists.{some_same}
 use Rattle.run_tables.proofs.SomeWork.{work_somewhere}
 use Rattle.content_moves.specs.Shown.{outcome_of}
-use Rattle.content_moves.proofs.Apart.{own_grant, some_same}
+use Rattle.content_moves.proofs.Apart.{own_grant}
 use Rattle.content_moves.proofs.Records.{granted_there}
 use Rattle.node_moves.specs.Shows.{IsShown}
 use Rattle.house_moves.specs.Shows.{OpenShown}

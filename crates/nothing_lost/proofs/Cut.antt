@@ -13,21 +13,15 @@ use Rattle.run_tables.specs.View.{Roster, Works, View}
 use Rattle.run_tables.specs.View as tables
 use Rattle.run_tables.specs.Recovery.{CutOff, dead, gone, behind}
 use Rattle.run_tables.specs.Rosters.{Rosters}
+use Rattle.run_tables.proofs.Lists.{none_some, some_same}
 use Rattle.actor_moves.specs.Listed.{status_of}
-use Rattle.content_moves.proofs.Apart.{none_some, some_same}
 use Rattle.node_moves.specs.Shows.{mode_of, KeepsRoster, NodeShown, ShowsRoster}
+use Rattle.house_moves.proofs.Publishing.{dead_of}
 use Rattle.world_steps.specs.Lost.{IsBehind, IsCutAt, IsGone, NotLeft}
 use Rattle.world_steps.specs.World.{WorldOf}
 use Rattle.world_moves.specs.Shown.{Shown}
 
--- who is dead in the tables is so in the roster
-is_dead : (o : Option Status) → status_of o ≡ tables.Dead → o ≡ Some member.Dead
-is_dead None e = cc
-is_dead (Some member.Live) e = cc
-is_dead (Some member.Dead) e = refl
-is_dead (Some (member.Left heir)) e = cc
-
--- and who isn't shown left isn't there either
+-- who isn't shown left in the tables isn't in the roster either
 not_left : (o : Option Status) → ((heir : ℕ) → status_of o ≡ tables.Left heir → ⊥) → NotLeft o
 not_left None f = tt
 not_left (Some member.Live) f = tt
@@ -81,6 +75,6 @@ is_cut job v w shown rosters h house shows i cut = by_cut cut
     old r kept less a n at name = before v h n (shown.nodes a n at) rosters r (ap v.roster name ∙ kept) (rw shows.epoch at less)
 
     by_cut : CutOff v house i → IsCutAt w h i
-    by_cut (dead e) = inl (is_dead (status_in i (members_of h)) (sym status ∙ e))
+    by_cut (dead e) = inl (dead_of (status_in i (members_of h)) (sym status ∙ e))
     by_cut (gone f idle) = inr (unleft f, down idle)
     by_cut (behind f r kept less) = inr (unleft f, old r kept less)

@@ -10,9 +10,9 @@ use Rattle.sub_rules.specs.Content.{ready, ready_in}
 use Rattle.sub_rules.proofs.Departures.{frame_number}
 use Rattle.run_tables.specs.Content.{Content as Tables, Empty}
 use Rattle.run_tables.specs.Work.{Ready}
+use Rattle.run_tables.proofs.Lists.{none_some}
 use Rattle.content_moves.specs.Moved.{IsKept}
 use Rattle.content_moves.specs.Shown.{slot_of, ShowsFrame, Shows}
-use Rattle.content_moves.proofs.Apart.{none_some}
 use Rattle.content_moves.proofs.Records.{Stolen, NoneStolen, stolen_or}
 
 -- slots of which none is empty hold numbers

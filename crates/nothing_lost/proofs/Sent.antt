@@ -1,5 +1,5 @@
 -- A transfer of the tables went in a packet of the world.
-use Rattle.std.proofs.Common.{◌≡◌, ℕ, suc, List, [], ◌∷◌, inl, inr, Option, None, Some, refl, sym, ap, ◌∙◌}
+use Rattle.std.proofs.Common.{◌≡◌, ℕ, suc, Option, None, Some, refl, sym, ap, ◌∙◌}
 use Rattle.std.specs.List.{slice_get}
 use Rattle.ids.specs.Names.{Grant}
 use Rattle.codec.specs.declared.body.Body.{Body}
@@ -12,18 +12,13 @@ use Rattle.run_tables.specs.View as tables
 use Rattle.run_tables.specs.Facts.{Came, request_of}
 use Rattle.run_tables.specs.Names.{Names}
 use Rattle.run_tables.specs.Requests.{Requests}
+use Rattle.run_tables.proofs.Among.{placed}
 use Rattle.node_moves.specs.Shows.{BodyShown, pending_of}
 use Rattle.node_moves.specs.Steps.{Carries, IsSent}
 use Rattle.world_steps.specs.Lost.{Answers, IsAwaited, IsTransfer, WasSent}
 use Rattle.world_steps.specs.World.{WorldOf}
 use Rattle.world_moves.specs.Shown.{Shown}
 use Rattle.nothing_lost.proofs.Up.{NodeUp, node_up}
-
--- what is in a list stands somewhere in it
-placed : {X : Type 0} (xs : List X) (x : X) → x ∈ xs → (k : ℕ) × (slice_get xs k ≡ Some x)
-placed [] x m = absurd m
-placed (y ∷ ys) x (inl e) = (0, ap (λ z. Some z) (sym e))
-placed (y ∷ ys) x (inr m) = let rest = placed ys x m in (suc rest.0, rest.1)
 
 -- the packet of a transfer is one of its grant
 transfer_body : (t : Transfer) (g : Grant) (b : Body) → t.grant ≡ g → Carries t b → IsTransfer g b
@@ -36,7 +31,7 @@ was_sent job v w shown g i came =
     let t = came.transfer in
     let sent : IsSent job.number w.net t = shown.sent t came.sent in
     let at = placed w.net sent.packet sent.there in
-    record { at = at.0; packet = sent.packet; sent = at.1; transfer = transfer_body t g sent.packet.body came.grant sent.carries; to = sent.to ∙ came.to }
+    record { at = at.at; packet = sent.packet; sent = at.is; transfer = transfer_body t g sent.packet.body came.grant sent.carries; to = sent.to ∙ came.to }
 
 -- the request that a thief waits on
 record Waits (t : Transfer) (o : Option Request) : Type 0 where
@@ -88,4 +83,4 @@ awaits job v w shown names requests t m first works pending = by_node (node_up j
         let q : Waits t n.node.asker.pending = waits t n.node.asker.pending (sym n.parts.pending ∙ ap v.pending n.name ∙ pending) in
         let sent : IsSent job.number w.net t = shown.sent t m in
         let at = placed w.net sent.packet sent.there in
-        by_packet n q sent at.0 at.1
+        by_packet n q sent at.at at.is

@@ -1,16 +1,17 @@
 -- What a name holds in the tables, a node of that name holds in the world.
-use Rattle.std.proofs.Common.{◌≡◌, ℕ, Option, None, Some, refl, sym, ap, ◌∙◌}
+use Rattle.std.proofs.Common.{◌≡◌, ℕ, Some, refl, sym, ap, ◌∙◌}
 use Rattle.ids.specs.Names.{Grant}
 use Rattle.codec.specs.declared.body.Roster.{Roster}
 use Rattle.serial_meaning.specs.Job.{JobOf}
-use Rattle.subcomputation.specs.Subs.{SubOf, sub_in}
+use Rattle.subcomputation.specs.Subs.{sub_in}
 use Rattle.node_state.specs.Node.{NodeOf}
 use Rattle.node_state.specs.declared.parts.State.{State as Stage}
 use Rattle.node_state.specs.declared.parts.State.TheVariants.{Joining, Member, Leaving, Ended}
 use Rattle.run_tables.specs.View.{House, Sub, Works, View}
 use Rattle.run_tables.specs.View as tables
 use Rattle.run_tables.specs.Facts.{Live}
-use Rattle.node_moves.specs.Shows.{mode_of, IsShown, ShowsSub, PartsShown}
+use Rattle.node_moves.specs.Shows.{mode_of, IsShown, PartsShown}
+use Rattle.node_moves.proofs.Held.{FoundSub, found_sub}
 use Rattle.world_steps.specs.Lost.{IsFrozen}
 use Rattle.world_steps.specs.World.{Holder, WorldOf, live_at, node_in}
 use Rattle.world_moves.specs.Shown.{UpAt, Shown}
@@ -46,17 +47,6 @@ leaving_state (Member r) to e = cc
 leaving_state (Leaving r heir) to e = (r, heir, refl)
 leaving_state Ended to e = cc
 
--- the subcomputation that a sub shows
-record HeldAs (t : Sub) (q : Option SubOf) : Type 0 where
-  sub : SubOf
-  is : q ≡ Some sub
-  shown : IsShown t sub
-
-held_as : (o : Option Sub) (q : Option SubOf) (t : Sub) → ShowsSub o q → o ≡ Some t → HeldAs t q
-held_as None q t shows e = cc
-held_as (Some x) None t shows e = absurd shows
-held_as (Some x) (Some s) t shows e = let same : x ≡ t = cc in record { sub = s; is = refl; shown = rw same at shows }
-
 -- a live sub has a live holder
 pub record HeldLive (w : WorldOf) (g : Grant) (t : Sub) : Type 0 where
   pub at : ℕ
@@ -64,8 +54,8 @@ pub record HeldLive (w : WorldOf) (g : Grant) (t : Sub) : Type 0 where
   pub shown : IsShown t holder.sub
 
 module _ (job : JobOf) (v : View) (w : WorldOf) (shown : Shown job v w) where
-  node_holds : (i : ℕ) (g : Grant) (t : Sub) → (n : NodeUp v w i) → v.subs i g ≡ Some t → HeldAs t (sub_in g n.node.subs)
-  node_holds i g t n holds = held_as (v.subs n.node.incarnation g) (sub_in g n.node.subs) t (n.parts.subs g) (ap (λ k. v.subs k g) n.name ∙ holds)
+  node_holds : (i : ℕ) (g : Grant) (t : Sub) → (n : NodeUp v w i) → v.subs i g ≡ Some t → FoundSub t (sub_in g n.node.subs)
+  node_holds i g t n holds = found_sub (v.subs n.node.incarnation g) (sub_in g n.node.subs) t (n.parts.subs g) (ap (λ k. v.subs k g) n.name ∙ holds)
 
   pub held_live : (i : ℕ) (g : Grant) (t : Sub) → Live v i g t → HeldLive w g t
   held_live i g t live =

@@ -11,6 +11,7 @@ use Rattle.run_tables.specs.Causes.{TakesTurn, Ends, Filled, Arrives, Joined, St
 use Rattle.run_tables.specs.Values.{Agrees, FillAgrees}
 use Rattle.run_tables.proofs.Lists.{same_or, some_same}
 use Rattle.run_tables.proofs.Made.{filled_kept, Made, stays, succeeds, begins, made, there}
+use Rattle.run_tables.proofs.Sounder.{local_frame, local_slot}
 
 -- the same place, thread and slots fit as well
 pub fits_same : (m : Meaning) {p q : List ℕ} {t u : ℕ} {a b : ℕ → Slot} → q ≡ p → u ≡ t → ((j : ℕ) → b j ≡ a j) → Fits m p t a → Fits m q u b
@@ -113,12 +114,6 @@ join m law c d n u r numbers parts change e task run room s a = record {
   where
     next_value : m.value (c.place n) ≡ m.value (0 ∷ c.place n)
     next_value = law.joined (c.place n) (c.thread n) u numbers parts run room
-
-    local_frame : (f j h l : ℕ) → Local f j ≡ Local h l → f ≡ h
-    local_frame f j h l x = cc
-
-    local_slot : (f j h l : ℕ) → Local f j ≡ Local h l → j ≡ l
-    local_slot f j h l x = cc
 
     apart : {h l : ℕ} → Whole ≡ Local h l → ⊥
     apart x = cc

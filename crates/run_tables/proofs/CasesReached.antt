@@ -1,9 +1,9 @@
 -- Each move leads from cases to cases; so each open record is in one, in each view that moves lead to.
 use Rattle.std.proofs.Common.{Option, ℤ, ℕ, [], ◌∷◌, None, refl, inl, arith}
 use Rattle.ids.specs.Names.{Grant}
-use Rattle.run_tables.specs.Content.{Content, rehost}
+use Rattle.run_tables.specs.Content.{rehost}
 use Rattle.run_tables.specs.View.{View, first_over}
-use Rattle.run_tables.specs.Facts.{Cont, held, sent, ack_of}
+use Rattle.run_tables.specs.Facts.{ack_of}
 use Rattle.run_tables.specs.Moves.{ask, close_root}
 use Rattle.run_tables.specs.Guards.{MayAsk}
 use Rattle.run_tables.specs.Acts.{Act, starts, admits, adopts, fails, goes, mourns, opens, grants_root, closes_root, commits, publishes, closes, asks, refuses, grants, takes_grant, hears_refuse, gives_up, freezes, takes_offer, acknowledges, releases, leaves, alters, drops, renames, settles, settles_at_house, Reached, at_first, by_act}
@@ -20,7 +20,7 @@ use Rattle.run_tables.proofs.LeaversKept.{leavers_reached}
 use Rattle.run_tables.proofs.RootedKept.{rooted_reached}
 use Rattle.run_tables.proofs.KinReached.{kin_reached}
 use Rattle.run_tables.proofs.RequestsReached.{requests_reached}
-use Rattle.run_tables.proofs.Conts.{head_cont}
+use Rattle.run_tables.proofs.Conts.{head_cont, no_cont}
 use Rattle.run_tables.proofs.CasesKept.{cases_fail, cases_go, cases_start, cases_admit, cases_mourn, cases_close, cases_refused, cases_give_up, cases_release, cases_drop}
 use Rattle.run_tables.proofs.CasesTaken.{cases_take, cases_freeze, cases_acknowledge}
 use Rattle.run_tables.proofs.CasesGranted.{cases_alter, cases_grant, cases_root, cases_open}
@@ -80,11 +80,7 @@ cases_kept (settles i g may) b c = assumption c
 cases_kept (settles_at_house i g may) b c = assumption c
 
 cases_first : (epoch : ℕ) (stored : Option (Option ℤ)) → Cases (first_over epoch stored)
-cases_first epoch stored = record { taken_acked = λ t h i m. absurd m; passed_acked = λ t u h m. absurd m; record_case = λ g k c n a. absurd (nothing g c (head_cont (first_over epoch stored) g c a)); root_case = λ k e. cc }
-  where
-    nothing : (g : Grant) (c : Content) → Cont (first_over epoch stored) g c → ⊥
-    nothing g c (held i s w e q) = w
-    nothing g c (sent t m e q) = m
+cases_first epoch stored = record { taken_acked = λ t h i m. absurd m; passed_acked = λ t u h m. absurd m; record_case = λ g k c n a. absurd (no_cont epoch stored g c (head_cont (first_over epoch stored) g c a)); root_case = λ k e. cc }
 
 pub before_reached : {v : View} → Reached v → Before v
 before_reached r = record { names = names_reached r; homes = homes_reached r; leavers = leavers_reached r; rooted = rooted_reached r; kin = kin_reached r; requests = requests_reached r }

@@ -4,14 +4,14 @@ use Rattle.ids.specs.Names.{Grant}
 use Rattle.run_tables.specs.Tables.{◌∈◌, put}
 use Rattle.run_tables.specs.Content.{Content, Fill, regrant, rehost}
 use Rattle.run_tables.specs.View.{Transfer, Result, Leave, Left, Roster, Sub, Mode, Gone, Joining, Member, House, Leaving, Works, View, first_over}
-use Rattle.run_tables.specs.Facts.{of_worker, Live, Cont, held, sent, Host, by_content, by_result, Resolves, stays, follows, ack_of, grant_of}
+use Rattle.run_tables.specs.Facts.{of_worker, Live, Host, by_content, by_result, Resolves, stays, follows, ack_of, grant_of}
 use Rattle.run_tables.specs.Moves.{start, mint, take, freeze, remove, alter, leave, publish, grant_frame}
 use Rattle.run_tables.specs.Guards.{Begins, MayFreeze, MayLeave, MayPublish, ShowsLeft, before, now}
 use Rattle.run_tables.specs.Acts.{Act, starts, admits, adopts, fails, goes, mourns, opens, grants_root, closes_root, commits, publishes, closes, asks, refuses, grants, takes_grant, hears_refuse, gives_up, freezes, takes_offer, acknowledges, releases, leaves, alters, drops, renames, settles, settles_at_house, Reached, at_first, by_act}
 use Rattle.run_tables.specs.Homes.{Homes}
 use Rattle.run_tables.proofs.Lists.{Within, same, either, same_or}
 use Rattle.run_tables.proofs.NamesReached.{regranted}
-use Rattle.run_tables.proofs.Conts.{Conts, live_cont, hosts_by, conts_new, conts_mode, conts_take, conts_freeze, conts_remove, conts_alter, conts_mint}
+use Rattle.run_tables.proofs.Conts.{Conts, live_cont, no_cont, hosts_by, conts_new, conts_mode, conts_take, conts_freeze, conts_remove, conts_alter, conts_mint}
 
 -- with fewer contents and Results, where the names are in order
 homes_by : (v w : View) → Conts v w → Within w.results v.results → w.leaves ≡ v.leaves → w.rosters ≡ v.rosters
@@ -199,15 +199,11 @@ homes_first epoch stored = record {
   leave_names = λ l m. absurd m;
   left_names = λ r i h m. absurd m;
   home = λ g i a. absurd (none g i a);
-  record_minter = λ g k c n a. absurd (nothing g c a);
+  record_minter = λ g k c n a. absurd (no_cont epoch stored g c a);
 }
   where
-    nothing : (g : Grant) (c : Content) → Cont (first_over epoch stored) g c → ⊥
-    nothing g c (held i s w e q) = w
-    nothing g c (sent t m e q) = m
-
     none : (g : Grant) (i : ℕ) → Host (first_over epoch stored) g i → ⊥
-    none g i (by_content c a e) = nothing g c a
+    none g i (by_content c a e) = no_cont epoch stored g c a
     none g i (by_result x m e f) = m
 
 pub homes_reached : {v : View} → Reached v → Homes v

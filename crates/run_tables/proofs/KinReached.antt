@@ -4,7 +4,7 @@ use Rattle.ids.specs.Names.{Grant}
 use Rattle.run_tables.specs.Tables.{◌∈◌}
 use Rattle.run_tables.specs.Content.{Content}
 use Rattle.run_tables.specs.View.{Joining, House, View, first_over}
-use Rattle.run_tables.specs.Facts.{Head, Cont, held, sent, ack_of}
+use Rattle.run_tables.specs.Facts.{Head, ack_of}
 use Rattle.run_tables.specs.Moves.{close_root}
 use Rattle.run_tables.specs.Acts.{Act, starts, admits, adopts, fails, goes, mourns, opens, grants_root, closes_root, commits, publishes, closes, asks, refuses, grants, takes_grant, hears_refuse, gives_up, freezes, takes_offer, acknowledges, releases, leaves, alters, drops, renames, settles, settles_at_house, Reached, at_first, by_act}
 use Rattle.run_tables.specs.Names.{Names}
@@ -16,7 +16,7 @@ use Rattle.run_tables.proofs.NamesReached.{names_kept, names_reached}
 use Rattle.run_tables.proofs.LeaversKept.{leavers_reached}
 use Rattle.run_tables.proofs.HomesKept.{homes_reached}
 use Rattle.run_tables.proofs.RootedKept.{root_alone, rooted_reached}
-use Rattle.run_tables.proofs.Conts.{head_cont}
+use Rattle.run_tables.proofs.Conts.{head_cont, no_cont}
 use Rattle.run_tables.proofs.KinKept.{kin_new, kin_admit, kin_stop, kin_take, kin_release, kin_freeze, kin_publish, kin_settle, kin_settle_at_house, kin_drop}
 use Rattle.run_tables.proofs.KinAltered.{kin_alter, kin_rename, kin_mint, kin_grant}
 
@@ -61,15 +61,11 @@ kin_kept {v} (settles_at_house i g may) n after h l r k = kin_settle_at_house v 
 
 kin_first : (epoch : ℕ) (stored : Option (Option ℤ)) → Kin (first_over epoch stored)
 kin_first epoch stored = record {
-  one_record = λ g h k c d n m a. absurd (nothing g c a);
-  on_path = λ g k c n i a. absurd (nothing g c (head_cont (first_over epoch stored) g c a));
+  one_record = λ g h k c d n m a. absurd (no_cont epoch stored g c a);
+  on_path = λ g k c n i a. absurd (no_cont epoch stored g c (head_cont (first_over epoch stored) g c a));
   unsettled = λ g k c n m. absurd m;
   left_path = λ r i h g c m. absurd m;
 }
-  where
-    nothing : (g : Grant) (c : Content) → Cont (first_over epoch stored) g c → ⊥
-    nothing g c (held i s w e q) = w
-    nothing g c (sent t m e q) = m
 
 pub kin_reached : {v : View} → Reached v → Kin v
 kin_reached (at_first epoch stored) = kin_first epoch stored

@@ -4,7 +4,7 @@ use Rattle.ids.specs.Names.{Grant}
 use Rattle.run_tables.specs.Tables.{◌∈◌, put}
 use Rattle.run_tables.specs.Content.{Content, Fill, regrant, rehost}
 use Rattle.run_tables.specs.View.{Transfer, Result, Sub, Gone, Joining, Member, House, Works, View, first_over}
-use Rattle.run_tables.specs.Facts.{Granted, Live, Cont, held, sent, ack_of, grant_of}
+use Rattle.run_tables.specs.Facts.{Granted, Live, ack_of, grant_of}
 use Rattle.run_tables.specs.Moves.{start, stop, admit, mint, take, freeze, remove, alter, grant_frame}
 use Rattle.run_tables.specs.Guards.{MayAnswer, Begins, MayFreeze}
 use Rattle.run_tables.specs.Acts.{Act, starts, admits, adopts, fails, goes, mourns, opens, grants_root, closes_root, commits, publishes, closes, asks, refuses, grants, takes_grant, hears_refuse, gives_up, freezes, takes_offer, acknowledges, releases, leaves, alters, drops, renames, settles, settles_at_house, Reached, at_first, by_act}
@@ -12,7 +12,7 @@ use Rattle.run_tables.specs.Names.{Names}
 use Rattle.run_tables.specs.Later.{born, Later}
 use Rattle.run_tables.proofs.Sent.{unminted}
 use Rattle.run_tables.proofs.NamesReached.{regranted, names_reached}
-use Rattle.run_tables.proofs.Conts.{Conts, live_cont, cont_sent, record_sent, conts_new, conts_mode, conts_take, conts_freeze, conts_remove, conts_alter, cont_before}
+use Rattle.run_tables.proofs.Conts.{Conts, live_cont, no_cont, cont_sent, record_sent, conts_new, conts_mode, conts_take, conts_freeze, conts_remove, conts_alter, cont_before}
 use Rattle.run_tables.proofs.KinAltered.{record_old}
 
 pub born_within : (transfers : List Transfer) (g : Grant) → born transfers g ≤ length transfers
@@ -122,11 +122,7 @@ later_kept (settles i g may) n l = assumption l
 later_kept (settles_at_house i g may) n l = assumption l
 
 later_first : (epoch : ℕ) (stored : Option (Option ℤ)) → Later (first_over epoch stored)
-later_first epoch stored = record { later = λ g k c n a. absurd (nothing g c a) }
-  where
-    nothing : (g : Grant) (c : Content) → Cont (first_over epoch stored) g c → ⊥
-    nothing g c (held i s w e q) = w
-    nothing g c (sent t m e q) = m
+later_first epoch stored = record { later = λ g k c n a. absurd (no_cont epoch stored g c a) }
 
 pub later_reached : {v : View} → Reached v → Later v
 later_reached (at_first epoch stored) = later_first epoch stored

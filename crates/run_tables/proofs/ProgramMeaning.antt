@@ -13,21 +13,19 @@ use Rattle.serial_meaning.proofs.FrameLaws.{call_of, sent_value, joined_value, l
 use Rattle.run_tables.specs.Content.{given}
 use Rattle.run_tables.specs.Meaning.{Part, Kid, Sends, Joins, begun, SlotFits, Fits, Runs, IsSerial}
 use Rattle.run_tables.specs.Program.{part_of, end_of, ends_on, next_thread, next_slot, number_slot, frame_slot, program_meaning}
+use Rattle.run_tables.proofs.Lists.{some_same}
 
 -- numbers fit their own slots, and no others
-numbers_fit : (numbers : List ℤ) (j : ℕ) → SlotFits (number_slot j numbers) (given numbers j)
+pub numbers_fit : (numbers : List ℤ) (j : ℕ) → SlotFits (number_slot j numbers) (given numbers j)
 numbers_fit [] j = tt
 numbers_fit (v ∷ numbers) zero = refl
 numbers_fit (v ∷ numbers) (suc j) = numbers_fit numbers j
-
-one_number : {v w : ℤ} → Some v ≡ Some w → v ≡ w
-one_number e = cc
 
 same_numbers : (xs ys : List ℤ) → ((j : ℕ) → SlotFits (number_slot j xs) (given ys j)) → xs ≡ ys
 same_numbers [] [] fits = refl
 same_numbers [] (y ∷ ys) fits = absurd (fits 0)
 same_numbers (x ∷ xs) [] fits = absurd (fits 0)
-same_numbers (x ∷ xs) (y ∷ ys) fits = rw (one_number (fits 0), same_numbers xs ys (λ j. fits (suc j))) refl
+same_numbers (x ∷ xs) (y ∷ ys) fits = rw (some_same (fits 0), same_numbers xs ys (λ j. fits (suc j))) refl
 
 -- where numbers fit a successor's slots, they are the values of these
 slots_filled : (f : TaskValue) (slots : List JoinSlot) (ys : List ℤ) (s : ℕ) → ((j : ℕ) → SlotFits (next_slot f j (TurnJoins s slots)) (given ys j)) → slot_values f slots ≡ Some ys

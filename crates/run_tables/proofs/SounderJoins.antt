@@ -6,8 +6,9 @@ use Rattle.run_tables.specs.View.{View}
 use Rattle.run_tables.specs.Meaning.{Part, Given, Kid, begun, Meaning}
 use Rattle.run_tables.specs.Causes.{Ends, Filled, Arrives, Joined, Stays, Cause, sends, joins, is_deep, hears, hears_deep, redoes}
 use Rattle.run_tables.proofs.Lists.{same_or}
+use Rattle.run_tables.proofs.Entries.{at_other}
 use Rattle.run_tables.proofs.Made.{either_side, there, Made, stays, succeeds, begins, made}
-use Rattle.run_tables.proofs.Sounder.{put_other, local_frame, local_slot, given_full, active, ends_changes, fill_changes}
+use Rattle.run_tables.proofs.Sounder.{local_frame, local_slot, given_full, active, ends_changes, fill_changes}
 
 -- an empty slot of a new successor awaits a kid
 record AwaitsKid (parts : List Part) (j : ℕ) : Type 0 where
@@ -180,7 +181,7 @@ cause_records m v i g c d fill cause o k e = by cause
         (λ (is : o ≡ n). let none : d.granted o ≡ None = rw is change.ungranted in absurd (cc))
         (λ other. let old = sym (change.granted o other) ∙ e in
         let apart : o ≡ f → ⊥ = λ is. let frame : c.granted o ≡ None = rw is change.frame in absurd (cc) in
-        (old, record { place = change.places o; thread = change.threads o; slots = λ l. change.slots o l other ∙ put_other c.slots f j o l (Full x) (λ is too. apart is) }))
+        (old, record { place = change.places o; thread = change.threads o; slots = λ l. change.slots o l other ∙ at_other c.slots f j o l (Full x) (λ is too. apart is) }))
         (same_or o n)
 
     arrived : (n : ℕ) (r : Return) (x : ℤ) → Arrives g c d n r x fill → (c.granted o ≡ Some k) × SameWork c d o

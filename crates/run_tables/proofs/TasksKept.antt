@@ -4,7 +4,7 @@ use Rattle.ids.specs.Names.{Grant}
 use Rattle.run_tables.specs.Tables.{put}
 use Rattle.run_tables.specs.Content.{Task, Content, HoldsTask, SameWork, regrant, rehost}
 use Rattle.run_tables.specs.View.{Sub, Gone, Joining, Member, House, Works, View, first_over}
-use Rattle.run_tables.specs.Facts.{of_worker, Live, Cont, held, sent, ack_of, grant_of}
+use Rattle.run_tables.specs.Facts.{of_worker, Live, Cont, ack_of, grant_of}
 use Rattle.run_tables.specs.Moves.{start, stop, admit, mint, take, freeze, remove, alter, grant_frame}
 use Rattle.run_tables.specs.Guards.{MayAnswer, Begins, MaySteal}
 use Rattle.run_tables.specs.Acts.{Act, starts, admits, adopts, fails, goes, mourns, opens, grants_root, closes_root, commits, publishes, closes, asks, refuses, grants, takes_grant, hears_refuse, gives_up, freezes, takes_offer, acknowledges, releases, leaves, alters, drops, renames, settles, settles_at_house, Reached, at_first, by_act}
@@ -15,7 +15,7 @@ use Rattle.run_tables.proofs.Lists.{same_or, some_same}
 use Rattle.run_tables.proofs.Sent.{unminted}
 use Rattle.run_tables.proofs.NamesReached.{names_reached}
 use Rattle.run_tables.proofs.HomesKept.{homes_reached}
-use Rattle.run_tables.proofs.Conts.{Conts, live_cont, cont_sent, record_sent, conts_new, conts_mode, conts_take, conts_freeze, conts_remove, conts_alter, conts_mint}
+use Rattle.run_tables.proofs.Conts.{Conts, live_cont, no_cont, cont_sent, record_sent, conts_new, conts_mode, conts_take, conts_freeze, conts_remove, conts_alter, conts_mint}
 use Rattle.run_tables.proofs.KinAltered.{record_old}
 
 pub same_work : (c : Content) (n : ℕ) → SameWork c c n
@@ -178,15 +178,11 @@ tasks_kept (settles_at_house i g may) n h t = assumption t
 
 tasks_first : (epoch : ℕ) (stored : Option (Option ℤ)) → Tasks (first_over epoch stored)
 tasks_first epoch stored = record {
-  one_task = λ g c d a. absurd (nothing g c a);
-  record_task = λ g k c d n a. absurd (nothing g c a);
-  root_task = λ g c a. absurd (nothing g c a);
+  one_task = λ g c d a. absurd (no_cont epoch stored g c a);
+  record_task = λ g k c d n a. absurd (no_cont epoch stored g c a);
+  root_task = λ g c a. absurd (no_cont epoch stored g c a);
   root_open = λ k e. cc;
 }
-  where
-    nothing : (g : Grant) (c : Content) → Cont (first_over epoch stored) g c → ⊥
-    nothing g c (held i s w e q) = w
-    nothing g c (sent t m e q) = m
 
 pub tasks_reached : {v : View} → Reached v → Tasks v
 tasks_reached (at_first epoch stored) = tasks_first epoch stored

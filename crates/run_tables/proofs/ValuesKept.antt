@@ -23,7 +23,7 @@ use Rattle.run_tables.proofs.HomesKept.{homes_reached}
 use Rattle.run_tables.proofs.RootedKept.{root_minter, rooted_reached}
 use Rattle.run_tables.proofs.FillsKept.{filled_or, fills_reached}
 use Rattle.run_tables.proofs.TasksKept.{tasks_mint, tasks_kept, tasks_reached}
-use Rattle.run_tables.proofs.Conts.{Conts, live_cont, conts_new, conts_mode, conts_take, conts_freeze, conts_remove, conts_alter, conts_mint}
+use Rattle.run_tables.proofs.Conts.{Conts, live_cont, no_cont, conts_new, conts_mode, conts_take, conts_freeze, conts_remove, conts_alter, conts_mint}
 use Rattle.run_tables.proofs.Agreement.{fits_same, begun_agrees, caused}
 
 -- a Result that was told tells the value of its task still: its grant was sent, and has one task
@@ -155,15 +155,11 @@ values_kept m law act right n h r f t a = values_act m law act right n h r f t (
 
 values_first : (m : Meaning) (epoch : ℕ) (stored : Option (Option ℤ)) → ((o : Option ℤ) → stored ≡ Some o → o ≡ m.value []) → Values m (first_over epoch stored)
 values_first m epoch stored before = record {
-  agree = λ g c a. absurd (nothing g c a);
+  agree = λ g c a. absurd (no_cont epoch stored g c a);
   results_agree = λ x c told. absurd told;
   fills_agree = λ x f. absurd f;
   stored_agrees = before;
 }
-  where
-    nothing : (g : Grant) (c : Content) → Cont (first_over epoch stored) g c → ⊥
-    nothing g c (held i s w e q) = w
-    nothing g c (sent t m e q) = m
 
 -- a run is a list of moves
 pub run_reached : {m : Meaning} {v : View} → Run m v → Reached v

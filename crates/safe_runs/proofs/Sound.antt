@@ -3,6 +3,7 @@ use Rattle.std.proofs.Common.{◌≡◌, List, ◌∷◌, ◌⊎◌, inl, inr, s
 use Rattle.disk.specs.Device.{Device}
 use Rattle.serial_meaning.specs.Job.{JobOf, IsJob}
 use Rattle.run_tables.specs.Tables.{◌∈◌}
+use Rattle.run_tables.proofs.Among.{got}
 use Rattle.world_steps.specs.Runs.{CanBegin, Entry, Runs, ends, goes}
 use Rattle.world_steps.specs.Safe.{SafeWorld}
 use Rattle.world_steps.specs.World.{WorldOf, first_over}
@@ -10,7 +11,6 @@ use Rattle.world_moves.specs.Shown.{Tied, tied_here, tied_of}
 use Rattle.world_moves.proofs.Events.{first_tied, step_tied}
 use Rattle.world_moves.proofs.Filled.{filled_once}
 use Rattle.world_moves.proofs.Holding.{one_holder}
-use Rattle.world_moves.proofs.Places.{got}
 use Rattle.world_moves.proofs.Recorded.{recorded_is_meant}
 use Rattle.world_moves.proofs.Staying.{runs_stay}
 use Rattle.world_agreement.specs.Right.{WorldIsRight}

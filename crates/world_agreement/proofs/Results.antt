@@ -1,6 +1,5 @@
 -- A Result tells the outcome of the task that was granted under its name: so the tables of the whole run say.
-use Rattle.std.proofs.Common.{◌≡◌, ◌+◌, ℕ, ℤ, List, [], ◌∷◌, inl, inr, Option, None, Some, refl, sym, subst, ap, ◌∙◌}
-use Rattle.std.specs.List.{AllByRecursion}
+use Rattle.std.proofs.Common.{◌≡◌, ◌+◌, ℕ, ℤ, List, Option, None, Some, refl, sym, ap, ◌∙◌}
 use Rattle.ids.specs.Names.{Grant}
 use Rattle.ids.specs.declared.outcome.Outcome.{Outcome}
 use Rattle.ids.specs.declared.work.Record.{Record}
@@ -16,6 +15,7 @@ use Rattle.run_tables.specs.Content.{HoldsTask}
 use Rattle.run_tables.specs.View.{Transfer, Works, View}
 use Rattle.run_tables.specs.Facts.{Granted, held, result_to, sent}
 use Rattle.run_tables.specs.Runs.{Run}
+use Rattle.run_tables.proofs.Among.{of_each}
 use Rattle.run_tables.proofs.NamesReached.{names_reached}
 use Rattle.run_tables.proofs.ProgramMeaning.{program_serial}
 use Rattle.run_tables.proofs.TasksKept.{tasks_reached}
@@ -28,12 +28,6 @@ use Rattle.node_moves.proofs.Held.{HeldAt, held_at}
 use Rattle.node_moves.proofs.Members.{unrecorded}
 use Rattle.actor_agreement.specs.Values.{IsFresh, IsOutcomeAt}
 use Rattle.world_moves.proofs.Recorded.{told_back}
-
--- what is said of all items of a list is said of each
-of_each : {A : Type 0} (P : A → Type 0) (xs : List A) → AllByRecursion P xs → (x : A) → x ∈ xs → P x
-of_each P [] all x m = absurd m
-of_each P (y ∷ ys) all x (inl same) = subst P (sym same) all.0
-of_each P (y ∷ ys) all x (inr m) = of_each P ys all.1 x m
 
 module _ (job : JobOf) (v : View) (run : Run (meaning_of job) v) where
   -- the value of the task of whatever was sent under its name

@@ -1,5 +1,5 @@
 -- What was sent and what is held agrees, as a reader of packets says it.
-use Rattle.std.proofs.Common.{◌≡◌, ℕ, suc, zero, List, [], ◌∷◌, inl, inr, Option, None, Some, slice_get, refl, sym, ap, ◌∙◌, arith, Ordering, Less, Equal, Greater}
+use Rattle.std.proofs.Common.{◌≡◌, ℕ, suc, Option, None, Some, slice_get, refl, ap, ◌∙◌, arith, Ordering, Less, Equal, Greater}
 use Rattle.ids.specs.Names.{Grant}
 use Rattle.ids.specs.declared.work.Task.{Task}
 use Rattle.codec.specs.Table.{PacketOf}
@@ -17,6 +17,7 @@ use Rattle.run_tables.specs.Tables.{◌∈◌}
 use Rattle.run_tables.specs.Content as tables
 use Rattle.run_tables.specs.View.{Transfer, View}
 use Rattle.run_tables.specs.Facts.{Granted, SentTo, result_to}
+use Rattle.run_tables.proofs.Among.{found_among, got, placed}
 use Rattle.run_tables.proofs.NamesReached.{names_reached}
 use Rattle.run_tables.proofs.Paths.{grant_of_transfer}
 use Rattle.run_tables.proofs.ValuesKept.{run_reached}
@@ -25,25 +26,13 @@ use Rattle.node_moves.specs.Shows.{BodyShown, GrantShown, OfferShown}
 use Rattle.node_moves.specs.Steps.{Carries, IsSent}
 use Rattle.house_moves.specs.Steps.{meaning_of}
 use Rattle.actor_agreement.specs.Values.{BodyIsRight}
-use Rattle.actor_agreement.proofs.Among.{found_among}
 use Rattle.world_steps.specs.Agrees.{Agrees, BodyAgrees, WasGranted}
 use Rattle.world_steps.specs.Safe.{filling_of}
 use Rattle.world_steps.specs.World.{Holder, WorldOf}
 use Rattle.world_moves.specs.Shown.{Tied}
 use Rattle.world_moves.proofs.Holding.{MemberHolds, member_holds}
-use Rattle.world_moves.proofs.Places.{got}
 use Rattle.world_agreement.specs.Right.{WorldIsRight}
 use Rattle.world_agreement.proofs.Results.{told_outcome, told_value}
-
--- an item of a list stands at a place of it
-pub record PlacedIn {X : Type 0} (xs : List X) (x : X) : Type 0 where
-  pub at : ℕ
-  pub is : slice_get xs at ≡ Some x
-
-placed : {X : Type 0} (xs : List X) (x : X) → x ∈ xs → PlacedIn xs x
-placed [] x m = absurd m
-placed (y ∷ ys) x (inl same) = record { at = zero; is = ap Some (sym same) }
-placed (y ∷ ys) x (inr m) = let p = placed ys x m in record { at = suc p.at; is = p.is }
 
 module _ (job : JobOf) (w : WorldOf) (tied : Tied job w) where
   abbrev v : View

@@ -1,5 +1,5 @@
 -- Each step keeps a world right by value, whatever the event.
-use Rattle.std.proofs.Common.{◌≡◌, ℕ, Bool, true, false, cond, not, ◌&&◌, List, [], ◌++◌, ◌⊎◌, inl, inr, ⊎_elim, Option, None, Some, is_some, slice_get, nat_eq, refl, sym, ◌∙◌}
+use Rattle.std.proofs.Common.{◌≡◌, ℕ, Bool, true, false, cond, not, ◌&&◌, List, [], ◌++◌, ◌⊎◌, inl, inr, ⊎_elim, Option, None, Some, is_some, slice_get, nat_eq, refl}
 use Rattle.ids.specs.Names.{is_worker}
 use Rattle.codec.specs.Table.{PacketOf}
 use Rattle.codec.specs.declared.body.Body.{Body}
@@ -30,13 +30,15 @@ use Rattle.event_script.specs.declared.event.NodeEvent.{NodeEvent}
 use Rattle.event_script.specs.declared.event.NodeEvent.TheVariants.{Deliver, Exec, Ask, Resend, Depart}
 use Rattle.run_tables.specs.Tables.{◌∈◌}
 use Rattle.run_tables.specs.View.{Works}
-use Rattle.run_tables.proofs.Lists.{either, same_or}
+use Rattle.run_tables.proofs.Lists.{either}
+use Rattle.run_tables.proofs.Among.{got}
 use Rattle.node_moves.specs.Shows.{mode_of, BodyShown}
 use Rattle.actor_agreement.specs.Values.{AllRight, AnswerIsRight, BodyIsRight, HouseAnswerIsRight, HouseStepIsRight, MayCome, NodeIsRight, RepliesAreRight, StepIsRight}
 use Rattle.actor_agreement.proofs.Changing.{exec_ready_right}
 use Rattle.actor_agreement.proofs.House.{passes_right}
 use Rattle.actor_agreement.proofs.House.{packet_right as house_packet_right}
 use Rattle.actor_agreement.proofs.Leaving.{depart_right, resend_right}
+use Rattle.actor_agreement.proofs.Sent.{both_sent, none_sent}
 use Rattle.actor_agreement.proofs.Table.{ask_right, packet_right, start_right}
 use Rattle.world_steps.specs.Answers.{Outturn, Unfit, answered, house_same, same, stepped, with_some}
 use Rattle.world_steps.specs.Houses.{Ends, Halts, RestartHalts, Restarts, silence}
@@ -45,7 +47,7 @@ use Rattle.world_steps.specs.Safe.{filling_of}
 use Rattle.world_steps.specs.Steps.{HouseEnds, HouseHalts, IsCut, Step, ThenCut, ThenStopped, house_crash, settled_by}
 use Rattle.world_steps.specs.World.{Down, HouseAt, IsUp, WorldOf, first_over, is_used, node_in, with_used, without_node}
 use Rattle.world_moves.specs.Shown.{Tied}
-use Rattle.world_moves.proofs.Places.{gone_beside, gone_here, got, new_or_old}
+use Rattle.world_moves.proofs.Places.{left_there, new_or_old}
 use Rattle.world_agreement.specs.Right.{HouseIsRight, WorldIsRight}
 use Rattle.world_agreement.proofs.Results.{fresh_there, outcome_there}
 
@@ -53,16 +55,9 @@ use Rattle.world_agreement.proofs.Results.{fresh_there, outcome_there}
 pub first_right : (job : JobOf) (d : Device) → WorldIsRight job (first_over d)
 first_right job d = record { nodes = λ a n e. cc; house = tt; net = λ p m. absurd m; fills = λ f m. absurd m }
 
--- packets of two lists
-both_right : (job : JobOf) (ps qs : List PacketOf) → AllRight job ps → AllRight job qs → AllRight job (ps ++ qs)
-both_right job ps qs a b p m = ⊎_elim (λ x. a p x) (λ x. b p x) (either ps qs p m)
-
-none_right : (job : JobOf) → AllRight job []
-none_right job p m = absurd m
-
 -- what is as it was, but for the clearinghouse, its disk, and more packets
 housed : (job : JobOf) (w : WorldOf) → WorldIsRight job w → (house : HouseAt) (d : Device) (sent : List PacketOf) → HouseIsRight job house → AllRight job sent → WorldIsRight job (record w { house = house; disk = d; net = w.net ++ sent })
-housed job w right house d sent answers all = record { nodes = right.nodes; house = answers; net = both_right job w.net sent right.net all; fills = right.fills }
+housed job w right house d sent answers all = record { nodes = right.nodes; house = answers; net = both_sent job w.net sent right.net all; fills = right.fills }
 
 -- no more packets
 shut : (job : JobOf) (w : WorldOf) → WorldIsRight job w → (house : HouseAt) (d : Device) → HouseIsRight job house → WorldIsRight job (record w { house = house; disk = d })
@@ -99,7 +94,7 @@ module _ (job : JobOf) (w : WorldOf) (ok : IsJob job) (tied : Tied job w) (right
 
   -- it stops, and nothing is sent
   stops_right : (d : Device) → WorldIsRight job (record w { house = IsUp (Stopped by.Device); disk = d; net = w.net ++ [] })
-  stops_right d = housed job w right (IsUp (Stopped by.Device)) d [] tt (none_right job)
+  stops_right d = housed job w right (IsUp (Stopped by.Device)) d [] tt (none_sent job)
 
   -- with what is there, or nothing happens
   with_there : {A : Type 0} (o : Option A) (f : A → Outturn) → ((a : A) → o ≡ Some a → WorldIsRight job (f a).world) → WorldIsRight job (with_some o w f).world
@@ -113,7 +108,7 @@ module _ (job : JobOf) (w : WorldOf) (ok : IsJob job) (tied : Tied job w) (right
     stepped_right s used k = record {
       nodes = λ b n at. ⊎_elim (λ new. rw (new.1) k.after) (λ old. right.nodes b n old.1) (new_or_old a b s.after n w.nodes at);
       house = right.house;
-      net = both_right job w.net s.sent right.net k.sent;
+      net = both_sent job w.net s.sent right.net k.sent;
       fills = λ f m. ⊎_elim (λ old. right.fills f old) (λ new. k.fills f new) (either w.fills s.fills f m);
     }
 
@@ -170,17 +165,11 @@ module _ (job : JobOf) (w : WorldOf) (ok : IsJob job) (tied : Tied job w) (right
 
   crashes_right : (a : ℕ) → WorldIsRight job (record w { nodes = without_node a w.nodes })
   crashes_right a = record {
-    nodes = λ b n at. ⊎_elim
-        (λ (is : b ≡ a). absurd (none_some (gone_here a w.nodes) (rw is at at)))
-        (λ (other : b ≡ a → ⊥). right.nodes b n (sym (gone_beside a b w.nodes other) ∙ at))
-        (same_or b a);
+    nodes = λ b n at. right.nodes b n (left_there a b n w.nodes at).1;
     house = right.house;
     net = right.net;
     fills = right.fills;
   }
-    where
-      none_some : {o : Option NodeOf} {n : NodeOf} → o ≡ None → o ≡ Some n → ⊥
-      none_some e f = cc
 
   -- what an open clearinghouse answers
   ends_right : (h : HouseOf) (a : house.Answer) → HouseAnswerIsRight job a → (o : Outturn) → Ends job h a w o → WorldIsRight job o.world
@@ -213,7 +202,7 @@ module _ (job : JobOf) (w : WorldOf) (ok : IsJob job) (tied : Tied job w) (right
 
   -- an opening begins with no answers
   restarts_right : (o : Outturn) → Restarts job w o → WorldIsRight job o.world
-  restarts_right o (inl (way, e)) = rw e (housed job w right (IsUp (Open (begins silence (next_epoch (kept_in way.sequence way.found))).after)) _ [] (λ r m. absurd m) (none_right job))
+  restarts_right o (inl (way, e)) = rw e (housed job w right (IsUp (Open (begins silence (next_epoch (kept_in way.sequence way.found))).after)) _ [] (λ r m. absurd m) (none_sent job))
   restarts_right o (inr (f, refused, e)) = rw e (shut job w right w.house _ right.house)
 
   restart_halts_right : (k : ℕ) (bytes : List ℕ) (o : Outturn) → RestartHalts job k bytes w o → WorldIsRight job o.world

@@ -18,6 +18,7 @@ use Rattle.run_tables.specs.View.{View}
 use Rattle.run_tables.specs.Facts.{of_worker}
 use Rattle.run_tables.specs.Runs.{at_start}
 use Rattle.run_tables.specs.View as tables
+use Rattle.run_tables.proofs.Among.{got}
 use Rattle.node_moves.proofs.Changing.{exec_ready_shown}
 use Rattle.node_moves.proofs.Resending.{resend_shown}
 use Rattle.node_moves.proofs.Table.{ask_shown, depart_shown, packet_shown}
@@ -36,7 +37,6 @@ use Rattle.event_script.specs.declared.event.HouseEvent.{HouseEvent}
 use Rattle.event_script.specs.declared.event.Cut.{Cut as CutOf}
 use Rattle.world_moves.proofs.Disks.{settled_keeps}
 use Rattle.world_moves.proofs.HouseEvents.{house_ends, house_halts}
-use Rattle.world_moves.proofs.Places.{got}
 use Rattle.world_moves.proofs.Stopping.{is_down, is_stopped, shut_tied}
 use Rattle.world_moves.specs.Shown.{Tied, TiedSince, tied_here, tied_of}
 use Rattle.world_moves.proofs.Starting.{start_tied, gone_tied}

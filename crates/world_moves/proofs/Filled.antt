@@ -7,11 +7,11 @@ use Rattle.run_tables.specs.Content as tables
 use Rattle.run_tables.specs.Fills.{Once, SameSlot}
 use Rattle.run_tables.proofs.FillsKept.{fills_reached}
 use Rattle.run_tables.proofs.ValuesKept.{run_reached}
+use Rattle.run_tables.proofs.Among.{got}
 use Rattle.node_moves.specs.Steps.{shown_fill, shown_fills}
 use Rattle.world_steps.specs.Safe.{FilledOnce, SlotName, slot_of}
 use Rattle.world_steps.specs.World.{WorldOf}
 use Rattle.world_moves.specs.Shown.{Tied}
-use Rattle.world_moves.proofs.Places.{got}
 
 -- what was before is still of different slots
 once_before : (fs : List Fill) (before : List tables.Fill) → Once (shown_fills fs before) → Once before

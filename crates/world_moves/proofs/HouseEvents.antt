@@ -15,6 +15,7 @@ use Rattle.event_script.specs.declared.event.HouseEvent.{HouseEvent}
 use Rattle.event_script.specs.declared.event.HouseEvent.TheVariants.{Deliver, Tick, Restart}
 use Rattle.run_tables.specs.Tables.{◌∈◌}
 use Rattle.run_tables.specs.View.{View}
+use Rattle.run_tables.proofs.Among.{got}
 use Rattle.house_moves.specs.Steps.{HouseAnswerShown, HouseStepShown}
 use Rattle.house_moves.proofs.Moments.{passes_shown}
 use Rattle.house_moves.proofs.Table.{packet_shown}
@@ -26,7 +27,6 @@ use Rattle.world_moves.specs.Shown.{Closed, DiskShown, HouseShown, TiedSince}
 use Rattle.world_moves.proofs.Disks.{read_fails, read_keeps}
 use Rattle.world_moves.proofs.Housing.{own, stepped_tied}
 use Rattle.world_moves.proofs.Opening.{half_opened, opened_tied}
-use Rattle.world_moves.proofs.Places.{got}
 use Rattle.world_moves.proofs.Stopping.{IsShut, is_down, is_stopped, halted_tied, net_as, same_record, shut_tied, shuts}
 
 module _ (job : JobOf) (base : View) (w : WorldOf) (tied : TiedSince job base w) where

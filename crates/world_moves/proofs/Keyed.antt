@@ -1,13 +1,10 @@
 -- What is found by a number in a list of items by number that changed.
-use Rattle.std.proofs.Common.{◌≡◌, ℕ, false, cond, not, List, [], ◌∷◌, None, Some, refl, sym, ◌∙◌, arith, Ordering, Less, Equal, Greater}
+use Rattle.std.proofs.Common.{◌≡◌, ℕ, false, cond, not, List, [], ◌∷◌, None, refl, sym, ◌∙◌, arith, Ordering, Less, Equal, Greater}
 use Rattle.std.specs.Ordering.{is_eq, match_ordering, nat_cmp}
 use Rattle.ids.specs.Keyed as keyed
 
 equal_numbers : (a b : ℕ) → nat_cmp a b ≡ Equal → a ≡ b
 equal_numbers a b e = grind (arith, e)
-
-to_itself : (a : ℕ) → nat_cmp a a ≡ Equal
-to_itself a = grind arith
 
 module _ {X : Type 0} (key : X → ℕ) where
   is_not : (k j : ℕ) → (k ≡ j → ⊥) → is_eq (nat_cmp k j) ≡ false
@@ -17,15 +14,6 @@ module _ {X : Type 0} (key : X → ℕ) where
       by_order Less f = refl
       by_order Equal f = absurd (other (equal_numbers k j f))
       by_order Greater f = refl
-
-  pub found : (x : X) (xs : List X) → keyed.item_at key nat_cmp (key x) (keyed.put key nat_cmp x xs) ≡ Some x
-  found x [] = rw (to_itself (key x)) refl
-  found x (y ∷ ys) = by_order (nat_cmp (key x) (key y)) refl (found x ys)
-    where
-      by_order : (o : Ordering) → nat_cmp (key x) (key y) ≡ o → keyed.item_at key nat_cmp (key x) (keyed.put key nat_cmp x ys) ≡ Some x → keyed.item_at key nat_cmp (key x) (match_ordering o (x ∷ y ∷ ys) (x ∷ ys) (y ∷ keyed.put key nat_cmp x ys)) ≡ Some x
-      by_order Less f ih = rw (to_itself (key x)) refl
-      by_order Equal f ih = rw (to_itself (key x)) refl
-      by_order Greater f ih = rw f ih
 
   pub others : (k : ℕ) (x : X) (xs : List X) → (k ≡ key x → ⊥) → keyed.item_at key nat_cmp k (keyed.put key nat_cmp x xs) ≡ keyed.item_at key nat_cmp k xs
   others k x [] other = rw (is_not k (key x) other) refl

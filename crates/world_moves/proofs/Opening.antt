@@ -1,5 +1,5 @@
 -- The clearinghouse opens over its disk: in the epoch after the last one that was committed, with nobody listed.
-use Rattle.std.proofs.Common.{◌≡◌, ◌+◌, ◌<◌, ◌≤◌, ℕ, Bool, true, false, cond, List, [], ◌∷◌, ◌++◌, length, inl, inr, ⊎_elim, Option, None, refl, sym, ap, ◌∙◌, arith}
+use Rattle.std.proofs.Common.{◌≡◌, ◌+◌, ◌<◌, ◌≤◌, ℕ, Bool, true, false, cond, List, [], ◌∷◌, ◌++◌, length, inl, inr, ⊎_elim, None, refl, sym, ap, ◌∙◌, arith}
 use Rattle.checkpoint.specs.Store.{Keeps}
 use Rattle.checkpoint.specs.declared.record.Record.{Record}
 use Rattle.checkpoint.proofs.Opened.{one_kept}
@@ -9,7 +9,7 @@ use Rattle.clearinghouse.specs.Calls.{begins, next_epoch}
 use Rattle.clearinghouse.specs.House.{HouseOf, Kept, Open, name_of}
 use Rattle.clearinghouse.specs.Meeting.{kept_in, record_of}
 use Rattle.clearinghouse.proofs.Keeping.{opened_house}
-use Rattle.run_tables.specs.Tables.{◌∈◌, clear}
+use Rattle.run_tables.specs.Tables.{◌∈◌}
 use Rattle.run_tables.specs.View.{Gone, Joining, Member, House, Leaving, Mode, Works, View}
 use Rattle.run_tables.specs.View as tables
 use Rattle.run_tables.specs.Facts.{of_worker}
@@ -17,12 +17,11 @@ use Rattle.run_tables.specs.Guards.{MayOpen}
 use Rattle.run_tables.specs.Moves.{open_house}
 use Rattle.run_tables.specs.Acts as acts
 use Rattle.run_tables.specs.Runs.{Run, by_right, Leads, leads_on}
+use Rattle.run_tables.proofs.Entries.{put_here, put_other, clear_here, clear_other}
 use Rattle.run_tables.proofs.EpochsKept.{epochs_reached, house_named, name_new}
 use Rattle.run_tables.proofs.Lists.{same_or}
 use Rattle.run_tables.proofs.ValuesKept.{run_reached}
-use Rattle.content_moves.proofs.Entries.{put_here, put_other}
 use Rattle.actor_moves.specs.Beside.{SameAt, Keeps as KeepsTables}
-use Rattle.actor_moves.proofs.Others.{clear_other}
 use Rattle.actor_moves.proofs.Sent.{keeps_one}
 use Rattle.node_moves.proofs.Beside.{node_beside}
 use Rattle.node_moves.proofs.Told.{all_shown, both_shown, none_shown, sent_early}
@@ -74,9 +73,6 @@ lost_all v (k ∷ js) j m not = by_mode (λ x. lost_all v js j x not) (joins (v.
     by_mode rest true e (inr m) = rest m
     by_mode rest false e (inl same) = inl same
     by_mode rest false e (inr m) = inr (rest m)
-
-clear_here : {K X : Type 0} (f : ℕ → K → Option X) (i : ℕ) (k : K) → clear f i i k ≡ None
-clear_here f i k = grind arith
 
 module _ (job : JobOf) (base v : View) (w : WorldOf) (run : Run (meaning_of job) v) (since : Leads base v) (shown : Shown job v w) (closed : Closed v) (way : Opens job w.disk) where
   -- what is read is what is kept

@@ -1,5 +1,5 @@
 -- A node starts, and one crashes.
-use Rattle.std.proofs.Common.{◌≡◌, ℕ, true, false, [], ◌∷◌, inl, ⊎_elim, Option, None, Some, is_some, refl, sym, ap, ◌∙◌, arith}
+use Rattle.std.proofs.Common.{◌≡◌, ℕ, true, false, [], ◌∷◌, inl, ⊎_elim, Option, None, Some, is_some, refl, sym, ap, ◌∙◌}
 use Rattle.ids.proofs.Replacing.{put_is_found}
 use Rattle.agreement.proofs.Finding.{put_stays}
 use Rattle.serial_meaning.specs.Job.{JobOf}
@@ -10,20 +10,20 @@ use Rattle.node_state.specs.declared.parts.State.{State as Stage}
 use Rattle.node_state.specs.declared.parts.State.TheVariants.{Joining, Member, Leaving, Ended}
 use Rattle.node_core.specs.Calls as call
 use Rattle.node_core.specs.Steps.{quiet}
-use Rattle.run_tables.specs.Tables.{◌∈◌, clear}
+use Rattle.run_tables.specs.Tables.{◌∈◌}
 use Rattle.run_tables.specs.View.{Transfer, House, Works, View}
 use Rattle.run_tables.specs.View as tables
 use Rattle.run_tables.specs.Facts.{of_worker}
 use Rattle.run_tables.specs.Moves.{start}
 use Rattle.run_tables.specs.Acts as acts
 use Rattle.run_tables.specs.Runs.{Run, by_right, Leads, leads_on}
+use Rattle.run_tables.proofs.Entries.{put_here as entry_here, put_other as entry_other, clear_here, clear_other}
 use Rattle.run_tables.proofs.HomesKept.{homes_reached}
-use Rattle.run_tables.proofs.Lists.{same_or}
+use Rattle.run_tables.proofs.Lists.{same_or, one_found}
 use Rattle.run_tables.proofs.ValuesKept.{run_reached}
-use Rattle.content_moves.proofs.Entries.{put_here as entry_here, put_other as entry_other}
 use Rattle.content_moves.proofs.Orders.{none_order}
 use Rattle.actor_moves.specs.Beside.{SameAt, SameHouse, Keeps, unmoved}
-use Rattle.actor_moves.proofs.Others.{beside, clear_other}
+use Rattle.actor_moves.proofs.Others.{beside}
 use Rattle.actor_moves.proofs.Sent.{house_all, keeps_all, keeps_one, runs_on, used_all, leads_all}
 use Rattle.node_moves.specs.Shows.{PartsShown, NodeShown}
 use Rattle.node_moves.specs.Steps.{StepShown}
@@ -34,11 +34,8 @@ use Rattle.world_steps.specs.Answers.{stepped}
 use Rattle.world_steps.specs.World.{WorldOf, is_used, name_of_word, node_in, with_used, without_node}
 use Rattle.house_moves.specs.Steps.{meaning_of}
 use Rattle.world_moves.specs.Shown.{UpAt, Shown, TiedSince}
-use Rattle.world_moves.proofs.Places.{put_here, put_beside, gone_here, gone_beside, new_or_old}
+use Rattle.world_moves.proofs.Places.{put_here, put_beside, gone_beside, new_or_old, left_there}
 use Rattle.world_moves.proofs.Stepping.{disk_beside, house_beside, not_house}
-
-clear_here : {K X : Type 0} (f : ℕ → K → Option X) (i : ℕ) (k : K) → clear f i i k ≡ None
-clear_here f i k = grind arith
 
 -- the tables of others stay where one starts
 start_beside : (v : View) (i j : ℕ) → (j ≡ i → ⊥) → SameAt v (start v i) j
@@ -121,18 +118,6 @@ module _ (job : JobOf) (base v : View) (w : WorldOf) (run : Run (meaning_of job)
   pub gone_tied : (a : ℕ) (n : NodeOf) → node_in a w.nodes ≡ Some n → TiedSince job base (record w { nodes = without_node a w.nodes })
   gone_tied a n there = by_stage n.state refl
     where
-      one : {o : Option NodeOf} {p q : NodeOf} → o ≡ Some p → o ≡ Some q → p ≡ q
-      one e f = cc
-
-      none_some : {o : Option NodeOf} {p : NodeOf} → o ≡ None → o ≡ Some p → ⊥
-      none_some e f = cc
-
-      old_at : (b : ℕ) (o : NodeOf) → node_in b (without_node a w.nodes) ≡ Some o → (b ≡ a → ⊥) × (node_in b w.nodes ≡ Some o)
-      old_at b o at = ⊎_elim
-          (λ (is : b ≡ a). absurd (none_some (gone_here a w.nodes) (rw is at at)))
-          (λ (other : b ≡ a → ⊥). (other, sym (gone_beside a b w.nodes other) ∙ at))
-          (same_or b a)
-
       by_step : (s : StepShown (meaning_of job) job.number v n (quiet (ended n))) → TiedSince job base (record w { nodes = without_node a w.nodes })
       by_step s =
           let x = s.view in
@@ -147,16 +132,16 @@ module _ (job : JobOf) (base v : View) (w : WorldOf) (run : Run (meaning_of job)
             run = runs_on run s.way;
             since = leads_all since s.way;
             shown = record {
-              nodes = λ b o at. (let k = old_at b o at in node_beside v x o (others o.incarnation (λ e. k.0 (shown.apart b a o n k.1 there e))) keeps (shown.nodes b o k.1));
-              workers = λ b o at. shown.workers b o (old_at b o at).1;
-              started = λ b o at. shown.started b o (old_at b o at).1;
-              apart = λ b c o p at bt e. shown.apart b c o p (old_at b o at).1 (old_at c p bt).1 e;
+              nodes = λ b o at. (let k = left_there a b o w.nodes at in node_beside v x o (others o.incarnation (λ e. k.0 (shown.apart b a o n k.1 there e))) keeps (shown.nodes b o k.1));
+              workers = λ b o at. shown.workers b o (left_there a b o w.nodes at).1;
+              started = λ b o at. shown.started b o (left_there a b o w.nodes at).1;
+              apart = λ b c o p at bt e. shown.apart b c o p (left_there a b o w.nodes at).1 (left_there a c p w.nodes bt).1 e;
               up = λ i works not. ⊎_elim
                   (λ (is : i ≡ n.incarnation). let none : x.mode i ≡ tables.Gone = rw is mode in let never : Works tables.Gone = rw none at works in absurd never)
                   (λ (other : i ≡ n.incarnation → ⊥). (
                   let m = (others i other).mode in
                   let old : UpAt w i = shown.up i (rw m at works) (λ e. not (m ∙ e)) in
-                  let elsewhere : old.at ≡ a → ⊥ = λ e. (let here : node_in a w.nodes ≡ Some old.node = rw e at old.there in other (sym old.name ∙ ap (λ (z : NodeOf). z.incarnation) (one here there))) in
+                  let elsewhere : old.at ≡ a → ⊥ = λ e. (let here : node_in a w.nodes ≡ Some old.node = rw e at old.there in other (sym old.name ∙ ap (λ (z : NodeOf). z.incarnation) (one_found here there))) in
                   record { at = old.at; node = old.node; there = gone_beside a old.at w.nodes elsewhere ∙ old.there; name = old.name }))
                   (same_or i n.incarnation);
               words = λ i m of. shown.words i (rw used at m) of;

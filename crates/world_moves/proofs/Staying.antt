@@ -8,6 +8,7 @@ use Rattle.clearinghouse.specs.House.{Open, Stopped}
 use Rattle.run_tables.specs.View.{View}
 use Rattle.run_tables.proofs.Stored.{stored_stays}
 use Rattle.run_tables.proofs.ValuesKept.{run_reached}
+use Rattle.run_tables.proofs.Among.{got}
 use Rattle.content_moves.specs.Shown.{number_of}
 use Rattle.house_moves.specs.Shows.{stored_of}
 use Rattle.world_steps.specs.Runs.{CanBegin, Entry, Runs, ends, goes}
@@ -15,7 +16,6 @@ use Rattle.world_steps.specs.Safe.{Stays}
 use Rattle.world_steps.specs.World.{Down, HouseAt, IsUp, WorldOf, first_over, open_house, recorded, recorded_at}
 use Rattle.world_moves.specs.Shown.{HouseShown, Tied, TiedSince, tied_here, tied_of}
 use Rattle.world_moves.proofs.Events.{first_tied, runs_tied, step_tied}
-use Rattle.world_moves.proofs.Places.{got}
 use Rattle.world_moves.proofs.Recorded.{stored_at, told_back}
 
 -- what an open clearinghouse has recorded is what the tables store

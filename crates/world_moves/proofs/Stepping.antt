@@ -1,5 +1,5 @@
 -- A step of one node, shown by its own moves, is a step of a world that stays shown.
-use Rattle.std.proofs.Common.{◌≡◌, ℕ, true, false, List, [], ⊎_elim, Option, Some, sym, ap, ◌∙◌}
+use Rattle.std.proofs.Common.{◌≡◌, ℕ, true, false, List, [], ⊎_elim, Some, sym, ap, ◌∙◌}
 use Rattle.serial_meaning.specs.Job.{JobOf}
 use Rattle.node_state.specs.Node.{NodeOf}
 use Rattle.node_state.specs.declared.parts.State.{State as Stage}
@@ -10,7 +10,7 @@ use Rattle.run_tables.specs.View.{House, View}
 use Rattle.run_tables.specs.Facts.{of_worker}
 use Rattle.run_tables.specs.Runs.{Run, Leads}
 use Rattle.run_tables.proofs.HomesKept.{homes_reached}
-use Rattle.run_tables.proofs.Lists.{same_or}
+use Rattle.run_tables.proofs.Lists.{same_or, one_found}
 use Rattle.run_tables.proofs.ValuesKept.{run_reached}
 use Rattle.actor_moves.specs.Beside.{SameAt, SameHouse, Keeps}
 use Rattle.actor_moves.proofs.Others.{beside}
@@ -112,7 +112,7 @@ module _ (job : JobOf) (base v : View) (w : WorldOf) (run : Run (meaning_of job)
             (λ other. (
             let mode = (others i other).mode in
             let old : UpAt w i = shown.up i (rw mode at works) (λ e. not (mode ∙ e)) in
-            let elsewhere : old.at ≡ a → ⊥ = λ e. (let here : node_in a w.nodes ≡ Some old.node = rw e at old.there in other (sym old.name ∙ ap (λ (z : NodeOf). z.incarnation) (one here there))) in
+            let elsewhere : old.at ≡ a → ⊥ = λ e. (let here : node_in a w.nodes ≡ Some old.node = rw e at old.there in other (sym old.name ∙ ap (λ (z : NodeOf). z.incarnation) (one_found here there))) in
             record { at = old.at; node = old.node; there = put_beside a old.at s.after w.nodes elsewhere ∙ old.there; name = old.name }))
             (same_or i n.incarnation);
         words = λ i m of. shown.words i (rw used at m) of;
@@ -122,9 +122,6 @@ module _ (job : JobOf) (base v : View) (w : WorldOf) (run : Run (meaning_of job)
         sent = λ t m. ⊎_elim (λ old. sent_early w.net s.sent t (shown.sent t old)) (λ new. sent_late w.net s.sent t new) (step.transfers t m);
         fills = step.fills ∙ ap (λ fs. shown_fills s.fills fs) shown.fills ∙ sym (fills_on w.fills s.fills []);
       }
-    where
-      one : {o : Option NodeOf} {p q : NodeOf} → o ≡ Some p → o ≡ Some q → p ≡ q
-      one e f = cc
 
   -- what a node answers leads to a world that is tied as well
   pub answered_tied : (ans : node.Answer) → AnswerShown (meaning_of job) job.number v n ans → TiedSince job base (answered a ans w).world

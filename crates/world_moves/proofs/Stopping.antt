@@ -17,7 +17,7 @@ use Rattle.run_tables.specs.Moves.{close_house}
 use Rattle.run_tables.specs.Acts as acts
 use Rattle.run_tables.specs.Runs.{Run, by_right, Leads, leads_on}
 use Rattle.run_tables.proofs.Lists.{same_or}
-use Rattle.content_moves.proofs.Entries.{put_here, put_other}
+use Rattle.run_tables.proofs.Entries.{put_here, put_other}
 use Rattle.actor_moves.specs.Beside.{SameAt, Keeps as KeepsTables}
 use Rattle.actor_moves.proofs.Sent.{keeps_one}
 use Rattle.node_moves.proofs.Beside.{node_beside}
