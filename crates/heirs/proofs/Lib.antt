@@ -1,2 +1,4 @@
 pub mod Tables
 pub mod Reaching
+pub mod Following
+pub mod Looking

@@ -17,7 +17,7 @@ use Rattle.heirs.specs.declared.bearers.chains.Chain.{Chain}
 use Rattle.heirs.specs.declared.bearers.chains.Reach.{Reach}
 use Rattle.heirs.specs.declared.bearers.chains.Reach.TheVariants.{Ended, At}
 use Rattle.heirs.specs.Bearers.{name_of_bearing, bearer_in, said_of}
-use Rattle.heirs.specs.Chains.{name_of_chain, first_of, chain_of, then_on, reach_of, reach_in, reach, gone_on, goes_on, end_of, bearing_of}
+use Rattle.heirs.specs.Chains.{name_of_chain, first_of, begun, chain_of, then_on, reach_of, reach_in, reach, gone_on, goes_on, end_of, bearing_of}
 use Rattle.heirs.proofs.Tables.{item_of_map, names_of_map, IsMadeFrom}
 
 -- going on by two tables that say the same
@@ -97,12 +97,7 @@ ended_steps step table m steps more says none i =
     by_found None is = refl
     by_found (Some c) is = none_goes_on (i, 0) table none c is
 
--- a worker's chain after its first step, by what is said of it
-abbrev begun : ℕ → Option Status → Reach
-begun i None = Ended (Some i)
-begun i (Some status) = first_of i status
-
--- so says the table of the first step
+-- the table of the first step says where chains are after it
 begun_in : (members : List Member) (step : List Chain) → IsMadeFrom name_of_member name_of_chain chain_of (λ m. refl) members step → (i : ℕ) → reach_in step i ≡ begun i (status_in i members)
 begun_in members step made i = ap (reach_of i) (made (i, 0)) ∙ by_found (item_in name_of_member (i, 0) members) refl
   where

@@ -9,7 +9,7 @@ use Rattle.ids.proofs.Replacing.{put_is_found}
 use Rattle.ids.proofs.RisingLaws.{put_next}
 
 -- the test of two names that differ
-apart : (n m : Name) → (n ≡ m → ⊥) → is_eq (name_cmp n m) ≡ false
+pub apart : (n m : Name) → (n ≡ m → ⊥) → is_eq (name_cmp n m) ≡ false
 apart n m other = by_order (name_cmp n m) refl
   where
     by_order : (r : Ordering) → name_cmp n m ≡ r → is_eq r ≡ false

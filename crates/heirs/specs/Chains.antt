@@ -19,6 +19,11 @@ first_of i Live = Ended (Some i)
 first_of i Dead = Ended None
 first_of i (Left heir) = At heir
 
+-- the same by what is said of it: one that isn't listed has its own work
+abbrev pub begun : ℕ → Option Status → Reach
+begun i None = Ended (Some i)
+begun i (Some status) = first_of i status
+
 -- a member's chain after its first step
 abbrev pub chain_of : Member → Chain
 chain_of m = record { worker = m.incarnation; reach = first_of m.incarnation m.status }

@@ -5,8 +5,10 @@ ghost use Rattle.heirs.specs.Chains.{name_of_chain, bearing_of};
 ghost use Rattle.ids.specs.Ordered.{AreInOrder};
 
 mod chains;
+mod following;
 
 use chains::{Chain, after_steps, first_step, guessed, listed};
+pub use following::bearer_of;
 use ids::{Actor, Incarnation, Member, Named, Store};
 use std::alloc::{AllocError, Global};
 use std::marker::Model;

@@ -3,4 +3,4 @@
 
 mod bearers;
 
-pub use bearers::{Bearers, Bearing};
+pub use bearers::{Bearers, Bearing, bearer_of};

@@ -1,4 +1,4 @@
-ghost use Rattle.std.specs.Prelude.{◌≡◌, ℕ, ◌++◌, [], ◌∷◌, map, IfOk, IfSome, OnOk, IsSome, IsTrue, Some, None, option_copied, option_map, if◌then◌else◌};
+ghost use Rattle.std.specs.Prelude.{◌≡◌, ℕ, List, ◌++◌, [], ◌∷◌, map, IfOk, IfSome, OnOk, IsSome, IsTrue, Some, None, option_copied, option_map, if◌then◌else◌};
 ghost use Rattle.std.specs.List.{AllByRecursion};
 ghost use Rattle.std.specs.Option.{option_or};
 ghost use Rattle.ids.specs.Members.{resolve};
@@ -8,17 +8,24 @@ ghost use Rattle.ids.specs.Naming.{name_of_grant, name_of_record};
 ghost use Rattle.ids.specs.Ordered.{AreInOrder};
 ghost use Rattle.ids.specs.declared.work.Record as declared;
 ghost use Rattle.heirs.specs.Bearers.{bearer_in};
+ghost use Rattle.heirs.specs.declared.bearers.Bearing.{Bearing};
 ghost use Rattle.victim_records.specs.Records.{record_in};
 ghost use Rattle.sub_rules.specs.Changes.{frame_of, readied, redone, with_parent, with_thief};
 ghost use Rattle.subcomputation.specs.Subs.{SubOf, grants_of, has_record, host_in, sub_in, with_content};
 ghost use Rattle.subcomputation.specs.Recovering.{for_each, settle_record, settle_sub, their_records};
 ghost use Rattle.recovery.specs.Plans.{AreHeld, IsPlan, carried, carried_out, grant_of, stop_of};
 
-use heirs::Bearers;
+use heirs::{Bearers, bearer_of};
 use ids::{Actor, GrantId, Incarnation, Listed, Member, Named, Status, Store};
 use std::alloc::{AllocError, Global};
 use std::marker::Model;
 use subcomputation::{ReadyIn, Sub};
+
+/// The most workers that are followed one by one.
+const FEW: usize = 64;
+
+/// The most heirs that are followed for each member of the roster: a table of all costs about as much.
+const HEIRS: usize = 8;
 
 /// What becomes of a subcomputation: it goes, or this one stands in its place.
 #[derive(Drop)]
@@ -78,7 +85,7 @@ pub fn make_plan(alloc: Global, members: &[Member], subs: &Store<Sub>) -> Result
     if subs.len() == 0 {
         return Ok(nothing(alloc));
     }
-    let roster = Roster::of(alloc, members)?;
+    let roster = Roster::of(alloc, members, subs)?;
     subs.stand_in_order();
     let mut draft = settle_subs(alloc, &roster, subs)?;
     let hosts = hosts(alloc, &roster, subs)?;
@@ -150,24 +157,32 @@ fn name_of(grant: GrantId) -> (u64, u64)
     (grant.minter().word(), grant.number())
 }
 
-/// A roster, and who has the work of each of its workers.
+/// A roster, and a table of who has the work of each of its workers, unless few are asked for.
 #[derive(Drop)]
 struct Roster<'a> {
     members: &'a [Member],
-    bearers: Bearers,
-    ghost resolves: { (i : ℕ) → bearer_in i bearers ≡ resolve members.now i },
+    bearers: Option<Bearers>,
+    ghost resolves: { (b : List Bearing) → bearers ≡ Some b → (i : ℕ) → bearer_in i b ≡ resolve members.now i },
     ghost workers: { (i j : ℕ) → IsTrue (is_worker i) → resolve members.now i ≡ Some j → IsTrue (is_worker j) },
 }
 
 impl<'a> Roster<'a> {
-    /// Looks through a roster's members; refused for want of memory alone.
-    fn of(alloc: Global, members: &'a [Member]) -> Result<Roster<'a>, AllocError>
+    /// Looks through a roster's members, for the hosts of these subcomputations and the holders of their records; refused for
+    /// want of memory alone.
+    fn of(alloc: Global, members: &'a [Member], subs: &Store<Sub>) -> Result<Roster<'a>, AllocError>
         ensures { IfOk result (λ r. r.members.now ≡ members.now) }
     {
         heirs_are_workers(members);
+        if is_cheaper_followed(members, subs) {
+            return Ok(Roster {
+                members,
+                bearers: None,
+            });
+        }
+        let bearers = Bearers::of(alloc, members)?;
         Ok(Roster {
             members,
-            bearers: Bearers::of(alloc, members)?,
+            bearers: Some(bearers),
         })
     }
 
@@ -175,7 +190,10 @@ impl<'a> Roster<'a> {
     fn host(&self, host: Actor) -> Option<Actor>
         ensures { result ≡ resolve self.now.members.now host }
     {
-        self.bearers.bearer(host)
+        match &self.bearers {
+            Some(bearers) => bearers.bearer(host),
+            None => bearer_of(self.members, host),
+        }
     }
 
     /// Who has a worker's work, if somebody has; that is a worker too.
@@ -183,9 +201,38 @@ impl<'a> Roster<'a> {
         ensures { result ≡ resolve self.now.members.now holder }
     {
         let _worker = holder.word();
-        let bearer = self.bearers.bearer(Actor::worker(holder))?;
+        let bearer = self.host(Actor::worker(holder))?;
         bearer.incarnation()
     }
+}
+
+/// Whether following each worker that is asked for costs less than a table of all: few are asked for, and the heirs to be
+/// followed are not too many, even where each chain goes over all members that left.
+fn is_cheaper_followed(members: &[Member], subs: &Store<Sub>) -> bool {
+    let asked = asked_for(subs);
+    if asked > FEW {
+        return false;
+    }
+    let heirs = asked.saturating_mul(left(members).saturating_add(1));
+    heirs <= members.len().saturating_mul(HEIRS)
+}
+
+/// How often a worker is asked for at most: twice for the host of each subcomputation, and once for the holder of each record.
+fn asked_for(subs: &Store<Sub>) -> usize {
+    let mut asked: usize = 0;
+    for sub in subs.values() {
+        let records = sub.content().records.len();
+        asked = asked.saturating_add(records.saturating_add(2));
+    }
+    asked
+}
+
+/// How many members left.
+fn left(members: &[Member]) -> usize {
+    members
+        .iter()
+        .filter(|member| matches!(member.status, Status::Left(_)))
+        .count()
 }
 
 /// Who has a worker's work is a worker. Does nothing.
