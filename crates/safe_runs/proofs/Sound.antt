@@ -7,17 +7,17 @@ use Rattle.run_tables.proofs.Among.{got}
 use Rattle.world_steps.specs.Runs.{CanBegin, Entry, Runs, ends, goes}
 use Rattle.world_steps.specs.Safe.{SafeWorld}
 use Rattle.world_steps.specs.World.{WorldOf, first_over}
-use Rattle.world_moves.specs.Shown.{Tied, tied_here, tied_of}
-use Rattle.world_moves.proofs.Events.{first_tied, step_tied}
-use Rattle.world_moves.proofs.Filled.{filled_once}
-use Rattle.world_moves.proofs.Holding.{one_holder}
-use Rattle.world_moves.proofs.Recorded.{recorded_is_meant}
-use Rattle.world_moves.proofs.Staying.{runs_stay}
-use Rattle.world_agreement.specs.Right.{WorldIsRight}
-use Rattle.world_agreement.proofs.Sent.{agrees, received}
-use Rattle.world_agreement.proofs.Steps.{first_right, step_right}
+use Rattle.safe_runs.specs.Shown.{Tied, tied_here, tied_of}
+use Rattle.safe_runs.proofs.Events.{first_tied, step_tied}
+use Rattle.safe_runs.proofs.Filled.{filled_once}
+use Rattle.safe_runs.proofs.Holding.{one_holder}
+use Rattle.safe_runs.proofs.Recorded.{recorded_is_meant}
+use Rattle.safe_runs.proofs.Staying.{runs_stay}
+use Rattle.safe_runs.specs.Right.{WorldIsRight}
+use Rattle.safe_runs.proofs.SentAgrees.{agrees, received}
+use Rattle.safe_runs.proofs.StepsAgree.{first_right, step_right}
 use Rattle.safe_runs.specs.Promises.{AllSafe}
-use Rattle.nothing_lost.proofs.Table.{nothing_lost}
+use Rattle.safe_runs.proofs.Losing.{nothing_lost}
 
 -- what is kept from world to world
 pub record IsSound (job : JobOf) (w : WorldOf) : Type 0 where

@@ -1,1 +1,3 @@
+pub mod Shown
+pub mod Right
 pub mod Promises

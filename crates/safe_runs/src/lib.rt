@@ -4,9 +4,45 @@
 //! no slot was filled twice, each value in a slot is the one that the serial program puts there, no grant has two live holders, and a
 //! recorded outcome is the job's meaning; once recorded it stays. Every packet that was sent and all that is held and not frozen agrees
 //! with the serial meaning. And nothing is lost: while the clearinghouse is open and wants an outcome, the work of each wanted grant is
-//! somewhere, or can come again, and where all of it is held, somebody can go on.
+//! somewhere, or can come again, and where all of it is held, somebody can go on. That is put together of three things.
+//!
+//! # Each step of the world is a list of moves on tables that show it (`moves`)
+//!
+//! A world is *tied* (specs/Shown) where there are tables that come of a run of right moves and show it: each node that is up by
+//! the rows of its name, the open clearinghouse by those of its own, each packet that was sent, each value that was put into a
+//! slot, and the record that the disk keeps whatever a crash leaves. A first world is tied, and each step leads from a tied world to
+//! a tied one, whatever the event (`steps_are_moves`). So what is true of tables after every list of moves is true of the worlds of
+//! every run: no grant has two live holders, no slot was filled twice, and a recorded outcome is the job's meaning
+//! (`tied_worlds_are_safe`, `worlds_of_runs_are_safe`).
+//!
+//! What a node does is said by `node_moves`, what the clearinghouse does by `house_moves`; here stand the places of nodes, starts and
+//! crashes, the disk over commits, openings, Cuts and crashes (proofs/Disks, Stopping, Opening), and how one actor's moves leave the
+//! rest of the world shown (proofs/Stepping, Housing). A call of the disk that fails in a commit leaves the record before or the
+//! next one; the tables follow what the disk has then.
+//!
+//! # Each world agrees with the serial meaning (`agrees`)
+//!
+//! What its packets give away, what is held and not frozen, what Results tell, and each value that was put into a slot. By value
+//! (specs/Right) each step of one actor keeps that, as `actor_agreement` says; that a Result tells the outcome of the task that was
+//! granted follows from the tables to which the world is tied, in which the whole run so far is (`steps_agree`). Where both hold, the
+//! world agrees as a reader of packets and of what is held would say it (`worlds_agree`).
+//!
+//! # Nothing is lost (`loss`)
+//!
+//! In each world of a run in which the clearinghouse is open, the root's grant is out and no outcome is recorded, the work of each
+//! wanted grant is somewhere, or can come again. A grant is wanted if it is the root's, or if a record of a live subcomputation of a
+//! wanted grant waits for it. Its work has a live holder; or a thief awaits it, whose Grant was sent; or a leaving node holds it frozen;
+//! or somebody is cut off to whom it went, or to whom the grant went that waits for it, so that a roster will have it done again. And
+//! where each wanted grant has a live holder, one of these has a ready frame or has finished: so not all wait for each other
+//! (`nothing_is_lost`).
 #![tactic(auto)]
 
-mod laws;
+mod agrees;
+mod loss;
+mod moves;
+mod runs;
 
-pub use laws::runs_are_safe;
+pub use agrees::{steps_agree, worlds_agree};
+pub use loss::nothing_is_lost;
+pub use moves::{steps_are_moves, tied_worlds_are_safe, worlds_of_runs_are_safe};
+pub use runs::runs_are_safe;

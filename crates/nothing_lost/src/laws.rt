@@ -1,9 +1,0 @@
-ghost use Rattle.serial_meaning.specs.Job.{JobOf};
-ghost use Rattle.world_steps.specs.Lost.{NothingLost};
-ghost use Rattle.world_steps.specs.World.{WorldOf};
-ghost use Rattle.world_moves.specs.Shown.{Tied};
-
-/// In a world that is tied to tables nothing is lost. Does nothing.
-pub fn nothing_is_lost()
-    ensures { (job : JobOf) (w : WorldOf) → Tied job w → NothingLost w }
-{}

@@ -1,0 +1,29 @@
+-- A recorded outcome is the job's meaning.
+use Rattle.std.proofs.Common.{◌≡◌, Some, refl, sym, ap, ◌∙◌}
+use Rattle.ids.specs.declared.outcome.Outcome.{Outcome}
+use Rattle.ids.specs.declared.outcome.Outcome.TheVariants.{Value, TooDeep}
+use Rattle.serial_meaning.specs.Job.{JobOf, meaning_of}
+use Rattle.serial_meaning.specs.Places.{outcome_of}
+use Rattle.clearinghouse.specs.House.{Open, Stopped}
+use Rattle.run_tables.specs.View.{View}
+use Rattle.run_tables.specs.Program.{program_meaning}
+use Rattle.run_tables.proofs.ProgramMeaning.{program_serial}
+use Rattle.run_tables.proofs.ValuesKept.{values_run}
+use Rattle.content_moves.specs.Shown.{number_of}
+use Rattle.world_steps.specs.World.{Down, HouseAt, IsUp, WorldOf, recorded, recorded_at}
+use Rattle.house_moves.specs.Shows.{stored_of}
+use Rattle.safe_runs.specs.Shown.{HouseShown, Tied}
+
+pub told_back : (o : Outcome) → outcome_of (number_of o) ≡ o
+told_back (Value v) = refl
+told_back TooDeep = refl
+
+pub stored_at : (v : View) (house : HouseAt) (o : Outcome) → HouseShown v house → recorded_at house ≡ Some o → v.stored ≡ Some (number_of o)
+stored_at v Down o s e = cc
+stored_at v (IsUp (Open h)) o s e = s.shown.stored ∙ ap stored_of e
+stored_at v (IsUp (Stopped why)) o s e = cc
+
+pub recorded_is_meant : (job : JobOf) (w : WorldOf) → Tied job w → (o : Outcome) → recorded w ≡ Some o → o ≡ meaning_of job
+recorded_is_meant job w tied o e =
+    let stored = stored_at tied.view w.house o tied.shown.house e in
+    sym (told_back o) ∙ ap outcome_of ((values_run (program_meaning job.program job.input) (program_serial job.program job.input) tied.run).stored_agrees (number_of o) stored)
