@@ -24,11 +24,11 @@ print(fib(tonumber(arg[1])))
 
 # What `serial` is timed on beside FIB: a program, an input that takes next to no turns, and the input.
 PROGRAMS = [
-    ("tak", (0, 0, 0), (18, 12, 6)),
-    ("queens", (1,), (9,)),
-    ("binomial", (0, 0), (18, 9)),
-    ("knary", (0, 0, 0), (8, 3, 1)),
-    ("ackermann", (0, 0), (2, 200)),
+    ("tak", (0, 0, 0), (24, 16, 8)),
+    ("queens", (1,), (11,)),
+    ("binomial", (0, 0), (22, 11)),
+    ("knary", (0, 0, 0), (11, 3, 1)),
+    ("ackermann", (0, 0), (2, 450)),
 ]
 
 
