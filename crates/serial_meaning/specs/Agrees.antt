@@ -3,7 +3,7 @@ use Rattle.std.specs.Prelude.{◌≡◌, ℕ, ℤ, zero, suc, List, [], ◌∷�
 use Rattle.task_syntax.specs.declared.tree.Program.{Program}
 use Rattle.kind_check.specs.declared.turn.Slot.{Slot}
 use Rattle.kind_check.specs.declared.turn.Turn.TheVariants.{Joins}
-use Rattle.kind_check.specs.Turns.{◌>>=◌, turn_of}
+use Rattle.kind_check.specs.Turns.{turn_of}
 pub use Rattle.kind_check.specs.Turns.{given_of}
 use Rattle.serial_meaning.specs.Serial.{TaskValue, slot_value, serial}
 use Rattle.serial_meaning.specs.Places.{Call, task_at, room}
