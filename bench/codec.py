@@ -7,6 +7,7 @@ import subprocess
 import sys
 import tempfile
 import time
+import played
 
 LIMIT = 1_048_576
 CLOCK = "/usr/bin/time"
@@ -84,35 +85,32 @@ def claims():
     ]
 
 
-def peak(program, file):
+def line(command, times, packet):
+    """What reads or writes the packet of some bytes so often."""
+    return f"{command} {times} {packet.hex()}"
+
+
+def peak(program, folder, packet):
     """What the program says of a packet that it reads once, and its peak memory in KiB by GNU time."""
-    words = [CLOCK, "-f", "%M", program, "read", file, "1"]
-    said = subprocess.run(words, stdout=subprocess.DEVNULL, stderr=subprocess.PIPE, text=True).stderr.split()
-    return next((word for word in said if word.startswith("E3")), "read"), said[-1]
+    with open(played.file_of(folder, "claim", [line("decodes", 1, packet)]), "rb") as text:
+        ran = subprocess.run([CLOCK, "-f", "%M", program], stdin=text, stdout=subprocess.PIPE, stderr=subprocess.PIPE, text=True)
+    answer = ran.stdout.split("\n")[-2].removeprefix("> ")
+    return "read" if answer == "ok" else answer, ran.stderr.split()[-1]
 
 
-def run_seconds(program, direction, file, rounds, tries=5):
-    """The least wall time of some tries."""
-    best = float("inf")
-    for _ in range(tries):
-        start = time.perf_counter()
-        subprocess.run([program, direction, file, str(rounds)], stdout=subprocess.DEVNULL, check=True)
-        best = min(best, time.perf_counter() - start)
-    return best
-
-
-def packet_seconds(program, direction, file, rounds):
-    """The time of one packet: two counts of rounds are compared, so that the start of the program falls out."""
-    return (run_seconds(program, direction, file, 2 * rounds) - run_seconds(program, direction, file, rounds)) / rounds
+def packet_seconds(program, command, packet, rounds, tries=5):
+    """The processor time of one packet: two counts of rounds are compared."""
+    texts = [[line(command, times, packet)] for times in (rounds, 2 * rounds)]
+    return played.call_seconds(program, texts, rounds, tries)
 
 
 def pickle_seconds(call, argument, rounds, tries=5):
     best = float("inf")
     for _ in range(tries):
-        start = time.perf_counter()
+        start = time.process_time()
         for _ in range(rounds):
             call(argument)
-        best = min(best, time.perf_counter() - start)
+        best = min(best, time.process_time() - start)
     return best / rounds
 
 
@@ -126,28 +124,22 @@ def main():
     rows.append(("the longest Offer, places of 1,000", full_offer(1_000), 60))
     titles = " ".join(f"{title:>9}" for title in ("read us", "MB/s", "of pickle", "write us", "MB/s", "of pickle"))
     print(f"{'packet':40} {'bytes':>8} {titles}")
+    for name, (packet, fields), rounds in rows:
+        cells = []
+        for command, count in (("decodes", rounds), ("encodes", 8 * rounds)):
+            each = packet_seconds(program, command, packet, count)
+            if command == "decodes":
+                other = pickle_seconds(pickle.loads, pickle.dumps(fields), max(rounds // 10, 5))
+            else:
+                other = pickle_seconds(pickle.dumps, fields, max(rounds // 10, 5))
+            cells.append(f"{each * 1e6:9.2f} {len(packet) / each / 1e6:9.0f} {each / other:9.2f}")
+        print(f"{name:40} {len(packet):8} {' '.join(cells)}", flush=True)
+    if not os.path.exists(CLOCK):
+        return
+    print(f"\n{'packet':52} {'bytes':>8} {'answer':>7} {'peak KiB':>9}")
     with tempfile.TemporaryDirectory() as folder:
-        for name, (packet, fields), rounds in rows:
-            file = os.path.join(folder, "packet")
-            with open(file, "wb") as out:
-                out.write(packet)
-            cells = []
-            for direction, count in (("read", rounds), ("write", 8 * rounds)):
-                each = packet_seconds(program, direction, file, count)
-                if direction == "read":
-                    other = pickle_seconds(pickle.loads, pickle.dumps(fields), max(rounds // 10, 5))
-                else:
-                    other = pickle_seconds(pickle.dumps, fields, max(rounds // 10, 5))
-                cells.append(f"{each * 1e6:9.2f} {len(packet) / each / 1e6:9.0f} {each / other:9.2f}")
-            print(f"{name:40} {len(packet):8} {' '.join(cells)}")
-        if not os.path.exists(CLOCK):
-            return
-        print(f"\n{'packet':52} {'bytes':>8} {'answer':>7} {'peak KiB':>9}")
         for name, packet in claims():
-            file = os.path.join(folder, "packet")
-            with open(file, "wb") as out:
-                out.write(packet)
-            answer, memory = peak(program, file)
+            answer, memory = peak(program, folder, packet)
             print(f"{name:52} {len(packet):8} {answer:>7} {memory:>9}")
 
 

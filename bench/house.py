@@ -1,6 +1,6 @@
-"""Times of calls of a clearinghouse, by how many members are listed; see bench/house. The program takes the processor time of so
-many calls of each of some clearinghouses with so many members; runs that make no calls are compared, so that the reading of the
-clock falls out. Over a file it takes the wall time, and the calls of the system are counted where strace is installed."""
+"""Times of calls of a clearinghouse, by how many members are listed; see bench/house. A round of a transcript opens a clearinghouse
+anew, lists its members, and calls it. In the transcript beside it the packets are of another job, which a clearinghouse ignores
+when it has read them, and the moments are none, so that the making, the words and the reading of packets fall out."""
 import os
 import re
 import shutil
@@ -9,45 +9,129 @@ import subprocess
 import sys
 import tempfile
 import time
+from dataclasses import dataclass
+from typing import Callable
+import played
 
+PROGRAM = (
+    "thread main(k, n) { if n < 2 { send_argument(k, n); } else { spawn_next sum(k, ?x, ?y); spawn main(x, n - 1); "
+    "spawn main(y, n - 2); } } thread sum(k, x, y) { send_argument(k, x + y); }"
+)
+# So long a member may be silent; at the other moment all are dead.
+LIMIT = 1_000_000_000
+FAR = 1_000_000_000_000
 MEMBERS = (4, 64, 1_024, 4_096)
-# How many clearinghouses are called, and how often each where it takes any number of calls.
-ROUNDS = {4: 20_000, 64: 1_000, 1_024: 10, 4_096: 3}
-CALLS = {4: 100, 64: 200, 1_024: 2_000, 4_096: 1_000}
-# Each kind with what is called, how many calls a clearinghouse of so many members takes (None for any number), and how many
-# members it has before them.
-KINDS = [
-    ("new", "Join of a new member", lambda n: n // 4, lambda n: n - n // 4),
-    ("listed", "Join of a listed one", None, lambda n: n),
-    ("told", "Beat, answered by a Roster", None, lambda n: n),
-    ("heard", "Beat, not answered", None, lambda n: n),
-    ("refused", "Steal that is refused", None, lambda n: n),
-    ("again", "the same Steal again", None, lambda n: n),
-    ("leave", "Leave to the next", lambda n: n - 1, lambda n: n),
-    ("chain", "Leave through 3 of 4", lambda n: n // 4, lambda n: n),
-    ("left", "Leave of one that left", None, lambda n: n),
-    ("tick", "moment, nobody dead", None, lambda n: n),
-    ("dead", "moment, all dead", lambda n: 1, lambda n: n),
-]
+# How many clearinghouses are called as often as their members allow, and how often one is called that takes any number of calls.
+ROUNDS = {4: 20_000, 64: 1_000, 1_024: 20, 4_096: 5}
+CALLS = {4: 100_000, 64: 100_000, 1_024: 20_000, 4_096: 5_000}
 TRIES = 7
 FILE_ROUNDS = 200
 SYSTEM_CALLS = "pread64,pwrite64,ftruncate,fsync,fdatasync"
 
 
-def run_seconds(program, kind, members, calls, rounds):
-    """The processor time of so many calls of a clearinghouse, in some rounds."""
-    words = [program, "time", kind, str(members), str(calls), str(rounds)]
-    said = subprocess.run(words, stdout=subprocess.PIPE, check=True, text=True).stdout
-    return int(said.split()[1]) / 1e9 / rounds
+def steal(word, seq):
+    return f"hear Steal from={word} seq={seq} to=house:1 job=7"
 
 
-def call_seconds(program, kind, limit, members, n):
-    """The processor time of one call, by the least of some tries with and without the calls, in turns."""
-    calls, least = limit(n) if limit else CALLS[n], [float("inf"), float("inf")]
-    for _ in range(TRIES):
-        for i, count in enumerate((0, calls)):
-            least[i] = min(least[i], run_seconds(program, kind, members(n), count, ROUNDS[n]))
-    return (least[1] - least[0]) / calls
+def leave(word, heir):
+    return f"hear Leave from={word} heir={heir} to=house:1 job=7"
+
+
+def join(word):
+    return f"hear Join from={word} to=house job=7"
+
+
+def beat(word, version):
+    return f"hear Beat from={word} version={version} to=house:1 job=7"
+
+
+def middle(n):
+    return n // 2 + 1
+
+
+def in_turn(count):
+    """So many members leave, each to the next one."""
+    return [leave(word, word + 1) for word in range(1, count + 1)]
+
+
+def chained(n):
+    """How many members are in the chain of heirs: three of four, of which the last lives."""
+    return n - n // 4
+
+
+@dataclass
+class Kind:
+    """A call that is timed, by the members of a clearinghouse and the number of calls before it, and what it is answered; how many
+    calls a clearinghouse takes, None for any number; how many members it has, and what comes before the calls."""
+    name: str
+    call: Callable[[int, int], str]
+    wanted: str
+    limit: Callable[[int], int] | None = None
+    members: Callable[[int], int] = lambda n: n
+    before: Callable[[int], list] = lambda n: []
+
+
+def all_steal(n):
+    """All members ask for work: the root task is granted to the first of them."""
+    return [steal(word, 1) for word in range(1, n + 1)]
+
+
+def is_granted(_):
+    return [steal(1, 1)]
+
+
+def chain(n):
+    return [steal(1, 1), *in_turn(chained(n) - 1)]
+
+
+def quarter(n):
+    return n // 4
+
+
+KINDS = [
+    Kind("Join of a new member", lambda n, i: join(chained(n) + 1 + i), "Roster", limit=quarter, members=chained),
+    Kind("Join of a listed one", lambda n, i: join(middle(n)), "Roster"),
+    Kind("Beat, answered by a Roster", lambda n, i: beat(middle(n), 1), "Roster"),
+    Kind("Beat, not answered", lambda n, i: beat(middle(n), n + 1), "nothing"),
+    Kind("Steal that is refused", lambda n, i: steal(middle(n), i + 2), "Refuse", before=all_steal),
+    Kind("the same Steal again", lambda n, i: steal(middle(n), 1), "Refuse", before=all_steal),
+    Kind("Leave to the next", lambda n, i: leave(i + 1, i + 2), "Roster", limit=lambda n: n - 1, before=is_granted),
+    Kind("Leave through 3 of 4", lambda n, i: leave(chained(n) + 1 + i, 1), "Roster", limit=quarter, before=chain),
+    Kind("Leave of one that left", lambda n, i: leave(1, 2), "Roster", before=lambda n: in_turn(1)),
+    Kind("moment, nobody dead", lambda n, i: f"tick {i + 1}", "nothing"),
+    Kind("moment, all dead", lambda n, i: f"tick {FAR}", "Abort", limit=lambda n: 1, before=is_granted),
+]
+
+
+def ignored(call):
+    """What stands in the place of a call where it isn't timed."""
+    return "tick none" if call.startswith("tick") else call.replace(" job=7", " job=8")
+
+
+def begun(is_brief):
+    return [f"house program {PROGRAM}", "house input 10", "house job 7"] + ["house brief"] * is_brief
+
+
+def texts(kind, n, rounds, count, is_brief):
+    """The transcripts without and with so many calls of a kind, by some clearinghouses of some members."""
+    made = ["disk new", "store format 7", f"house open {LIMIT}", f"house joins 1 {kind.members(n)}"]
+    made += [f"house {it}" for it in kind.before(n)]
+    calls = [kind.call(n, i) for i in range(count)]
+    for called in ([ignored(it) for it in calls], calls):
+        yield begun(is_brief) + (made + [f"house {it}" for it in called]) * rounds
+
+
+def call_seconds(program, kind, n):
+    """The processor time of one call."""
+    count, rounds = (kind.limit(n), ROUNDS[n]) if kind.limit else (CALLS[n], 1)
+    return played.call_seconds(program, list(texts(kind, n, rounds, count, True)), count * rounds, TRIES)
+
+
+def check(program, kind, n):
+    """The calls are answered as is wanted."""
+    count = kind.limit(n) if kind.limit else 3
+    seen = played.more_answers(program, list(texts(kind, n, 1, count, False)))
+    played.demand(kind.name, seen, {kind.wanted: count})
 
 
 def roster_in_python(members, i, moment):
@@ -68,44 +152,64 @@ def python_seconds(n):
     return least / calls
 
 
-def deed_seconds(program, deed, file):
-    """The wall time of one deed over a file: the least mean of some runs."""
-    runs = [subprocess.run([program, deed, file, str(FILE_ROUNDS)], stdout=subprocess.PIPE, check=True, text=True) for _ in range(TRIES)]
-    return min(int(it.stdout.split()[0]) for it in runs) / 1e9 / FILE_ROUNDS
+# What is done over a file in each round, how the line is named, and what is done beside it where that isn't timed.
+FORMAT = ["store format 7"]
+OPEN = [*FORMAT, f"house open {LIMIT}", "house close"]
+GRANTED = ["house open 1000000000", f"house {join(3)}", f"house {steal(3, 1)}"]
+RESULT = "house hear Result from=3 grant=house:1/1 outcome=55 to=house:1 job=7"
+DEEDS = [
+    ("open", FORMAT, OPEN),
+    ("a recorded outcome", [*FORMAT, *GRANTED, ignored(RESULT), "house close"], [*FORMAT, *GRANTED, RESULT, "house close"]),
+]
 
 
-def system_calls(program, deed, file, rounds):
+def deed_text(deed, rounds):
+    return begun(True) + ["file new -", "disk file"] + deed * rounds
+
+
+def system_calls(program, file):
     """How often a run makes each call of the system, by strace; None where that doesn't run."""
-    words = ["strace", "-f", "-c", "-e", f"trace={SYSTEM_CALLS}", program, deed, file, str(rounds)]
-    ran = subprocess.run(words, stdout=subprocess.DEVNULL, stderr=subprocess.PIPE, text=True)
+    words = ["strace", "-f", "-c", "-e", f"trace={SYSTEM_CALLS}", program]
+    with open(file, "rb") as text:
+        ran = subprocess.run(words, stdin=text, stdout=subprocess.DEVNULL, stderr=subprocess.PIPE, text=True)
     lines = re.findall(r"^ *[\d.]+ +[\d.]+ +\d+ +(\d+) +(?:\d+ +)?(\w+)$", ran.stderr, re.M)
     return {name: int(count) for count, name in lines if name != "total"} if ran.returncode == 0 else None
 
 
-def on_file(program, file):
-    """Prints what each deed takes over a file, and which calls it makes beside those of the one before it."""
-    subprocess.run([program, "format", file, "1"], stdout=subprocess.DEVNULL, check=True)
+def more_system_calls(program, folder, before, deed):
+    """Which calls of the system a deed makes beside those of the one before it, in words."""
+    if not shutil.which("strace"):
+        return "strace isn't installed"
+    files = [played.file_of(folder, f"deed-{i}", deed_text(it, 10)) for i, it in enumerate((before, deed))]
+    counts = [system_calls(program, it) for it in files]
+    if None in counts:
+        return "strace doesn't run"
+    more = {it: (counts[1].get(it, 0) - counts[0].get(it, 0)) / 10 for it in counts[0] | counts[1]}
+    return ", ".join(f"{it} {more[it]:g}" for it in sorted(more) if more[it])
+
+
+def on_file(program, folder):
+    """Prints what each deed takes over a file, which is made in the folder, and which calls of the system it makes."""
+    os.environ["TMPDIR"] = folder
     print(f"\n{'over a file':32}{'ms':>8}  calls of the system")
-    for deed, before, name in (("open", "format", "open"), ("record", "open", "a recorded outcome")):
-        made = "strace isn't installed"
-        if shutil.which("strace"):
-            counts = [system_calls(program, it, file, 10) for it in (before, deed)]
-            names = {} if None in counts else counts[0] | counts[1]
-            more = {it: (counts[1].get(it, 0) - counts[0].get(it, 0)) / 10 for it in names}
-            made = ", ".join(f"{it} {more[it]:g}" for it in sorted(more) if more[it]) or "strace doesn't run"
-        print(f"{name:32}{deed_seconds(program, deed, file) * 1e3:8.3f}  {made}", flush=True)
+    for name, before, deed in DEEDS:
+        both = [deed_text(it, FILE_ROUNDS) for it in (before, deed)]
+        took = played.call_seconds(program, both, FILE_ROUNDS, TRIES, time.perf_counter)
+        print(f"{name:32}{took * 1e3:8.3f}  {more_system_calls(program, folder, before, deed)}", flush=True)
 
 
 def main():
     program = sys.argv[1]
+    for kind in KINDS:
+        check(program, kind, MEMBERS[0])
     print(f"{os.cpu_count()} processors; microseconds a call, by the members that are listed")
     print(f"{'':32}" + "".join(f"{n:>10,}" for n in MEMBERS))
-    for kind, name, limit, members in KINDS:
-        cells = [call_seconds(program, kind, limit, members, n) * 1e6 for n in MEMBERS]
-        print(f"{name:32}" + "".join(f"{cell:10.2f}" for cell in cells), flush=True)
+    for kind in KINDS:
+        cells = [call_seconds(program, kind, n) * 1e6 for n in MEMBERS]
+        print(f"{kind.name:32}" + "".join(f"{cell:10.2f}" for cell in cells), flush=True)
     print(f"{'CPython: heard, and a Roster':32}" + "".join(f"{python_seconds(n) * 1e6:10.2f}" for n in MEMBERS))
     with tempfile.TemporaryDirectory(dir=os.getcwd()) as folder:
-        on_file(program, os.path.join(folder, "checkpoint"))
+        on_file(program, folder)
 
 
 main()

@@ -2,7 +2,7 @@
 use Rattle.std.proofs.Common.{◌≡◌, ℕ, ℤ, zero, List, ◌∷◌, Option, Some, None, inl, inr, refl, sym, ap, ◌∙◌}
 use Rattle.std.specs.List.{slice_set}
 use Rattle.std.proofs.lemmas.List.{length-set}
-use Rattle.task_syntax.specs.declared.tree.Program.{Program}
+use Rattle.task_tree.specs.declared.tree.Program.{Program}
 use Rattle.ids.specs.Named.{Name}
 use Rattle.ids.specs.Naming.{name_of_frame}
 use Rattle.ids.specs.declared.outcome.Outcome.{Outcome}

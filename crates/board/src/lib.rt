@@ -5,6 +5,8 @@ mod notes;
 mod posting;
 #[cfg(test)]
 mod tests;
+#[cfg(test)]
+mod turn_tests;
 
 pub use notes::Note;
 pub use posting::Board;

@@ -1,7 +1,7 @@
 -- What a program with no stuck body gives of one turn.
 use Rattle.std.proofs.Common.{◌≡◌, ◌∙◌, ◌<◌, ℕ, ℤ, zero, suc, List, [], ◌∷◌, length, Option, Some, None, IsSome, slice_get, refl, sym, subst, arith}
-use Rattle.task_syntax.specs.declared.tree.Thread.{Thread}
-use Rattle.task_syntax.specs.declared.tree.Program.{Program}
+use Rattle.task_tree.specs.declared.tree.Thread.{Thread}
+use Rattle.task_tree.specs.declared.tree.Program.{Program}
 use Rattle.kind_check.specs.declared.turn.Turn.{Turn}
 use Rattle.kind_check.specs.declared.turn.Turn.TheVariants.{Sends, Joins}
 use Rattle.kind_check.specs.declared.turn.Slot.{Slot}

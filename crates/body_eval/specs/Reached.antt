@@ -1,6 +1,6 @@
 -- Where the body of a thread ends.
 use Rattle.std.specs.Prelude.{◌≡◌, ℕ, ℤ, List, Some}
-use Rattle.task_syntax.specs.declared.tree.Program.{Program}
+use Rattle.task_tree.specs.declared.tree.Program.{Program}
 use Rattle.kind_check.specs.declared.turn.Turn.{Turn}
 use Rattle.kind_check.specs.declared.code.Leaf.{Leaf}
 use Rattle.kind_check.specs.Turns.{turn_of}

@@ -21,9 +21,9 @@ pub struct Done {
 
 impl Model for Done {
     ghost use Rattle.std.specs.Coded.{codes};
-    ghost use Rattle.task_syntax.specs.contracts.tree.Expr as expr;
-    ghost use Rattle.task_syntax.specs.contracts.tree.Block as block;
-    ghost use Rattle.task_syntax.specs.contracts.tree.End as end;
+    ghost use Rattle.task_tree.specs.contracts.tree.Expr as expr;
+    ghost use Rattle.task_tree.specs.contracts.tree.Block as block;
+    ghost use Rattle.task_tree.specs.contracts.tree.End as end;
     ghost use Rattle.body_eval.specs.Done.{DoneOf};
 
     ghost Value = { DoneOf };

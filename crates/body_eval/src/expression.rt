@@ -5,7 +5,7 @@ ghost use Rattle.kind_check.specs.Code.{code_value, code_values};
 use ids::Listed;
 use kind_check::Code;
 use std::alloc::{AllocError, Global};
-use task_syntax::Operator;
+use task_tree::Operator;
 
 /// What an operator gives.
 #[inline]

@@ -4,8 +4,6 @@
 mod body;
 mod done;
 mod expression;
-#[cfg(test)]
-mod tests;
 mod walk;
 
 pub use body::turn;

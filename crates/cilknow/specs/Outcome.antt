@@ -1,6 +1,6 @@
 -- The outcome of a text on an input, and its refusals.
 use Rattle.std.specs.Prelude.{◌≡◌, ℕ, ℤ, List}
-use Rattle.task_syntax.specs.declared.tree.Program.{Program}
+use Rattle.task_tree.specs.declared.tree.Program.{Program}
 use Rattle.ids.specs.declared.outcome.Outcome.{Outcome}
 use Rattle.serial_meaning.specs.Job.{JobOf, TakesInput}
 use Rattle.serial_meaning.specs.Places.{meaning}

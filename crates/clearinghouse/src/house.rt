@@ -37,9 +37,9 @@ pub struct House<'a, D: Disk> {
 
 impl<'a, D: Disk> Model for House<'a, D> {
     ghost use Rattle.std.specs.Coded.{codes as known};
-    ghost use Rattle.task_syntax.specs.contracts.tree.Expr as expr;
-    ghost use Rattle.task_syntax.specs.contracts.tree.Block as block;
-    ghost use Rattle.task_syntax.specs.contracts.tree.End as end;
+    ghost use Rattle.task_tree.specs.contracts.tree.Expr as expr;
+    ghost use Rattle.task_tree.specs.contracts.tree.Block as block;
+    ghost use Rattle.task_tree.specs.contracts.tree.End as end;
     ghost use Rattle.clearinghouse.specs.Meeting.{HouseOn, IsHouseOn, state_of};
 
     ghost Value = { HouseOn D };

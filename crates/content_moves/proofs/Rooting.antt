@@ -1,6 +1,6 @@
 -- The first task of a program is the one that the meaning has at the root.
 use Rattle.std.proofs.Common.{◌≡◌, ℤ, List, [], Some, refl}
-use Rattle.task_syntax.specs.declared.tree.Program.{Program}
+use Rattle.task_tree.specs.declared.tree.Program.{Program}
 use Rattle.serial_meaning.specs.Places.{Call, root}
 use Rattle.run_tables.specs.Content.{given}
 use Rattle.run_tables.specs.Meaning.{Fits}

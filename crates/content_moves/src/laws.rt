@@ -5,7 +5,7 @@ ghost use Rattle.ids.specs.declared.outcome.Outcome.{Outcome};
 ghost use Rattle.ids.specs.declared.work.Frame.{Frame};
 ghost use Rattle.ids.specs.declared.work.Record.{Record};
 ghost use Rattle.ids.specs.declared.work.Task.{Task};
-ghost use Rattle.task_syntax.specs.declared.tree.Program.{Program};
+ghost use Rattle.task_tree.specs.declared.tree.Program.{Program};
 ghost use Rattle.kind_check.specs.Turns.{turn_of};
 ghost use Rattle.kind_check.specs.declared.turn.Turn.{Turn};
 ghost use Rattle.body_eval.specs.Done.{DoneOf, IsEvaluated};

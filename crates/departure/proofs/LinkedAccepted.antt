@@ -3,7 +3,7 @@ use Rattle.std.proofs.Common.{◌≡◌, ℕ, ◌&&◌, Bool, List, [], ◌∷�
 use Rattle.std.specs.List.{AllByRecursion, list_all}
 use Rattle.ids.specs.declared.outcome.Progress.{Progress}
 use Rattle.ids.specs.declared.outcome.Progress.TheVariants.{Active, Finished}
-use Rattle.task_syntax.specs.declared.tree.Program.{Program}
+use Rattle.task_tree.specs.declared.tree.Program.{Program}
 use Rattle.codec.specs.Table as table
 use Rattle.codec.specs.declared.body.Offer.{Offer}
 use Rattle.sub_rules.specs.Debts.{IsSound}

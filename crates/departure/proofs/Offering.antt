@@ -11,7 +11,7 @@ use Rattle.ids.specs.declared.outcome.Progress.TheVariants.{Active, Finished}
 use Rattle.ids.specs.declared.work.Frame.{Frame}
 use Rattle.ids.specs.declared.work.Record.{Record}
 use Rattle.ids.specs.declared.work.Task.{Task}
-use Rattle.task_syntax.specs.declared.tree.Program.{Program}
+use Rattle.task_tree.specs.declared.tree.Program.{Program}
 use Rattle.kind_check.specs.Total.{IsAccepted, Takes}
 use Rattle.packet_fields.specs.Fields as field
 use Rattle.codec.specs.Table as table

@@ -3,7 +3,7 @@ use Rattle.std.specs.Prelude.{◌≡◌, ℕ, ◌||◌, Bool, not, false, nat_eq
 use Rattle.std.specs.List.{AllByRecursion, list_any}
 use Rattle.ids.specs.Members.{is_live}
 use Rattle.ids.specs.declared.member.Member.{Member}
-use Rattle.task_syntax.specs.declared.tree.Program.{Program}
+use Rattle.task_tree.specs.declared.tree.Program.{Program}
 use Rattle.codec.specs.Table.{PacketOf}
 use Rattle.subcomputation.specs.Fitting.{Fits}
 use Rattle.subcomputation.specs.Subs.{SubOf}

@@ -1,6 +1,6 @@
 -- Offers of what a node holds, to the heir to which it leaves.
 use Rattle.std.specs.Prelude.{ℕ, ◌+◌, ◌^◌, Bool, not, nat_lt, if◌then◌else◌, List, length, Option, None, Some}
-use Rattle.task_syntax.specs.declared.tree.Program.{Program}
+use Rattle.task_tree.specs.declared.tree.Program.{Program}
 use Rattle.codec.specs.Table.{PacketOf, packet as spelling}
 use Rattle.codec.specs.declared.body.Body.TheVariants as body
 use Rattle.codec.specs.declared.body.Offer.{Offer}

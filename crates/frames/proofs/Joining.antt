@@ -1,35 +1,36 @@
--- Frames that are numbered above all others go behind these.
-use Rattle.std.proofs.Common.{◌≡◌, ℕ, ◌+◌, List, [], ◌∷◌, ◌++◌, refl, sym, ap, ◌∙◌, arith, append_assoc, Greater}
-use Rattle.std.specs.Ordering.{nat_cmp, match_ordering, ordering_then}
+-- Frames that are numbered above all others stand behind these.
+use Rattle.std.proofs.Common.{◌≡◌, ℕ, ◌+◌, ◌<◌, List, [], ◌∷◌, ◌++◌, map, arith, Less, sym, ap}
+use Rattle.std.specs.List.{AllByRecursion}
+use Rattle.std.specs.List.Sorted.{IsStrictlySortedBy}
+use Rattle.std.specs.Ordering.{nat_cmp, ordering_then}
 use Rattle.std.specs.Cmp.{nat_cmp_is}
+use Rattle.ids.specs.Named.{Name, name_cmp}
+use Rattle.ids.specs.Naming.{name_of_frame}
+use Rattle.ids.specs.Ordered.{AreInOrder}
 use Rattle.ids.specs.declared.work.Frame.{Frame}
-use Rattle.frames.specs.Frames.{put_frame, AreBelow, AreNumbered}
+use Rattle.frames.specs.Frames.{AreBelow, AreNumbered}
 
--- a frame of a greater number goes to the end
-put_behind : (f : Frame) (xs : List Frame) → AreBelow f.number xs → put_frame f xs ≡ xs ++ f ∷ []
-put_behind f [] below = refl
-put_behind f (x ∷ xs) below =
-    let greater : nat_cmp f.number x.number ≡ Greater = sym (nat_cmp_is f.number x.number Greater below.0) in
-    ap (λ r. match_ordering (ordering_then r (nat_cmp 0 0)) (f ∷ x ∷ xs) (f ∷ xs) (x ∷ put_frame f xs)) greater
-    ∙ ap (λ ys. x ∷ ys) (put_behind f xs below.1)
+lower : (i k : ℕ) → i < k → name_cmp (i, 0) (k, 0) ≡ Less
+lower i k less =
+    let is : nat_cmp i k ≡ Less = sym (nat_cmp_is i k Less less) in
+    ap (λ r. ordering_then r (nat_cmp 0 0)) is
 
-below_next : (k : ℕ) (f : Frame) (xs : List Frame) → f.number ≡ k → AreBelow k xs → AreBelow (k + 1) (xs ++ f ∷ [])
-below_next k f [] is below = (omega arith, tt)
-below_next k f (x ∷ xs) is below = (let less = below.0 in omega arith, below_next k f xs is below.1)
+-- frames numbered from k on are above a number below k
+above : (i k : ℕ) (fs : List Frame) → i < k → AreNumbered k fs → AllByRecursion (λ (n : Name). name_cmp (i, 0) n ≡ Less) (map name_of_frame fs)
+above i k [] less numbered = tt
+above i k (f ∷ fs) less numbered = (let is = numbered.0 in lower i f.number (omega arith), above i (k + 1) fs (omega arith) numbered.1)
 
--- frames numbered from k on have still to come
-pub record Joins (k : ℕ) (xs rest all : List Frame) : Type 0 where
-  pub below : AreBelow k xs
-  pub numbered : AreNumbered k rest
-  pub whole : xs ++ rest ≡ all
+numbered_rise : (k : ℕ) (fs : List Frame) → AreNumbered k fs → AreInOrder name_of_frame fs
+unfolding IsStrictlySortedBy
+numbered_rise k [] numbered = tt
+numbered_rise k (f ∷ fs) numbered = (let is = numbered.0 in above f.number (k + 1) fs (omega arith) numbered.1, numbered_rise (k + 1) fs numbered.1)
 
--- one of them has come
-pub join_next : (k : ℕ) (xs : List Frame) (f : Frame) (rest all : List Frame) → Joins k xs (f ∷ rest) all → Joins (k + 1) (put_frame f xs) rest all
-join_next k xs f rest all h =
-    let is : f.number ≡ k = h.numbered.0 in
-    let behind : put_frame f xs ≡ xs ++ f ∷ [] = put_behind f xs (rw is h.below) in
-    record {
-      below = rw behind (below_next k f xs is h.below);
-      numbered = h.numbered.1;
-      whole = ap (λ ys. ys ++ rest) behind ∙ append_assoc xs (f ∷ []) rest ∙ h.whole;
-    }
+both : (P : Name → Type 0) (xs fs : List Frame) → AllByRecursion P (map name_of_frame xs) → AllByRecursion P (map name_of_frame fs) → AllByRecursion P (map name_of_frame (xs ++ fs))
+both P [] fs h k = k
+both P (x ∷ xs) fs h k = (h.0, both P xs fs h.1 k)
+
+pub join_rises : (k : ℕ) (xs fs : List Frame) → AreInOrder name_of_frame xs → AreBelow k xs → AreNumbered k fs → AreInOrder name_of_frame (xs ++ fs)
+unfolding IsStrictlySortedBy
+join_rises k [] fs rises below numbered = numbered_rise k fs numbered
+join_rises k (x ∷ xs) fs rises below numbered =
+    (both (λ (n : Name). name_cmp (x.number, 0) n ≡ Less) xs fs rises.0 (above x.number k fs below.0 numbered), join_rises k xs fs rises.1 below.1 numbered)

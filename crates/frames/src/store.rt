@@ -3,9 +3,8 @@ ghost use Rattle.ids.specs.Naming.{name_of_frame};
 ghost use Rattle.ids.specs.Ordered.{AreInOrder};
 ghost use Rattle.frames.specs.Frames.{frame_in, put_frame, without_frame, missing_of, missing_in, is_empty_of, is_vacant, fill_of, filling, if_ready, with_slot, readiness, readiness_of, AreBelow, AreNumbered};
 
-use ids::{Change, Frame, FrameNo, Store};
+use ids::{Change, Frame, FrameNo, Store, Values};
 use std::alloc::{AllocError, Global};
-use std::collections::btree_map::Values;
 use std::marker::Model;
 
 /// Whether a frame still waits after a fill, or is ready, at the level of its place.
@@ -48,7 +47,7 @@ impl Frames {
     }
 
     /// The frames, by rising number.
-    pub fn values(&self) -> Values<'_, (u64, u64), Frame>
+    pub fn values(&self) -> Values<'_, Frame>
         ensures { result ≡ self.now }
     {
         self.frames.values()
@@ -78,19 +77,16 @@ impl Frames {
         self.frames.put(frame)
     }
 
-    /// Adds the frames of a join, numbered from `first` on, which is above all numbers that are there. Where memory is
-    /// refused, some of them are there.
+    /// Adds the frames of a join, numbered from `first` on, which is above all numbers that are there; refused for want of
+    /// memory alone, which changes nothing.
     pub fn insert_join(&mut self, first: FrameNo, frames: Vec<Frame>) -> Result<(), AllocError>
         requires below { AreBelow first self.old }
         requires numbered { AreNumbered first frames.items }
-        ensures { OnOk result (self.new ≡ self.old ++ frames.items) }
+        ensures ok { OnOk result (self.new ≡ self.old ++ frames.items) }
+        ensures err { OnErr result (self.new ≡ self.old) }
     {
-        let mut rest = frames;
-        while !rest.is_empty() {
-            let frame = rest.remove(0);
-            self.insert(frame)?;
-        }
-        Ok(())
+        self.stand_in_order();
+        self.frames.append(frames)
     }
 
     /// How many slots of a frame are empty; 0 where no frame has the number. Takes no memory.

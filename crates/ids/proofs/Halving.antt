@@ -6,7 +6,10 @@ use Rattle.std.specs.Ordering.{is_eq, ordering_index, ordering_reverse}
 use Rattle.std.proofs.lemmas.Map.Keys.{sorted_head, sorted_tail}
 use Rattle.ids.specs.Named.{Name, name_cmp, item_in}
 use Rattle.ids.specs.Ordered.{AreInOrder}
+use Rattle.ids.specs.Stored.{IsFound, IsMissing, AreAbove}
+use Rattle.ids.specs.declared.store.Entry.{Entry}
 use Rattle.ids.proofs.NameOrder.{equal_to_itself, exact_names, names_total}
+use Rattle.ids.proofs.Parts.{of_names}
 
 module _ {X : Type 0} (name : X → Name) (n : Name) where
   -- where an item's name stands to the one that is looked for
@@ -35,7 +38,7 @@ module _ {X : Type 0} (name : X → Name) (n : Name) where
       by_order Equal is = first (ap (λ m. name_cmp (name y) m) (sym (exact_names (name z) n is)) ∙ less) 1
       by_order Greater is = last (order y)
 
-  rising : (xs : List X) → AreInOrder name xs → (i j : ℕ) (d : X) → i ≤ j → j < length xs → ordering_index (order (slice_index_or xs i d)) ≤ ordering_index (order (slice_index_or xs j d))
+  pub rising : (xs : List X) → AreInOrder name xs → (i j : ℕ) (d : X) → i ≤ j → j < length xs → ordering_index (order (slice_index_or xs i d)) ≤ ordering_index (order (slice_index_or xs j d))
   rising [] h i j d le within = absurd (search arith)
   rising (x ∷ xs) h zero zero d le within = search arith
   rising (x ∷ xs) h zero (suc j) d le within =
@@ -78,3 +81,57 @@ module _ {X : Type 0} (name : X → Name) (n : Name) where
       by_side : (k : ℕ) (d : X) → k < length xs → order (slice_index_or xs k d) ≡ Equal → (b : Bool) → nat_lt k i ≡ b → ⊥
       by_side k d within is true at = let less : order (slice_index_or xs k d) ≡ Less = parts.0 k d (search arith) (search arith) in cc
       by_side k d within is false at = let greater : order (slice_index_or xs k d) ≡ Greater = parts.1 k d (search arith) within in cc
+
+abbrev pub name_of : Entry → Name
+name_of e = e.name
+
+-- the same among entries, with what stands around the place
+module _ (n : Name) where
+  pub place_found : (es : List Entry) → AreInOrder name_of es → (k : ℕ) → k < length es → ((d : Entry) → name_cmp (slice_index_or es k d).name n ≡ Equal) → (d : Entry) → IsFound n es k (slice_index_or es k d).key
+  place_found [] h k within is d = absurd (search arith)
+  place_found (e ∷ es) h zero within is d =
+      let same : e.name ≡ n = exact_names e.name n (is e) in
+      record {
+        before = [];
+        entry = e;
+        after = es;
+        parts = refl;
+        at = refl;
+        key_is = refl;
+        name_is = same;
+        below = tt;
+        above = rw same at (of_names name_of (λ m. name_cmp e.name m ≡ Less) es (sorted_head name_cmp e.name (map name_of es) h));
+      }
+  place_found (e ∷ es) h (suc k) within is d =
+      let rest = place_found es (sorted_tail name_cmp e.name (map name_of es) h) k (search arith) is d in
+      let at : (slice_index_or es k e).name ≡ n = exact_names (slice_index_or es k e).name n (is e) in
+      let less : name_cmp e.name n ≡ Less = ap (λ m. name_cmp e.name m) (sym at) ∙ holds_at name_of n (λ m. name_cmp e.name m ≡ Less) es (sorted_head name_cmp e.name (map name_of es) h) k e (search arith) in
+      record {
+        before = e ∷ rest.before;
+        entry = rest.entry;
+        after = rest.after;
+        parts = ap (λ ys. e ∷ ys) rest.parts;
+        at = ap suc rest.at;
+        key_is = rest.key_is;
+        name_is = rest.name_is;
+        below = (less, rest.below);
+        above = rest.above;
+      }
+
+  all_above : (es : List Entry) → ((k : ℕ) (d : Entry) → 0 ≤ k → k < length es → name_cmp (slice_index_or es k d).name n ≡ Greater) → AreAbove n es
+  all_above [] h = tt
+  all_above (e ∷ es) h = (names_total.antisymm n e.name ∙ ap ordering_reverse (h 0 e (search arith) (search arith)), all_above es (λ k d from within. h (suc k) d (search arith) (search arith)))
+
+  pub place_missing : (es : List Entry) (i : ℕ) → i ≤ length es → ((k : ℕ) (d : Entry) → 0 ≤ k → k < i → name_cmp (slice_index_or es k d).name n ≡ Less) → ((k : ℕ) (d : Entry) → i ≤ k → k < length es → name_cmp (slice_index_or es k d).name n ≡ Greater) → IsMissing n es i
+  place_missing es zero within less greater = record { before = []; after = es; parts = refl; at = refl; below = tt; above = all_above es greater }
+  place_missing [] (suc i) within less greater = absurd (search arith)
+  place_missing (e ∷ es) (suc i) within less greater =
+      let rest = place_missing es i (search arith) (λ k d from below. less (suc k) d (search arith) (search arith)) (λ k d from below. greater (suc k) d (search arith) (search arith)) in
+      record {
+        before = e ∷ rest.before;
+        after = rest.after;
+        parts = ap (λ ys. e ∷ ys) rest.parts;
+        at = ap suc rest.at;
+        below = (less 0 e (search arith) (search arith), rest.below);
+        above = rest.above;
+      }

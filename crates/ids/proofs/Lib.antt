@@ -4,3 +4,5 @@ pub mod NameOrder
 pub mod Replacing
 pub mod RisingLaws
 pub mod Halving
+pub mod Parts
+pub mod Keeping

@@ -4,7 +4,6 @@ use Rattle.std.specs.List.{AllByRecursion}
 use Rattle.std.specs.List.Sorted.{IsStrictlySortedBy}
 use Rattle.std.specs.Ordering.{ordering_reverse, match_ordering}
 use Rattle.std.specs.Cmp.{IsTotalOrder}
-use Rattle.std.specs.Map.{keys_of, values_of}
 use Rattle.std.proofs.lemmas.Map.Keys.{sorted_head, sorted_tail}
 use Rattle.ids.specs.Keyed.{put}
 
@@ -26,11 +25,3 @@ module _ {K X : Type 0} (key : X → K) (R : K → K → Ordering) (o : IsTotalO
   -- a list of which an item's turn has come goes on
   pub put_next : (xs : List X) (x : X) (rest all : List X) → xs ++ x ∷ rest ≡ all → IsStrictlySortedBy R (map key all) → put key R x xs ++ rest ≡ all
   put_next xs x rest all same h = ap (λ ys. ys ++ rest) (put_last xs x rest (rw same h)) ∙ append_assoc xs (x ∷ []) rest ∙ same
-
-  keys_are : (es : List (K × X)) → AllByRecursion (λ (e : K × X). e.0 ≡ key e.1) es → keys_of es ≡ map key (values_of es)
-  keys_are [] h = refl
-  keys_are (e ∷ es) h = ap (λ k. k ∷ keys_of es) h.0 ∙ ap (λ ks. key e.1 ∷ ks) (keys_are es h.1)
-
-  -- the items of a tree map stand so
-  pub values_rise : (es : List (K × X)) → AllByRecursion (λ (e : K × X). e.0 ≡ key e.1) es → IsStrictlySortedBy R (keys_of es) → IsStrictlySortedBy R (map key (values_of es))
-  values_rise es tied h = rw (keys_are es tied) at h

@@ -1,11 +1,14 @@
-ghost use Rattle.std.specs.Prelude.{◌≡◌, OnOk, OnErr, IfSome, IsSome, IsSomeAnd, option_copied, length, map, []};
-ghost use Rattle.std.specs.BTreeMap as tree;
-ghost use Rattle.ids.specs.Named.{Name, name_cmp, item_in, put_in, without_in, changed_in};
+ghost use Rattle.std.specs.Prelude.{◌≡◌, ◌+◌, ◌≤◌, ◌++◌, OnOk, OnErr, IfOk, IfErr, IfSome, IsSome, IsSomeAnd, option_copied, length, map, [], ⊤, vec_len, vec_capacity};
+ghost use Rattle.std.specs.Iterator.{at_most};
+ghost use Rattle.std.specs.Map.Iter.{TakesFirst, deref};
+ghost use Rattle.slab.specs.Slab as slots;
+ghost use Rattle.ids.specs.Named.{Name, item_in, put_in, without_in, changed_in};
 ghost use Rattle.ids.specs.Ordered.{AreInOrder};
+ghost use Rattle.ids.specs.Stored.{items_at, IsFilled, IsFound, IsMissing};
 
+use slab::Slab;
 use std::alloc::{AllocError, Global};
-use std::collections::BTreeMap;
-use std::collections::btree_map::Values;
+use std::iter::FusedIterator;
 use std::marker::Model;
 
 /// What has a name, of two numbers, in itself.
@@ -36,23 +39,91 @@ pub trait Change<X: Named> {
     ghost keeps_name: { (change : Self) (item : X) → X.name_of (changed change item) ≡ X.name_of item };
 }
 
+/// Where the item of a name is kept.
+#[derive(Clone, Copy)]
+struct Entry {
+    name: (u64, u64),
+    key: usize,
+}
+
 /// Items by their names, each once. Contracts see the list of them, by rising name.
 #[derive(Drop)]
 pub struct Store<X: Named> {
     alloc: Global,
-    items: BTreeMap<(u64, u64), X>,
+    // By rising name.
+    entries: Vec<Entry>,
+    items: Slab<X>,
 }
 
 impl<X: Named> Model for Store<X> {
     ghost use Rattle.std.specs.Prelude.{List};
-    ghost use Rattle.std.specs.Map.{values_of};
-    ghost use Rattle.ids.specs.Stored.{IsStored};
+    ghost use Rattle.ids.specs.Stored.{items_at, IsStored};
 
     ghost Value = { List X };
 
-    ghost view = { λ a. values_of a.items.entries };
+    ghost view = { λ a. items_at a.items a.entries.items };
 
-    ghost invariant = { λ a. IsStored X.name_of a.items };
+    ghost invariant = { λ a. IsStored X.name_of a.items a.entries.items };
+}
+
+/// The items of a store that are left, by rising name.
+#[derive(Drop)]
+pub struct Values<'a, X> {
+    entries: &'a [Entry],
+    items: &'a Slab<X>,
+}
+
+impl<'a, X> Model for Values<'a, X> {
+    ghost use Rattle.std.specs.Prelude.{List};
+    ghost use Rattle.ids.specs.Stored.{items_at, AreHeld};
+
+    ghost Value = { List X };
+
+    ghost view = { λ a. items_at a.items.now a.entries.now };
+
+    ghost invariant = { λ a. AreHeld a.items.now a.entries.now };
+}
+
+impl<'a, X> Clone for Values<'a, X> {
+    ghost is_clone = { λ source copy. copy ≡ source };
+
+    ghost is_infallible = { λ _. ⊤ };
+
+    fn clone(&self) -> Result<Values<'a, X>, AllocError> {
+        Ok(Values {
+            entries: self.entries,
+            items: self.items,
+        })
+    }
+}
+
+impl<'a, X> Iterator for Values<'a, X> {
+    type Item = &'a X;
+
+    ghost next_gives = { TakesFirst deref };
+
+    ghost remaining = { λ s. at_most (length s) };
+
+    fn next(&mut self) -> Option<&'a X> {
+        let Some((entry, rest)) = self.entries.split_first() else {
+            return None;
+        };
+        self.entries = rest;
+        self.items.get(entry.key)
+    }
+
+    fn size_hint(&self) -> (usize, Option<usize>) {
+        let len = self.len();
+        (len, Some(len))
+    }
+}
+
+impl<'a, X> FusedIterator for Values<'a, X> {}
+
+impl<'a, X> ExactSizeIterator for Values<'a, X> {
+    fn len(&self) -> usize {
+        self.entries.len()
+    }
 }
 
 impl<X: Named> Store<X> {
@@ -62,7 +133,8 @@ impl<X: Named> Store<X> {
     {
         Store {
             alloc,
-            items: BTreeMap::new(alloc),
+            entries: Vec::new(alloc),
+            items: Slab::new(alloc),
         }
     }
 
@@ -71,21 +143,27 @@ impl<X: Named> Store<X> {
         ensures same { option_copied result ≡ item_in X.name_of name self.now }
         ensures name { IfSome result (λ x. X.name_of x.now ≡ name) }
     {
-        self.items.get(&name)
+        match find(self.entries.as_slice(), name) {
+            Ok((_, key)) => self.items.get(key),
+            Err(_) => None,
+        }
     }
 
     /// The items, one after another.
-    pub fn values(&self) -> Values<'_, (u64, u64), X>
+    pub fn values(&self) -> Values<'_, X>
         ensures { result ≡ self.now }
     {
-        self.items.values()
+        Values {
+            entries: self.entries.as_slice(),
+            items: &self.items,
+        }
     }
 
     /// How many items there are.
     pub fn len(&self) -> usize
         ensures { result ≡ length self.now }
     {
-        self.items.len()
+        self.entries.len()
     }
 
     /// The items stand by rising name, each name once. Does nothing.
@@ -100,7 +178,10 @@ impl<X: Named> Store<X> {
         requires { IsSomeAnd (item_in X.name_of name self.old) (C.fits change.now) }
         ensures { self.new ≡ changed_in X.name_of (C.changed change.now) name self.old }
     {
-        change_there(&mut self.items, name, change)
+        match find(self.entries.as_slice(), name) {
+            Ok((_, key)) => change_at(&mut self.items, key, change),
+            Err(_) => unreachable!(),
+        }
     }
 }
 
@@ -110,8 +191,20 @@ impl<X: Named + Drop> Store<X> {
         ensures ok { OnOk result (self.new ≡ put_in X.name_of item self.old) }
         ensures err { OnErr result (self.new ≡ self.old) }
     {
-        self.items.insert(item.name(), item)?;
-        Ok(())
+        let name = item.name();
+        match find(self.entries.as_slice(), name) {
+            Ok((_, key)) => {
+                put_at(&mut self.items, key, item);
+                Ok(())
+            }
+            Err(at) => {
+                self.items.reserve(1)?;
+                let key = self.items.vacant_key();
+                self.entries.insert(at, Entry { name, key })?;
+                self.items.insert_reserved(item);
+                Ok(())
+            }
+        }
     }
 
     /// Puts an item in the place of that of its name, which is there; takes no memory.
@@ -119,7 +212,23 @@ impl<X: Named + Drop> Store<X> {
         requires { IsSome (item_in X.name_of (X.name_of item) self.old) }
         ensures { self.new ≡ put_in X.name_of item self.old }
     {
-        put_there(&mut self.items, item.name(), item)
+        match find(self.entries.as_slice(), item.name()) {
+            Ok((_, key)) => put_at(&mut self.items, key, item),
+            Err(_) => unreachable!(),
+        }
+    }
+
+    /// Adds items that stand by rising name behind the others, whose names are all below theirs; refused for want of memory
+    /// alone, which changes nothing.
+    pub fn append(&mut self, items: Vec<X>) -> Result<(), AllocError>
+        requires { AreInOrder X.name_of (self.old ++ items.items) }
+        ensures ok { OnOk result (self.new ≡ self.old ++ items.items) }
+        ensures err { OnErr result (self.new ≡ self.old) }
+    {
+        self.entries.reserve(items.len())?;
+        self.items.reserve(items.len())?;
+        push_all(&mut self.entries, &mut self.items, items);
+        Ok(())
     }
 
     /// Changes all items, by a change that may be made on any; takes no memory.
@@ -138,7 +247,13 @@ impl<X: Named + Drop> Store<X> {
         ensures same { result ≡ item_in X.name_of name self.old }
         ensures gone { self.new ≡ without_in X.name_of name self.old }
     {
-        self.items.remove(&name)
+        match find(self.entries.as_slice(), name) {
+            Ok((at, key)) => {
+                self.entries.remove(at);
+                self.items.try_remove(key)
+            }
+            Err(_) => None,
+        }
     }
 }
 
@@ -147,7 +262,7 @@ impl<X: Named + Exact> Clone for Store<X> {
 
     fn clone(&self) -> Result<Store<X>, AllocError> {
         let mut items = Store::new(self.alloc);
-        for item in self.items.values() {
+        for item in self.values() {
             items.put(item.clone()?)?;
         }
         Ok(items)
@@ -165,25 +280,47 @@ pub fn item_of<X: Named>(items: &[X], name: (u64, u64)) -> Option<&X>
     }
 }
 
-/// Puts an item in the place of what is kept under a name.
-fn put_there<X: Drop>(items: &mut BTreeMap<(u64, u64), X>, name: (u64, u64), item: X)
-    ensures { IfSome (tree.get name_cmp items.old name) (λ _. tree.WritesThrough name_cmp (name_cmp name) items.old item items.new) }
+/// Where the entry of a name stands, and its key; where there is none, where it would stand.
+fn find(entries: &[Entry], name: (u64, u64)) -> Result<(usize, usize), usize>
+    requires { AreInOrder (λ e. e.name) entries.now }
+    ensures found { IfOk result (λ found. IsFound name entries.now found.0 found.1) }
+    ensures missing { IfErr result (λ at. IsMissing name entries.now at) }
 {
-    if let Some(there) = items.get_mut(&name) {
-        *there = item;
+    match entries.binary_search_by_key(&name, |entry| entry.name) {
+        Ok(at) => Ok((at, entries[at].key)),
+        Err(at) => Err(at),
     }
 }
 
-/// Changes what is kept under a name.
-fn change_there<X: Named, C: Change<X>>(
-    items: &mut BTreeMap<(u64, u64), X>,
-    name: (u64, u64),
-    change: &C,
-)
-    requires { IsSomeAnd (tree.get name_cmp items.old name) (C.fits change.now) }
-    ensures { IfSome (tree.get name_cmp items.old name) (λ x. tree.WritesThrough name_cmp (name_cmp name) items.old (C.changed change.now x) items.new) }
+/// Adds items behind the others, where there is room for them.
+fn push_all<X: Named + Drop>(entries: &mut Vec<Entry>, items: &mut Slab<X>, more: Vec<X>)
+    requires room { vec_len entries.old + vec_len more ≤ vec_capacity entries.old }
+    requires slots { slots.HasRoomFor items.old (vec_len more) }
+    requires filled { IsFilled X.name_of items.old entries.old.items }
+    ensures filled { IsFilled X.name_of items.new entries.new.items }
+    ensures list { items_at items.new entries.new.items ≡ items_at items.old entries.old.items ++ more.items }
 {
-    match items.get_mut(&name) {
+    for item in more {
+        let name = item.name();
+        let key = items.insert_reserved(item);
+        entries.push_reserved(Entry { name, key });
+    }
+}
+
+/// Puts an item in the place of that at a key.
+fn put_at<X: Drop>(items: &mut Slab<X>, key: usize, item: X)
+    requires { slots.ContainsKey items.old key }
+    ensures { items.new ≡ slots.with_value items.old key item }
+{
+    items[key] = item;
+}
+
+/// Changes the item at a key.
+fn change_at<X: Named, C: Change<X>>(items: &mut Slab<X>, key: usize, change: &C)
+    requires { IsSomeAnd (slots.get items.old key) (C.fits change.now) }
+    ensures { IfSome (slots.get items.old key) (λ x. items.new ≡ slots.with_value items.old key (C.changed change.now x)) }
+{
+    match items.get_mut(key) {
         Some(there) => change.apply(there),
         None => unreachable!(),
     }

@@ -1,6 +1,6 @@
 -- The job of a text and an input, and its refusals.
 use Rattle.std.specs.Prelude.{◌≡◌, ◌≢◌, ℕ, ℤ, List, []}
-use Rattle.task_syntax.specs.declared.tree.Program.{Program}
+use Rattle.task_tree.specs.declared.tree.Program.{Program}
 use Rattle.task_syntax.specs.Grammar.{Reads}
 use Rattle.task_syntax.specs.Meeting.{MeetsText}
 use Rattle.task_syntax.specs.declared.error.ParseError.TheVariants as parse

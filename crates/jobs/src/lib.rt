@@ -4,7 +4,9 @@
 mod fault;
 mod files;
 mod job;
+mod laws;
 
 pub use fault::{FileFault, JobFault};
 pub use files::{bytes_within, text_bytes};
 pub use job::{job_of, program_of};
+pub use laws::one_text_one_outcome;

@@ -1,9 +1,9 @@
 -- Where no name is at fault, expressions and lets have their values.
 use Rattle.std.proofs.Common.{◌≡◌, ℕ, suc, ℤ, refl, ap, Bool, true, false, List, [], ◌∷◌, ◌++◌, length, Option, Some, None, if◌then◌else◌}
 use Rattle.std.specs.Str.{bytes_eq}
-use Rattle.task_syntax.specs.declared.tree.Expr.{Expr}
-use Rattle.task_syntax.specs.declared.tree.Expr.TheVariants.{Number, Variable, Binary'}
-use Rattle.task_syntax.specs.declared.tree.Let.{Let}
+use Rattle.task_tree.specs.declared.tree.Expr.{Expr}
+use Rattle.task_tree.specs.declared.tree.Expr.TheVariants.{Number, Variable, Binary'}
+use Rattle.task_tree.specs.declared.tree.Let.{Let}
 use Rattle.kind_check.specs.declared.names.Kind.{Kind}
 use Rattle.kind_check.specs.declared.names.Kind.TheVariants.{Own, Value, Waits}
 use Rattle.kind_check.specs.Value.{Env, number_of, value_of, both, result_of}

@@ -2,7 +2,7 @@
 use Rattle.std.proofs.Common.{◌≡◌, ◌<◌, ◌≤◌, ◌+◌, ℕ, refl, arith, add-one, List, [], ◌∷◌, ◌++◌, length, get_or, take, drop, Option}
 use Rattle.std.proofs.Math.Seq.{drop-cons}
 use Rattle.std.proofs.lemmas.List.{take_more}
-use Rattle.task_syntax.specs.declared.tree.Thread.{Thread}
+use Rattle.task_tree.specs.declared.tree.Thread.{Thread}
 use Rattle.kind_check.proofs.Places.{threads_before}
 use Rattle.kind_check.specs.Faults.{Fault, again_named, limit_faults, thread_named, thread_faults, threads_faults}
 use Rattle.kind_check.specs.Least.{earlier, least_with}

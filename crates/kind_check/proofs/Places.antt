@@ -5,9 +5,9 @@ use Rattle.std.proofs.Common.{sym, ◌≡◌, refl, ap, arith, ℕ, zero, suc, �
 use Rattle.std.proofs.lemmas.Bool.Decides.{nat_tests}
 use Rattle.std.specs.Str.{bytes_eq}
 use Rattle.std.specs.Option.{is_some}
-use Rattle.task_syntax.specs.declared.tree.Thread.{Thread}
-use Rattle.task_syntax.specs.declared.tree.Use.{Use}
-use Rattle.task_syntax.specs.declared.tree.Given.{Given}
+use Rattle.task_tree.specs.declared.tree.Thread.{Thread}
+use Rattle.task_tree.specs.declared.tree.Use.{Use}
+use Rattle.task_tree.specs.declared.tree.Given.{Given}
 use Rattle.kind_check.specs.Turns.{◌>>=◌, thread_from, thread_of, use_of}
 use Rattle.kind_check.specs.Faults.{thread_named}
 use Rattle.kind_check.specs.Places.{place_of, further, is_below, thread_names, hole_names}

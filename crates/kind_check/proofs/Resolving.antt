@@ -5,20 +5,20 @@ use Rattle.std.proofs.lemmas.List.{append-nil, map-append}
 use Rattle.std.proofs.lemmas.Option.{slice_get-get_or}
 use Rattle.std.specs.Ordering.{int_eq}
 use Rattle.std.specs.Str.{bytes_eq}
-use Rattle.task_syntax.specs.declared.tree.Name.{Name}
-use Rattle.task_syntax.specs.declared.tree.Expr.{Expr}
-use Rattle.task_syntax.specs.declared.tree.Expr.TheVariants as expr
-use Rattle.task_syntax.specs.declared.tree.Let.{Let}
-use Rattle.task_syntax.specs.declared.tree.Argument.{Argument}
-use Rattle.task_syntax.specs.declared.tree.Argument.TheVariants.{Value, Hole}
-use Rattle.task_syntax.specs.declared.tree.Given.{Given}
-use Rattle.task_syntax.specs.declared.tree.Given.TheVariants.{Sent, Spawned}
-use Rattle.task_syntax.specs.declared.tree.Use.{Use}
-use Rattle.task_syntax.specs.declared.tree.Block.{Block}
-use Rattle.task_syntax.specs.declared.tree.End.{End}
-use Rattle.task_syntax.specs.declared.tree.End.TheVariants.{If', Send, Next}
-use Rattle.task_syntax.specs.declared.tree.Thread.{Thread}
-use Rattle.task_syntax.specs.declared.tree.Program.{Program}
+use Rattle.task_tree.specs.declared.tree.Name.{Name}
+use Rattle.task_tree.specs.declared.tree.Expr.{Expr}
+use Rattle.task_tree.specs.declared.tree.Expr.TheVariants as expr
+use Rattle.task_tree.specs.declared.tree.Let.{Let}
+use Rattle.task_tree.specs.declared.tree.Argument.{Argument}
+use Rattle.task_tree.specs.declared.tree.Argument.TheVariants.{Value, Hole}
+use Rattle.task_tree.specs.declared.tree.Given.{Given}
+use Rattle.task_tree.specs.declared.tree.Given.TheVariants.{Sent, Spawned}
+use Rattle.task_tree.specs.declared.tree.Use.{Use}
+use Rattle.task_tree.specs.declared.tree.Block.{Block}
+use Rattle.task_tree.specs.declared.tree.End.{End}
+use Rattle.task_tree.specs.declared.tree.End.TheVariants.{If', Send, Next}
+use Rattle.task_tree.specs.declared.tree.Thread.{Thread}
+use Rattle.task_tree.specs.declared.tree.Program.{Program}
 use Rattle.kind_check.specs.declared.turn.Slot.{Slot}
 use Rattle.kind_check.specs.declared.turn.Slot.TheVariants.{Filled}
 use Rattle.kind_check.specs.declared.turn.Turn.{Turn}

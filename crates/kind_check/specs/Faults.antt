@@ -1,20 +1,20 @@
 -- All kind faults of a program, as pairs of an offset and what is wrong there. Their order means nothing.
 use Rattle.std.specs.Prelude.{◌≡◌, ℕ, ◌+◌, ◌<◌, ◌≤◌, ◌==◌, ◌⊎◌, nat_lt, if◌then◌else◌, List, [], ◌∷◌, ◌++◌, length, Option, Some, None, codes, All, Contains}
 use Rattle.std.specs.Str.{bytes_eq}
-use Rattle.task_syntax.specs.declared.tree.Name.{Name}
-use Rattle.task_syntax.specs.declared.tree.Expr.{Expr}
-use Rattle.task_syntax.specs.declared.tree.Expr.TheVariants.{Number, Variable, Binary'}
-use Rattle.task_syntax.specs.declared.tree.Let.{Let}
-use Rattle.task_syntax.specs.declared.tree.Argument.{Argument}
-use Rattle.task_syntax.specs.declared.tree.Argument.TheVariants as argument
-use Rattle.task_syntax.specs.declared.tree.Given.{Given}
-use Rattle.task_syntax.specs.declared.tree.Given.TheVariants.{Sent, Spawned}
-use Rattle.task_syntax.specs.declared.tree.Use.{Use}
-use Rattle.task_syntax.specs.declared.tree.Block.{Block}
-use Rattle.task_syntax.specs.declared.tree.End.{End}
-use Rattle.task_syntax.specs.declared.tree.End.TheVariants.{If', Send, Next}
-use Rattle.task_syntax.specs.declared.tree.Thread.{Thread}
-use Rattle.task_syntax.specs.declared.tree.Program.{Program}
+use Rattle.task_tree.specs.declared.tree.Name.{Name}
+use Rattle.task_tree.specs.declared.tree.Expr.{Expr}
+use Rattle.task_tree.specs.declared.tree.Expr.TheVariants.{Number, Variable, Binary'}
+use Rattle.task_tree.specs.declared.tree.Let.{Let}
+use Rattle.task_tree.specs.declared.tree.Argument.{Argument}
+use Rattle.task_tree.specs.declared.tree.Argument.TheVariants as argument
+use Rattle.task_tree.specs.declared.tree.Given.{Given}
+use Rattle.task_tree.specs.declared.tree.Given.TheVariants.{Sent, Spawned}
+use Rattle.task_tree.specs.declared.tree.Use.{Use}
+use Rattle.task_tree.specs.declared.tree.Block.{Block}
+use Rattle.task_tree.specs.declared.tree.End.{End}
+use Rattle.task_tree.specs.declared.tree.End.TheVariants.{If', Send, Next}
+use Rattle.task_tree.specs.declared.tree.Thread.{Thread}
+use Rattle.task_tree.specs.declared.tree.Program.{Program}
 use Rattle.kind_check.specs.declared.names.Kind.{Kind}
 use Rattle.kind_check.specs.declared.names.Kind.TheVariants.{Own, Value, Waits}
 use Rattle.kind_check.specs.declared.checked.KindFault.{KindFault}

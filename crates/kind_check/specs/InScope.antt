@@ -1,18 +1,18 @@
 -- Bodies whose names are all there: each variable is one of the names of numbers in scope, each thread that is spawned is
 -- there, and each hole is used.
 use Rattle.std.specs.Prelude.{ℕ, ◌≤◌, List, [], ◌∷◌, ◌++◌, length, All, IsSome, IsSomeAnd}
-use Rattle.task_syntax.specs.declared.tree.Expr.{Expr}
-use Rattle.task_syntax.specs.declared.tree.Expr.TheVariants as expr
-use Rattle.task_syntax.specs.declared.tree.Let.{Let}
-use Rattle.task_syntax.specs.declared.tree.Argument.{Argument}
-use Rattle.task_syntax.specs.declared.tree.Argument.TheVariants.{Value, Hole}
-use Rattle.task_syntax.specs.declared.tree.Given.{Given}
-use Rattle.task_syntax.specs.declared.tree.Given.TheVariants.{Sent, Spawned}
-use Rattle.task_syntax.specs.declared.tree.Use.{Use}
-use Rattle.task_syntax.specs.declared.tree.Block.{Block}
-use Rattle.task_syntax.specs.declared.tree.End.{End}
-use Rattle.task_syntax.specs.declared.tree.End.TheVariants.{If', Send, Next}
-use Rattle.task_syntax.specs.declared.tree.Thread.{Thread}
+use Rattle.task_tree.specs.declared.tree.Expr.{Expr}
+use Rattle.task_tree.specs.declared.tree.Expr.TheVariants as expr
+use Rattle.task_tree.specs.declared.tree.Let.{Let}
+use Rattle.task_tree.specs.declared.tree.Argument.{Argument}
+use Rattle.task_tree.specs.declared.tree.Argument.TheVariants.{Value, Hole}
+use Rattle.task_tree.specs.declared.tree.Given.{Given}
+use Rattle.task_tree.specs.declared.tree.Given.TheVariants.{Sent, Spawned}
+use Rattle.task_tree.specs.declared.tree.Use.{Use}
+use Rattle.task_tree.specs.declared.tree.Block.{Block}
+use Rattle.task_tree.specs.declared.tree.End.{End}
+use Rattle.task_tree.specs.declared.tree.End.TheVariants.{If', Send, Next}
+use Rattle.task_tree.specs.declared.tree.Thread.{Thread}
 use Rattle.kind_check.specs.Turns.{thread_of, use_of}
 use Rattle.kind_check.specs.Places.{place_of}
 use Rattle.kind_check.specs.Resolves.{after, names_of}

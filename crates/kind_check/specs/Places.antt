@@ -1,8 +1,8 @@
 -- Names in a list, found by their first place.
 use Rattle.std.specs.Prelude.{ℕ, suc, Bool, false, nat_lt, if◌then◌else◌, List, [], ◌∷◌, map, Option, Some, None}
 use Rattle.std.specs.Str.{bytes_eq}
-use Rattle.task_syntax.specs.declared.tree.Thread.{Thread}
-use Rattle.task_syntax.specs.declared.tree.Use.{Use}
+use Rattle.task_tree.specs.declared.tree.Thread.{Thread}
+use Rattle.task_tree.specs.declared.tree.Use.{Use}
 
 -- one place further
 abbrev pub further : Option ℕ → Option ℕ

@@ -1,6 +1,6 @@
 -- A program whose bodies are never stuck: an accepted one.
 use Rattle.std.specs.Prelude.{◌≡◌, ℕ, ℤ, ◌<◌, ◌≤◌, List, [], ◌∷◌, length, Option, Some, slice_get}
-use Rattle.task_syntax.specs.declared.tree.Program.{Program}
+use Rattle.task_tree.specs.declared.tree.Program.{Program}
 use Rattle.kind_check.specs.declared.turn.Slot.{Slot}
 use Rattle.kind_check.specs.declared.turn.Slot.TheVariants.{Filled, Awaits}
 use Rattle.kind_check.specs.declared.turn.Turn.{Turn}

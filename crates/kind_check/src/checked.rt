@@ -7,7 +7,7 @@ ghost use Rattle.kind_check.specs.Faults.{faults, number_of_fault};
 use crate::code::BlockCode;
 use ids::Listed;
 use std::marker::Model;
-use task_syntax::Program;
+use task_tree::Program;
 use thiserror::Error;
 
 /// What is wrong with the kinds of a program. Of all faults the one at the smallest offset is answered, at one offset the
@@ -87,10 +87,10 @@ pub struct Checked {
 
 impl Model for Checked {
     ghost use Rattle.std.specs.Coded.{codes};
-    ghost use Rattle.task_syntax.specs.contracts.tree.Expr as expr;
-    ghost use Rattle.task_syntax.specs.contracts.tree.Block as block;
-    ghost use Rattle.task_syntax.specs.contracts.tree.End as end;
-    ghost use Rattle.task_syntax.specs.declared.tree.Program.{Program};
+    ghost use Rattle.task_tree.specs.contracts.tree.Expr as expr;
+    ghost use Rattle.task_tree.specs.contracts.tree.Block as block;
+    ghost use Rattle.task_tree.specs.contracts.tree.End as end;
+    ghost use Rattle.task_tree.specs.declared.tree.Program.{Program};
 
     ghost Value = { Program };
 

@@ -1,5 +1,5 @@
 use ids::Listed;
-use task_syntax::Operator;
+use task_tree::Operator;
 
 /// An expression whose variables are the places of numbers in an environment, the outermost 0.
 #[derive(Drop)]

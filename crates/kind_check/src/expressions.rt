@@ -7,7 +7,7 @@ use crate::least::Least;
 use crate::names::Kind;
 use crate::scope::Scope;
 use ids::Listed;
-use task_syntax::{Expr, Name};
+use task_tree::{Expr, Name};
 
 /// A name that has to be new.
 pub fn new_name(scope: &Scope<'_>, name: &Name, least: &mut Least)

@@ -1,7 +1,7 @@
 ghost use Rattle.std.specs.Prelude.{◌≡◌, ◌<◌, ◌≤◌, ℕ, ℤ, List, Some};
 ghost use Rattle.std.specs.List.{AllByRecursion};
-ghost use Rattle.task_syntax.specs.declared.tree.Program.{Program};
-ghost use Rattle.task_syntax.specs.Equal.{EqualProgram};
+ghost use Rattle.task_tree.specs.declared.tree.Program.{Program};
+ghost use Rattle.task_tree.specs.Equal.{EqualProgram};
 ghost use Rattle.kind_check.specs.declared.turn.Slot.{Slot};
 ghost use Rattle.kind_check.specs.declared.turn.Turn.TheVariants.{Joins};
 ghost use Rattle.kind_check.specs.Turns.{turn_of};

@@ -7,7 +7,7 @@ use crate::index::Index;
 use crate::tables::{Threads, Uses};
 use ids::Listed;
 use std::alloc::{AllocError, Global};
-use task_syntax::{Argument, Block, End, Expr, Given, Let, Name, Program, Thread, Use};
+use task_tree::{Argument, Block, End, Expr, Given, Let, Name, Program, Thread, Use};
 
 /// An expression, by the places of its names.
 fn expression(alloc: Global, names: &Index<'_>, expr: &Expr) -> Result<Code, AllocError>

@@ -12,7 +12,7 @@ use crate::tables::{Threads, Uses};
 use ids::Listed;
 use ids::limits::MOST_NUMBERS;
 use std::alloc::AllocError;
-use task_syntax::{Argument, Given, Let, Name};
+use task_tree::{Argument, Given, Let, Name};
 
 /// Number parameters: each name is new, and there are at most 8.
 #[tactic(auto, using(crate::proofs::Leasts::least_append))]

@@ -6,7 +6,7 @@ ghost use Rattle.kind_check.specs.Places.{thread_names, hole_names};
 
 use crate::index::Index;
 use std::alloc::{AllocError, Global};
-use task_syntax::{Given, Thread, Use};
+use task_tree::{Given, Thread, Use};
 
 /// The threads of a program, found by their names.
 #[derive(Drop)]

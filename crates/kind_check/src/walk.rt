@@ -11,7 +11,7 @@ use crate::statements::{arguments, call, lets, parameters, unused, uses};
 use crate::tables::{Threads, Uses};
 use ids::limits::MOST_THREADS;
 use std::alloc::{AllocError, Global};
-use task_syntax::{Block, End, Name, Program, Thread};
+use task_tree::{Block, End, Name, Program, Thread};
 
 /// A block; the names that it brings into scope are out of scope behind it.
 #[tactic(auto, using(crate::proofs::Leasts::least_append))]

@@ -15,7 +15,7 @@ use Rattle.codec.specs.declared.body.Body.TheVariants as body
 use Rattle.codec.specs.declared.body.Offer.{Offer}
 use Rattle.codec.specs.declared.body.Roster.{Roster}
 use Rattle.departure.specs.Offers.{accepted, offered}
-use Rattle.task_syntax.specs.declared.tree.Program.{Program}
+use Rattle.task_tree.specs.declared.tree.Program.{Program}
 use Rattle.victim_records.specs.Records.{record_in}
 use Rattle.recovery.specs.Told.{AreForeign, ComesTold, all_in, all_put, beside, those}
 use Rattle.recovery.specs.Plans.{stop_of}

@@ -7,7 +7,7 @@ use Rattle.ids.specs.Names.{Grant}
 use Rattle.ids.specs.Options.{◌>>=◌}
 use Rattle.ids.specs.Slots.{numbers_in}
 use Rattle.ids.specs.declared.work.Frame.{Frame}
-use Rattle.task_syntax.specs.declared.tree.Program.{Program}
+use Rattle.task_tree.specs.declared.tree.Program.{Program}
 use Rattle.kind_check.specs.Total.{IsTotal, Takes}
 use Rattle.kind_check.specs.Turns.{turn_of}
 use Rattle.kind_check.specs.declared.turn.Turn.{Turn}

@@ -10,7 +10,7 @@ use Rattle.level_deques.specs.declared.posts.Post.{Post}
 use Rattle.serial_meaning.specs.Job.{JobOf}
 use Rattle.steal_protocol.specs.Replies.{name_of_reply, put_reply, reply_in}
 use Rattle.steal_protocol.specs.declared.replies.Reply.{Reply}
-use Rattle.task_syntax.specs.declared.tree.Program.{Program}
+use Rattle.task_tree.specs.declared.tree.Program.{Program}
 use Rattle.departure.specs.Freezing.{IsMovable}
 use Rattle.sub_rules.proofs.Sums.{all_filtered, all_found, all_put}
 use Rattle.subcomputation.specs.Fitting.{Fits}

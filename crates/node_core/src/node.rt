@@ -60,9 +60,9 @@ pub struct Node<'a> {
 
 impl<'a> Model for Node<'a> {
     ghost use Rattle.std.specs.Coded.{codes as known};
-    ghost use Rattle.task_syntax.specs.contracts.tree.Expr as expr;
-    ghost use Rattle.task_syntax.specs.contracts.tree.Block as block;
-    ghost use Rattle.task_syntax.specs.contracts.tree.End as end;
+    ghost use Rattle.task_tree.specs.contracts.tree.Expr as expr;
+    ghost use Rattle.task_tree.specs.contracts.tree.Block as block;
+    ghost use Rattle.task_tree.specs.contracts.tree.End as end;
     ghost use Rattle.node_core.specs.Meeting.{NodeOn, IsNode};
 
     ghost Value = { NodeOn };

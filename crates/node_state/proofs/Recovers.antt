@@ -5,7 +5,7 @@ use Rattle.std.proofs.lemmas.List.Sums.{sum_by-cons}
 use Rattle.ids.specs.Names.{Grant}
 use Rattle.codec.specs.declared.body.Roster.{Roster}
 use Rattle.level_deques.specs.declared.posts.Post.{Post}
-use Rattle.task_syntax.specs.declared.tree.Program.{Program}
+use Rattle.task_tree.specs.declared.tree.Program.{Program}
 use Rattle.sub_rules.specs.Changes.{readied_in}
 use Rattle.sub_rules.specs.Debts.{one_if}
 use Rattle.sub_rules.specs.Readiness.{is_readied, times}

@@ -18,15 +18,14 @@ ghost use Rattle.recovery.specs.Plans.{IsPlan};
 ghost use Rattle.recovery.specs.Told.{AreWhole, IsWhole};
 ghost use Rattle.subcomputation.specs.Recovering.{recovered};
 ghost use Rattle.subcomputation.specs.Fitting.{Fits};
-ghost use Rattle.task_syntax.specs.declared.tree.Program.{Program};
+ghost use Rattle.task_tree.specs.declared.tree.Program.{Program};
 
 use crate::parts::{Confirmed, Seen, State};
 use codec::Roster;
-use ids::{Actor, GrantId, Hop, Incarnation, Named, Status, Store};
+use ids::{Actor, GrantId, Hop, Incarnation, Named, Status, Store, Values};
 use level_deques::{Post, PostTest, Posts};
 use recovery::Plan;
 use std::alloc::{AllocError, Global};
-use std::collections::btree_map::Values;
 use std::marker::Model;
 use steal_protocol::{AskError, Asker, Replies, Reply, Request};
 use sub_rules::Readied;
@@ -191,7 +190,7 @@ impl Parts {
     }
 
     /// The subcomputations, by rising grant.
-    pub fn subs(&self) -> Values<'_, (u64, u64), Sub>
+    pub fn subs(&self) -> Values<'_, Sub>
         ensures { result ≡ self.now.node.subs }
     {
         self.subs.values()

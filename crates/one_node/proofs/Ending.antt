@@ -9,7 +9,7 @@ use Rattle.ids.specs.declared.returns.Return.{Return}
 use Rattle.ids.specs.declared.returns.Return.TheVariants.{Whole, Local}
 use Rattle.ids.specs.declared.work.Frame.{Frame}
 use Rattle.ids.specs.declared.work.Task.{Task}
-use Rattle.task_syntax.specs.declared.tree.Program.{Program}
+use Rattle.task_tree.specs.declared.tree.Program.{Program}
 use Rattle.kind_check.specs.declared.turn.Turn.{Turn}
 use Rattle.kind_check.specs.declared.turn.Turn.TheVariants.{Sends, Joins}
 use Rattle.kind_check.specs.Turns.{turn_of}

@@ -3,7 +3,7 @@ use Rattle.std.specs.Prelude.{ℕ, zero, suc, List, [], ◌∷◌, Option, Some}
 use Rattle.ids.specs.Names.{Grant, house_of}
 use Rattle.ids.specs.Options.{◌>>=◌}
 use Rattle.ids.specs.declared.work.Task.{Task}
-use Rattle.task_syntax.specs.declared.tree.Program.{Program}
+use Rattle.task_tree.specs.declared.tree.Program.{Program}
 use Rattle.kind_check.specs.declared.turn.Turn.{Turn}
 use Rattle.kind_check.specs.Turns.{turn_of}
 use Rattle.serial_meaning.specs.Job.{JobOf}

@@ -13,12 +13,14 @@ use play_words::{Ended, Line, Played};
 use std::alloc::Global;
 use std::io::Write;
 
-/// What a command on a clearinghouse needs beside it: the job that is set, and all packets that were sent.
+/// What a command on a clearinghouse needs beside it: the job that is set, all packets that were sent, and whether those that
+/// are sent are left out.
 #[derive(Drop)]
 pub struct Desk {
     pub alloc: Global,
     pub mail: Mail,
     pub setting: Setting,
+    pub is_brief: bool,
 }
 
 /// Writes a refusal. One for want of memory stops the clearinghouse, and ends the transcript.
@@ -65,8 +67,7 @@ fn write_sent<O: Write>(
 
 /// Writes what a call answered.
 fn write_step<O: Write>(
-    alloc: Global,
-    mail: &mut Mail,
+    desk: &mut Desk,
     answer: Result<HouseStep, HouseError>,
     is_planned: bool,
     out: &mut O,
@@ -75,11 +76,13 @@ fn write_step<O: Write>(
         Ok(step) => {
             if step.ignored {
                 writeln!(out, "> ignored")?;
+            } else if desk.is_brief {
+                return Ok(Played::Answered);
             } else if step.sent.is_empty() {
                 writeln!(out, "> nothing")?;
             }
             for datagram in step.sent.into_vec() {
-                write_sent(alloc, mail, datagram, out)?;
+                write_sent(desk.alloc, &mut desk.mail, datagram, out)?;
             }
         }
         Err(refused) => write_refused(refused, is_planned, out)?,
@@ -250,7 +253,7 @@ fn play_open<D: Disk, O: Write>(
         }
         _ => {
             return match answered(house, desk, line)? {
-                Some(answer) => write_step(desk.alloc, &mut desk.mail, answer, is_planned, out),
+                Some(answer) => write_step(desk, answer, is_planned, out),
                 None => Ok(Played::Malformed),
             };
         }

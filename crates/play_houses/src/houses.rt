@@ -85,6 +85,7 @@ impl Houses {
                 alloc,
                 mail: Mail::new(alloc),
                 setting: Setting::new(alloc),
+                is_brief: false,
             },
         }
     }
@@ -143,6 +144,10 @@ impl Houses {
             Some("job") => Ok(self.desk.setting.set_number(line.number(2))),
             Some("same") => self.same(line, out),
             Some("hex") => self.hex(line, out),
+            Some("brief") | Some("full") => {
+                self.desk.is_brief = line.word(1) == Some("brief");
+                Ok(Played::Answered)
+            }
             _ => self.play_on(On::House, line, out),
         }
     }

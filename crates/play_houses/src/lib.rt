@@ -20,6 +20,8 @@
 //! - `house hear PACKET` carries bytes to it: a packet in words, `bytes HEX`, or `#N`, the Nth packet that it sent. `house joins
 //!   FIRST LAST` carries to it the Joins of these workers, in turn, up to one that is refused, and shows what the last one
 //!   answers. `house tick MOMENT`, `house outcome`, `house arm CALLS HEX`, `house failures` and `house close` are as they say.
+//! - `house brief` and `house full` answer nothing. Between them nothing of what a clearinghouse sends is shown or kept: so who
+//!   takes the time of calls doesn't take that of words.
 //! - `house same #N #M` tells whether two packets have the same bytes, and `house hex #N` what these are.
 //!
 //! A call answers `ok`, what it gives, or the number of its refusal. What a clearinghouse sends is shown packet by packet, in

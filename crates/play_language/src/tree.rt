@@ -3,7 +3,7 @@
 
 use ids::Listed;
 use std::io::{self, Write};
-use task_syntax::{Argument, Block, End, Expr, Given, Name, Program, Use};
+use task_tree::{Argument, Block, End, Expr, Given, Name, Program, Use};
 
 pub fn write_name<O: Write>(out: &mut O, name: &[u8]) -> io::Result<()> {
     for byte in name {

@@ -16,6 +16,8 @@
 //! - `same #N #M` tells whether two packets have the same bytes, and `hex #N` what these are.
 //! - `ready W` shows its ready frames, in the order in which its workers take them, or `nothing ready`, and `subs W` what it
 //!   holds, or `nothing held`.
+//! - `brief` and `full` answer nothing. Between them a call shows nothing of what it sends and fills, and what it sends gets no
+//!   number: so who takes the time of calls doesn't take that of words.
 //!
 //! A call answers each packet that it sends, in words behind its number, and then each value that came to a slot; `ignored`,
 //! for a packet that was ignored; `nothing`, where it neither sends nor fills; `nothing ready`, where `run` finds no frame; or the

@@ -13,12 +13,13 @@ use serial_meaning::Job;
 use std::alloc::{AllocError, Global};
 use std::io::Write;
 
-/// The nodes that are up, and all packets that were sent.
+/// The nodes that are up, all packets that were sent, and whether those that a call sends are left out.
 #[derive(Drop)]
 pub struct Nodes {
     setting: Setting,
     players: Vec<Player>,
     mail: Mail,
+    is_brief: bool,
 }
 
 /// Where a worker stands among the nodes.
@@ -160,6 +161,7 @@ impl Nodes {
             setting: Setting::new(alloc),
             players: Vec::new(alloc),
             mail: Mail::new(alloc),
+            is_brief: false,
         }
     }
 
@@ -180,6 +182,10 @@ impl Nodes {
             "make" => self.make(alloc, line, out),
             "same" => self.same(line, out),
             "hex" => self.hex(line, out),
+            "brief" | "full" => {
+                self.is_brief = name == "brief";
+                Ok(Played::Answered)
+            }
             _ => self.play_at(alloc, name, line, out),
         }
     }
@@ -246,6 +252,9 @@ impl Nodes {
             fills,
             ignored,
         } = step;
+        if self.is_brief && !ignored {
+            return Ok(());
+        }
         let is_quiet = !ignored && sent.is_empty() && fills.is_empty();
         for datagram in sent.into_vec() {
             self.send(alloc, from, datagram, out)?;

@@ -90,13 +90,22 @@ fn by<O: Write>(
     Err(Ended::Memory)
 }
 
+/// A packet's bytes; none where they are too many, which is written.
+pub fn spelled<O: Write>(
+    alloc: Global,
+    packet: &Packet,
+    out: &mut O,
+) -> Result<Option<Vec<u8>>, Ended> {
+    by(alloc, packet, Way::Bytes, out)
+}
+
 /// A packet's bytes, which each other way has to give too; none where they are too many, which is written for each way.
 pub fn written<O: Write>(
     alloc: Global,
     packet: &Packet,
     out: &mut O,
 ) -> Result<Option<Vec<u8>>, Ended> {
-    let bytes = by(alloc, packet, Way::Bytes, out)?;
+    let bytes = spelled(alloc, packet, out)?;
     for way in [Way::Datagram, Way::ShortBytes, Way::ShortDatagram] {
         if let (Some(bytes), Some(other)) = (&bytes, by(alloc, packet, way, out)?)
             && bytes.as_slice() != other.as_slice()

@@ -10,6 +10,8 @@
 //!   and says so where one gives other bytes.
 //! - `decode HEX` keeps bytes, and answers the packet that they are read as, in words, or their fault. The packet is written again,
 //!   and it is said where it has other bytes.
+//! - `decodes TIMES HEX` reads bytes so often and `encodes TIMES HEX` writes their packet so often, for who takes the time: they
+//!   answer `ok`, or the fault, and keep nothing.
 //! - `with AT HEX` is the same of the kept bytes with others from AT on, and answers `ok` for a packet; so does `front COUNT
 //!   PIECES..` of the first COUNT of them with pieces behind: `HEX`, `HEX*TIMES` or `@AT`, the kept bytes from AT on. What is kept
 //!   stays.

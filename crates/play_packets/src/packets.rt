@@ -1,6 +1,6 @@
 //! The bytes of a transcript that are a packet's or may be.
 
-use crate::calls::{read_back, written};
+use crate::calls::{read, read_back, spelled, written};
 use crate::words::{Unread, packet_in, write_packet};
 use codec::{Fault, Packet, ReadError, decode};
 use play_words::{Ended, Line, Played, bytes_of_hex, write_hex};
@@ -58,6 +58,37 @@ fn fault<O: Write>(alloc: Global, bytes: &[u8], out: &mut O) -> Result<Option<Fa
     Err(Ended::Memory)
 }
 
+/// Bytes are read so often.
+fn decodes<O: Write>(alloc: Global, line: &Line<'_>, out: &mut O) -> Result<Played, Ended> {
+    let (Some(times), Some(bytes)) = (line.number(1), bytes_of_hex(alloc, line.rest(2))?) else {
+        return Ok(Played::Malformed);
+    };
+    for _ in 0..times {
+        if read(alloc, &bytes, out)?.is_none() {
+            return Ok(Played::Answered);
+        }
+    }
+    writeln!(out, "> ok")?;
+    Ok(Played::Answered)
+}
+
+/// The packet of bytes is written so often.
+fn encodes<O: Write>(alloc: Global, line: &Line<'_>, out: &mut O) -> Result<Played, Ended> {
+    let (Some(times), Some(bytes)) = (line.number(1), bytes_of_hex(alloc, line.rest(2))?) else {
+        return Ok(Played::Malformed);
+    };
+    let Some(packet) = read(alloc, &bytes, out)? else {
+        return Ok(Played::Answered);
+    };
+    for _ in 0..times {
+        if spelled(alloc, &packet, out)?.is_none() {
+            return Ok(Played::Answered);
+        }
+    }
+    writeln!(out, "> ok")?;
+    Ok(Played::Answered)
+}
+
 impl Packets {
     pub fn new(alloc: Global) -> Packets {
         Packets {
@@ -78,6 +109,8 @@ impl Packets {
         match name {
             "encode" => self.encode(alloc, line, out),
             "decode" => self.decode(alloc, line, out),
+            "decodes" => decodes(alloc, line, out),
+            "encodes" => encodes(alloc, line, out),
             "with" => self.with(alloc, line, out),
             "front" => self.front(alloc, line, out),
             "part" => self.part(line, out),

@@ -7,7 +7,7 @@ use Rattle.ids.specs.Named.{changed_of, item_in}
 use Rattle.ids.specs.Naming.{name_of_frame, name_of_grant, name_of_record}
 use Rattle.ids.specs.Ordered.{AreInOrder}
 use Rattle.ids.specs.declared.work.Record.{Record}
-use Rattle.task_syntax.specs.declared.tree.Program.{Program}
+use Rattle.task_tree.specs.declared.tree.Program.{Program}
 use Rattle.kind_check.specs.Total.{arity_of}
 use Rattle.frames.specs.Frames.{frame_in, put_frame}
 use Rattle.victim_records.specs.Records.{record_in, with_holder, without_record}

@@ -9,7 +9,7 @@ use Rattle.ids.specs.Names.{Grant}
 use Rattle.ids.specs.Naming.{name_of_grant}
 use Rattle.ids.specs.declared.member.Member.{Member}
 use Rattle.ids.specs.declared.work.Record.{Record}
-use Rattle.task_syntax.specs.declared.tree.Program.{Program}
+use Rattle.task_tree.specs.declared.tree.Program.{Program}
 use Rattle.victim_records.specs.Records.{record_in}
 use Rattle.sub_rules.specs.Changes.{readied_in, redone, with_parent, with_thief}
 use Rattle.sub_rules.specs.Content.{ready_in}

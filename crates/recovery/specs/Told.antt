@@ -6,7 +6,7 @@ use Rattle.ids.specs.Naming.{name_of_frame, name_of_record}
 use Rattle.ids.specs.Ordered.{AreInOrder}
 use Rattle.ids.specs.declared.member.Member.{Member}
 use Rattle.ids.specs.declared.work.Record.{Record}
-use Rattle.task_syntax.specs.declared.tree.Program.{Program}
+use Rattle.task_tree.specs.declared.tree.Program.{Program}
 use Rattle.sub_rules.specs.Debts.{IsSound}
 use Rattle.sub_rules.specs.Changes.{readied_in}
 use Rattle.sub_rules.specs.Content.{ready_in}

@@ -1,5 +1,5 @@
 ghost use Rattle.std.specs.Prelude.{◌≡◌, ◌==◌, ◌++◌, IfOk, IfSome, map, [], ◌∷◌};
-ghost use Rattle.task_syntax.specs.declared.tree.Program.{Program};
+ghost use Rattle.task_tree.specs.declared.tree.Program.{Program};
 ghost use Rattle.frames.specs.Frames.{missing_in};
 ghost use Rattle.sub_rules.specs.Changes.{readied_in};
 ghost use Rattle.subcomputation.specs.Fitting.{Fits};

@@ -21,10 +21,11 @@ pub record IsReplayOf (job : JobOf) (text : List ℕ) (r : Replayed) : Type 0 wh
   pub fills : r.fills ≡ length world.fills
   pub outcome : r.outcome ≡ recorded world
 
--- what a refusal of a script says: its first line that isn't an event's, or want of memory
+-- what a refusal of a script says: its first line that isn't an event's; or all lines are events', and one or the first world found
+-- no memory
 abbrev pub IsScriptRefusal : List ℕ → ReplayFault → Type 0
 IsScriptRefusal text (fault.Line l) = script text ≡ Err l
-IsScriptRefusal text fault.Memory = Unit {0}
+IsScriptRefusal text fault.Memory = (events : List Event) × (script text ≡ Ok events)
 IsScriptRefusal text fault.File = ⊥
 IsScriptRefusal text (fault.Job e) = ⊥
 

@@ -1,6 +1,6 @@
 -- The meaning of a program has what is used of it: by the laws of the serial meaning.
 use Rattle.std.proofs.Common.{◌≡◌, ℕ, ℤ, ◌<◌, suc, zero, List, [], ◌∷◌, map, Option, Some, None, slice_get, refl, sym, arith, ap, ◌∙◌}
-use Rattle.task_syntax.specs.declared.tree.Program.{Program}
+use Rattle.task_tree.specs.declared.tree.Program.{Program}
 use Rattle.kind_check.specs.declared.turn.Kid.{Kid as SpawnedKid}
 use Rattle.kind_check.specs.declared.turn.Slot.{Slot as JoinSlot}
 use Rattle.kind_check.specs.declared.turn.Slot.TheVariants.{Filled, Awaits}

@@ -1,6 +1,6 @@
 ghost use Rattle.std.specs.Prelude.{◌≡◌, ◌<◌, ℕ, ℤ, List, [], ◌⊎◌, Option, Some, None};
 ghost use Rattle.ids.specs.Names.{house_of, Grant};
-ghost use Rattle.task_syntax.specs.declared.tree.Program.{Program};
+ghost use Rattle.task_tree.specs.declared.tree.Program.{Program};
 ghost use Rattle.serial_meaning.specs.Places.{outcome_of, meaning};
 ghost use Rattle.run_tables.specs.Tables.{◌∈◌};
 ghost use Rattle.run_tables.specs.Content.{Content, HoldsTask, SameWork, Fill, Changes};

@@ -1,5 +1,5 @@
 -- Each step keeps a world tied; a first world is tied; and so is each world of a run.
-use Rattle.std.proofs.Common.{◌≡◌, ℕ, ℤ, suc, zero, Bool, true, false, cond, not, ◌&&◌, List, [], ◌∷◌, ◌⊎◌, inl, inr, Option, None, Some, is_some, slice_get, refl, sym, ap, ◌∙◌, arith}
+use Rattle.std.proofs.Common.{◌≡◌, ℕ, ℤ, Bool, true, false, cond, not, ◌&&◌, List, [], ◌⊎◌, inl, inr, Option, None, Some, is_some, slice_get, refl, sym, ap, ◌∙◌, arith}
 use Rattle.ids.specs.Names.{is_worker}
 use Rattle.ids.specs.declared.outcome.Outcome.{Outcome}
 use Rattle.serial_meaning.specs.Job.{JobOf, meaning_of as job_meaning}
@@ -131,7 +131,7 @@ first_tied job d can = record {
     up = λ i works not_house. absurd works;
     words = λ i m of. absurd m;
     house = record { none = refl; nobody = λ i e. cc };
-    disk = record { sequence = can.sequence; found = can.found; keeps = can.kept; stored = refl; epoch = omega arith; held = tt };
+    disk = record { sequence = can.sequence; found = can.found; keeps = can.kept; own = can.own; stored = refl; epoch = omega arith; held = tt };
     net = λ p m. absurd m;
     sent = λ t m. absurd m;
     fills = refl;

@@ -1,5 +1,5 @@
 -- Each event of the clearinghouse keeps a world tied: it ends, or a call of the disk fails in it.
-use Rattle.std.proofs.Common.{◌≡◌, ◌<◌, ◌⊎◌, ℕ, zero, suc, List, [], ◌∷◌, ◌++◌, length, inl, inr, Option, None, Some, slice_get, refl, sym, subst}
+use Rattle.std.proofs.Common.{◌≡◌, ◌<◌, ◌⊎◌, ℕ, List, [], ◌++◌, length, inl, inr, Option, None, Some, slice_get, refl, sym, subst}
 use Rattle.codec.specs.Table.{PacketOf}
 use Rattle.disk.specs.Device.{Device}
 use Rattle.checkpoint.specs.Commit.{opening}

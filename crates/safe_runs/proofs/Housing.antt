@@ -35,7 +35,7 @@ kept_as {f = f} {n = n} {t = t} e q k = subst (λ x. Keeps f x t) e (subst (λ y
 
 -- an open clearinghouse's disk keeps what it has committed
 pub open_disk : (job : JobOf) (v : View) (h : HouseOf) (d : Device) → OpenShown v h → Keeps d.file h.sequence (record_of job (kept_of h)) → DiskShown job v d (IsUp (Open h))
-open_disk job v h d s keeps = record { sequence = h.sequence; found = record_of job (kept_of h); keeps = keeps; stored = s.stored; epoch = rw s.epoch (omega arith); held = (refl, refl) }
+open_disk job v h d s keeps = record { sequence = h.sequence; found = record_of job (kept_of h); keeps = keeps; own = refl; stored = s.stored; epoch = rw s.epoch (omega arith); held = (refl, refl) }
 
 module _ (job : JobOf) (base v : View) (w : WorldOf) (run : Run (meaning_of job) v) (since : Leads base v) (shown : Shown job v w) (h : HouseOf) (is : w.house ≡ IsUp (Open h)) where
   pub own : OpenHouse v h

@@ -23,4 +23,5 @@ pub mod Root
 pub mod Coming
 pub mod Busy
 pub mod Losing
+pub mod Finding
 pub mod Sound

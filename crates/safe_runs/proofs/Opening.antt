@@ -97,8 +97,8 @@ module _ (job : JobOf) (base v : View) (w : WorldOf) (run : Run (meaning_of job)
   -- one of the calls failed
   pub half_opened : (k : ℕ) (bytes : List ℕ) → k < length (calls_of way) → DiskShown job v (halted w.disk (calls_of way) k bytes) Down
   half_opened k bytes within = ⊎_elim
-      (λ old. record { sequence = way.sequence; found = way.found; keeps = old; stored = read_stored; epoch = read_epoch; held = tt })
-      (λ new. record { sequence = way.sequence + 1; found = record_of job next; keeps = new; stored = read_stored; epoch = let e = read_epoch in omega (arith, e); held = tt })
+      (λ old. record { sequence = way.sequence; found = way.found; keeps = old; own = way.own; stored = read_stored; epoch = read_epoch; held = tt })
+      (λ new. record { sequence = way.sequence + 1; found = record_of job next; keeps = new; own = refl; stored = read_stored; epoch = let e = read_epoch in omega (arith, e); held = tt })
       (opening_cut_off w.disk way.sequence way.found read_kept (record_of job next) way.calls way.commit k bytes within)
 
   -- all passed

@@ -41,15 +41,15 @@ shut_shown x _ (is_stopped s) c = c
 
 shut_disk : (job : JobOf) (v : View) (d : Device) (house : HouseAt) → IsShut house → DiskShown job v d Down → DiskShown job v d house
 shut_disk job v d _ is_down k = k
-shut_disk job v d _ (is_stopped s) k = record { sequence = k.sequence; found = k.found; keeps = k.keeps; stored = k.stored; epoch = k.epoch; held = tt }
+shut_disk job v d _ (is_stopped s) k = record { sequence = k.sequence; found = k.found; keeps = k.keeps; own = k.own; stored = k.stored; epoch = k.epoch; held = tt }
 
 -- what is said of a disk without its clearinghouse
 pub loose : (job : JobOf) (v : View) (d : Device) (house : HouseAt) → DiskShown job v d house → DiskShown job v d Down
-loose job v d house k = record { sequence = k.sequence; found = k.found; keeps = k.keeps; stored = k.stored; epoch = k.epoch; held = tt }
+loose job v d house k = record { sequence = k.sequence; found = k.found; keeps = k.keeps; own = k.own; stored = k.stored; epoch = k.epoch; held = tt }
 
 -- so it is of another disk that keeps the same
 pub same_record : (job : JobOf) (v : View) (d e : Device) (house : HouseAt) → ((n : ℕ) (r : Record) → Keeps d.file n r → Keeps e.file n r) → DiskShown job v d house → DiskShown job v e Down
-same_record job v d e house keeps k = record { sequence = k.sequence; found = k.found; keeps = keeps k.sequence k.found k.keeps; stored = k.stored; epoch = k.epoch; held = tt }
+same_record job v d e house keeps k = record { sequence = k.sequence; found = k.found; keeps = keeps k.sequence k.found k.keeps; own = k.own; stored = k.stored; epoch = k.epoch; held = tt }
 
 -- nothing is sent
 pub net_as : (job : JobOf) (base : View) (w : WorldOf) (house : HouseAt) (d : Device) → TiedSince job base (record w { house = house; disk = d }) → TiedSince job base (record w { house = house; disk = d; net = w.net ++ [] })
@@ -94,7 +94,7 @@ module _ (job : JobOf) (base v : View) (w : WorldOf) (run : Run (meaning_of job)
               (same_or j (name_of h));
           words = shown.words;
           house = shut_shown x house shut over;
-          disk = shut_disk job x d house shut (record { sequence = disk.sequence; found = disk.found; keeps = disk.keeps; stored = disk.stored; epoch = disk.epoch; held = tt });
+          disk = shut_disk job x d house shut (record { sequence = disk.sequence; found = disk.found; keeps = disk.keeps; own = disk.own; stored = disk.stored; epoch = disk.epoch; held = tt });
           net = all_shown keeps w.net shown.net;
           sent = shown.sent;
           fills = shown.fills;
@@ -118,7 +118,7 @@ module _ (job : JobOf) (base v : View) (w : WorldOf) (run : Run (meaning_of job)
   before : (d : Device) (why : _) → Keeps d.file h.sequence (record_of job (kept_of h)) → TiedSince job base (record w { house = IsUp (Stopped why); disk = d; net = w.net ++ [] })
   before d why keeps =
       let o = own job base v w run since shown h is in
-      net_as job base w (IsUp (Stopped why)) d (shuts job base v w run since shown (IsUp (Stopped why)) d (is_stopped why) (record { sequence = h.sequence; found = record_of job (kept_of h); keeps = keeps; stored = o.shown.stored; epoch = rw o.shown.epoch (omega arith); held = tt }))
+      net_as job base w (IsUp (Stopped why)) d (shuts job base v w run since shown (IsUp (Stopped why)) d (is_stopped why) (record { sequence = h.sequence; found = record_of job (kept_of h); keeps = keeps; own = refl; stored = o.shown.stored; epoch = rw o.shown.epoch (omega arith); held = tt }))
 
   behind : (d : Device) (why : _) (k : Kept) → s.commits ≡ Some k → Keeps d.file s.after.sequence (record_of job (kept_of s.after)) → TiedSince job base (record w { house = IsUp (Stopped why); disk = d; net = w.net ++ [] })
   behind d why k e keeps =
@@ -126,7 +126,7 @@ module _ (job : JobOf) (base v : View) (w : WorldOf) (run : Run (meaning_of job)
       let x = step.view in
       let open_world : WorldOf = record w { house = IsUp (Open s.after); disk = d; net = w.net ++ [] } in
       let open_shown : Shown job x open_world = house_stepped job base v w run since shown h is s d [] step (holds o.sound) keeps (none_shown x) (λ t m. inl (step.keeps_transfers k e t m)) in
-      shuts job base x open_world (step.run run) (step.since base since) open_shown (IsUp (Stopped why)) d (is_stopped why) (record { sequence = s.after.sequence; found = record_of job (kept_of s.after); keeps = keeps; stored = step.after.stored; epoch = rw step.after.epoch (omega arith); held = tt })
+      shuts job base x open_world (step.run run) (step.since base since) open_shown (IsUp (Stopped why)) d (is_stopped why) (record { sequence = s.after.sequence; found = record_of job (kept_of s.after); keeps = keeps; own = refl; stored = step.after.stored; epoch = rw step.after.epoch (omega arith); held = tt })
 
   pub halted_tied : (calls : List Call) (k : ℕ) (bytes : List ℕ) (why : _) → MakesCalls job h s.commits w.disk calls → k < length calls → TiedSince job base (record w { house = IsUp (Stopped why); disk = halted w.disk calls k bytes; net = w.net ++ [] })
   halted_tied calls k bytes why makes within = by_commit s.commits refl commits makes

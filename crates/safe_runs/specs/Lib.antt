@@ -1,3 +1,4 @@
 pub mod Shown
 pub mod Right
+pub mod Openings
 pub mod Promises

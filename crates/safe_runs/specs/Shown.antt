@@ -52,12 +52,13 @@ abbrev pub IsHeldBy : JobOf → ℕ → Record → HouseAt → Type 0
 IsHeldBy job sequence r Down = Unit {0}
 IsHeldBy job sequence r (IsUp state) = IsCommitted job sequence r state
 
--- whatever a crash leaves of the disk is a checkpoint with one record: its outcome is that of the tables, and its epoch is theirs, or
--- a later one that began and was never open
+-- whatever a crash leaves of the disk is a checkpoint with one record of the job: its outcome is that of the tables, and its epoch is
+-- theirs, or a later one that began and was never open
 pub record DiskShown (job : JobOf) (v : View) (d : Device) (house : HouseAt) : Type 0 where
   pub sequence : ℕ
   pub found : Record
   pub keeps : Keeps d.file sequence found
+  pub own : found.job ≡ job.number
   pub stored : v.stored ≡ stored_of found.outcome
   pub epoch : v.epoch ≤ found.epoch
   pub held : IsHeldBy job sequence found house

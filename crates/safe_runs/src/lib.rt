@@ -45,4 +45,4 @@ mod runs;
 pub use agrees::{steps_agree, worlds_agree};
 pub use loss::nothing_is_lost;
 pub use moves::{steps_are_moves, tied_worlds_are_safe, worlds_of_runs_are_safe};
-pub use runs::runs_are_safe;
+pub use runs::{openings_find_their_store, runs_are_safe};

@@ -1,8 +1,10 @@
 ghost use Rattle.std.specs.Prelude.{List, ◌∷◌};
+ghost use Rattle.run_tables.specs.Tables.{◌∈◌};
 ghost use Rattle.disk.specs.Device.{Device};
 ghost use Rattle.serial_meaning.specs.Job.{JobOf, IsJob};
 ghost use Rattle.world_steps.specs.Runs.{CanBegin, Entry, Runs};
 ghost use Rattle.world_steps.specs.World.{WorldOf, first_over};
+ghost use Rattle.safe_runs.specs.Openings.{OpeningFinds};
 ghost use Rattle.safe_runs.specs.Promises.{AllSafe};
 
 /// Every run of a job from a disk on which it can begin is safe, and each of its worlds agrees with the serial meaning and has lost
@@ -14,4 +16,14 @@ pub fn runs_are_safe()
         → CanBegin job d
         → Runs job (first_over d) entries worlds
         → AllSafe job (first_over d ∷ worlds) }
+{}
+
+/// No opening of such a run is refused because of what its disk keeps: it is never that of another job (E70), no store at all (E71),
+/// or a store of another version (E73). So it is of a Cut of an opening. Does nothing.
+pub fn openings_find_their_store()
+    ensures { (job : JobOf) (d : Device) (entries : List Entry) (worlds : List WorldOf) (x : Entry)
+        → CanBegin job d
+        → Runs job (first_over d) entries worlds
+        → x ∈ entries
+        → OpeningFinds x.event x.answer }
 {}

@@ -13,7 +13,7 @@ pub use ids::Outcome;
 pub use job::{Job, JobError};
 pub use laws::{
     equal_programs_mean_alike, full_frame_holds_its_task, join_has_its_successors_value,
-    kids_value_fills_its_slot, one_text_one_outcome, sent_value_is_the_tasks, successor_agrees,
+    kids_value_fills_its_slot, sent_value_is_the_tasks, successor_agrees,
     too_deep_anywhere_is_too_deep,
 };
 pub use meaning::{SerialError, serial};

@@ -2,10 +2,9 @@ ghost use Rattle.std.specs.Prelude.{◌≡◌, OnOk, OnErr, option_copied, lengt
 ghost use Rattle.steal_protocol.specs.Replies.{reply_in, put_reply, heard, told, name_of_reply};
 
 use codec::Packet;
-use ids::{Count, Incarnation, Named, Store};
+use ids::{Count, Incarnation, Named, Store, Values};
 use std::alloc::{AllocError, Global};
 use std::cmp::Ordering;
-use std::collections::btree_map::Values;
 use std::marker::Model;
 
 /// The last answer to a thief, and the count of the request that it answers.
@@ -74,7 +73,7 @@ impl Replies {
     }
 
     /// The answers, by rising thief.
-    pub fn values(&self) -> Values<'_, (u64, u64), Reply>
+    pub fn values(&self) -> Values<'_, Reply>
         ensures { result ≡ self.now }
     {
         self.replies.values()

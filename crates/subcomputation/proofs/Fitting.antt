@@ -15,7 +15,7 @@ use Rattle.ids.specs.declared.returns.Return.TheVariants.{Whole, Local}
 use Rattle.ids.specs.declared.work.Frame.{Frame}
 use Rattle.ids.specs.declared.work.Record.{Record}
 use Rattle.ids.specs.declared.work.Task.{Task}
-use Rattle.task_syntax.specs.declared.tree.Program.{Program}
+use Rattle.task_tree.specs.declared.tree.Program.{Program}
 use Rattle.kind_check.specs.Total.{SlotsFit, Takes, TurnFits, arity_of}
 use Rattle.kind_check.specs.declared.turn.Slot.{Slot}
 use Rattle.kind_check.specs.declared.turn.Slot.TheVariants.{Filled, Awaits}

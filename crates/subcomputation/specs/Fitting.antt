@@ -8,7 +8,7 @@ use Rattle.ids.specs.declared.returns.Return.TheVariants.{Whole, Local}
 use Rattle.ids.specs.declared.work.Frame.{Frame}
 use Rattle.ids.specs.declared.work.Record.{Record}
 use Rattle.ids.specs.declared.work.Task.{Task}
-use Rattle.task_syntax.specs.declared.tree.Program.{Program}
+use Rattle.task_tree.specs.declared.tree.Program.{Program}
 use Rattle.kind_check.specs.Total.{arity_of}
 use Rattle.sub_rules.specs.declared.content.Content.{Content}
 use Rattle.sub_rules.specs.Debts.{same_return}

@@ -1,7 +1,7 @@
 ghost use Rattle.std.specs.Prelude.{◌<◌, ◌≤◌, ℕ, IsTrue, length};
 ghost use Rattle.ids.specs.Names.{Grant};
 ghost use Rattle.ids.specs.declared.work.Task.{Task};
-ghost use Rattle.task_syntax.specs.declared.tree.Program.{Program};
+ghost use Rattle.task_tree.specs.declared.tree.Program.{Program};
 ghost use Rattle.kind_check.specs.Total.{IsAccepted};
 ghost use Rattle.sub_rules.specs.declared.content.Content.{Content};
 ghost use Rattle.sub_rules.specs.Changes.{with_parent, with_thief};

@@ -1,6 +1,6 @@
 ghost use Rattle.std.specs.Prelude.{◌≡◌, ◌<◌, false, IsErrOf, IfOk, IfSome, IsTrue, Some, None, is_some, map, [], ◌∷◌};
 ghost use Rattle.ids.specs.Slots.{numbers_in};
-ghost use Rattle.task_syntax.specs.declared.tree.Program.{Program};
+ghost use Rattle.task_tree.specs.declared.tree.Program.{Program};
 ghost use Rattle.kind_check.specs.Total.{TurnFits};
 ghost use Rattle.victim_records.specs.Records.{record_in};
 ghost use Rattle.frames.specs.Frames.{frame_in};

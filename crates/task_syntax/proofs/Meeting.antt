@@ -10,7 +10,7 @@ use Rattle.task_syntax.specs.declared.error.ParseError.{ParseError}
 use Rattle.task_syntax.specs.declared.error.ParseError.TheVariants.{TooDeepNest, Memory}
 use Rattle.task_tokens.specs.declared.kinds.Word.TheVariants as word
 use Rattle.task_tokens.specs.declared.kinds.Operator.{Operator}
-use Rattle.task_syntax.specs.declared.tree.Expr.{Expr}
+use Rattle.task_tree.specs.declared.tree.Expr.{Expr}
 use Rattle.task_syntax.proofs.Reading.{looser}
 use Rattle.task_syntax.specs.Grammar.{Begins, BeginsAt, IsMark, ReadsExpr, height_of, level_of}
 use Rattle.task_syntax.specs.Refusals.{Lacks, Misses, Stands, stands, Stops, IsInfix, offset_of}

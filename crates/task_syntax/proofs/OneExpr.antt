@@ -5,12 +5,12 @@ use Rattle.task_tokens.specs.declared.kinds.Operator.{Operator}
 use Rattle.task_tokens.specs.declared.kinds.TokenKind.{TokenKind}
 use Rattle.task_tokens.specs.declared.kinds.TokenKind.TheVariants as kind
 use Rattle.task_tokens.specs.declared.kinds.Token.{Token}
-use Rattle.task_syntax.specs.declared.tree.Name.{Name}
-use Rattle.task_syntax.specs.declared.tree.Expr.{Expr}
-use Rattle.task_syntax.specs.declared.tree.Expr.TheVariants.{Number, Variable, Binary'}
+use Rattle.task_tree.specs.declared.tree.Name.{Name}
+use Rattle.task_tree.specs.declared.tree.Expr.{Expr}
+use Rattle.task_tree.specs.declared.tree.Expr.TheVariants.{Number, Variable, Binary'}
 use Rattle.task_syntax.specs.Grammar.{Begins, IsMark, IsName, IsExpr, ReadsExpr, number, variable, grouped, infixed, level_of}
 use Rattle.task_syntax.specs.Refusals.{Stops, IsInfix, LacksInfix}
-use Rattle.task_syntax.specs.Equal.{EqualExpr}
+use Rattle.task_tree.specs.Equal.{EqualExpr}
 use Rattle.task_syntax.proofs.Reading.{begins_at}
 use Rattle.task_syntax.proofs.Refusals.{level_of-lt}
 use Rattle.task_syntax.proofs.Scanning.{same_first, begins_same, not_infix, same_operator, stops_mark}

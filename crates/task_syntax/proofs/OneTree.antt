@@ -5,20 +5,20 @@ use Rattle.task_tokens.specs.declared.kinds.Sign.TheVariants as sign
 use Rattle.task_tokens.specs.declared.kinds.TokenKind.{TokenKind}
 use Rattle.task_tokens.specs.declared.kinds.TokenKind.TheVariants as kind
 use Rattle.task_tokens.specs.declared.kinds.Token.{Token}
-use Rattle.task_syntax.specs.declared.tree.Name.{Name}
-use Rattle.task_syntax.specs.declared.tree.Expr.{Expr}
-use Rattle.task_syntax.specs.declared.tree.Let.{Let}
-use Rattle.task_syntax.specs.declared.tree.Argument.{Argument}
-use Rattle.task_syntax.specs.declared.tree.Use.{Use}
-use Rattle.task_syntax.specs.declared.tree.Block.{Block}
-use Rattle.task_syntax.specs.declared.tree.Thread.{Thread}
-use Rattle.task_syntax.specs.declared.tree.Program.{Program}
+use Rattle.task_tree.specs.declared.tree.Name.{Name}
+use Rattle.task_tree.specs.declared.tree.Expr.{Expr}
+use Rattle.task_tree.specs.declared.tree.Let.{Let}
+use Rattle.task_tree.specs.declared.tree.Argument.{Argument}
+use Rattle.task_tree.specs.declared.tree.Use.{Use}
+use Rattle.task_tree.specs.declared.tree.Block.{Block}
+use Rattle.task_tree.specs.declared.tree.Thread.{Thread}
+use Rattle.task_tree.specs.declared.tree.Program.{Program}
 use Rattle.task_syntax.specs.Grammar.{BeginsAt, IsMark, IsName, IsExpr, Many, none, more, Further, further, IsLet, bound, IsArgument, hole, value, IsSend, send, IsSpawn, spawn, IsUse, sent, spawned, IsNext, next}
 use Rattle.task_syntax.specs.Grammar.{IsBlock, ends_in_if, ends_in_send, ends_in_next, IsThread, thread, Reads}
 use Rattle.task_syntax.specs.Refusals.{Stands, stands, Stops}
 use Rattle.task_syntax.specs.Meeting.{UseStands}
-use Rattle.task_syntax.specs.Shapes.{EachSame}
-use Rattle.task_syntax.specs.Equal.{EqualExpr, EqualLet, EqualArgument, EqualUse, EqualBlock, EqualThread, EqualProgram}
+use Rattle.task_tree.specs.Shapes.{EachSame}
+use Rattle.task_tree.specs.Equal.{EqualExpr, EqualLet, EqualArgument, EqualUse, EqualBlock, EqualThread, EqualProgram}
 use Rattle.task_syntax.proofs.Reading.{begins_at}
 use Rattle.task_syntax.proofs.Scanning.{same_first, begins_same, stops_mark}
 use Rattle.task_syntax.proofs.Readings.{stops_further, no_question, let_stands, send_begins, use_begins, no_use, thread_stands, block_stops}

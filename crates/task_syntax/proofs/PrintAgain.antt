@@ -5,7 +5,7 @@ use Rattle.std.proofs.lemmas.Bool.{and_parts, ltb-true}
 use Rattle.std.proofs.lemmas.List.Elements.{All-from_recursion}
 use Rattle.task_tokens.specs.Tokens.{tokens}
 use Rattle.task_tokens.specs.declared.kinds.TokenKind.TheVariants as kind
-use Rattle.task_syntax.specs.declared.tree.Program.{Program}
+use Rattle.task_tree.specs.declared.tree.Program.{Program}
 use Rattle.task_syntax.specs.Printed.{printed}
 use Rattle.task_syntax.specs.PrintedBack.{ReadsBack}
 use Rattle.task_syntax.specs.PrintSteps.{Text, Adds}

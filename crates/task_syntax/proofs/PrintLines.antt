@@ -7,7 +7,7 @@ use Rattle.task_tokens.specs.Tokens.{tokens}
 use Rattle.task_tokens.specs.declared.kinds.TokenKind.{TokenKind}
 use Rattle.task_tokens.specs.declared.kinds.TokenKind.TheVariants as kind
 use Rattle.task_tokens.specs.declared.kinds.Token.{Token}
-use Rattle.task_syntax.specs.declared.tree.Thread.{Thread}
+use Rattle.task_tree.specs.declared.tree.Thread.{Thread}
 use Rattle.task_syntax.specs.Grammar.{Begins}
 use Rattle.task_syntax.specs.Printed.{spelled, thread_kinds, thread_line}
 use Rattle.task_syntax.specs.PrintSteps.{spaced}

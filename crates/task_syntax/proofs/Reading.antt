@@ -5,9 +5,9 @@ use Rattle.task_tokens.specs.declared.kinds.Operator.{Operator}
 use Rattle.task_tokens.specs.declared.kinds.TokenKind.{TokenKind}
 use Rattle.task_tokens.specs.declared.kinds.TokenKind.TheVariants as kind
 use Rattle.task_tokens.specs.declared.kinds.Token.{Token}
-use Rattle.task_syntax.specs.declared.tree.Expr.{Expr}
-use Rattle.task_syntax.specs.declared.tree.Let.{Let}
-use Rattle.task_syntax.specs.declared.tree.End.{End}
+use Rattle.task_tree.specs.declared.tree.Expr.{Expr}
+use Rattle.task_tree.specs.declared.tree.Let.{Let}
+use Rattle.task_tree.specs.declared.tree.End.{End}
 use Rattle.task_syntax.specs.Grammar.{Begins, BeginsAt, IsMark, level_of, ReadsExpr, number, variable, grouped, infixed, Many, none, more, IsLet, IsBlock, ends_in_if, ends_in_send, ends_in_next}
 use Rattle.task_syntax.specs.Parts.{Joins, joins, IsEnd, branches, sends, continues}
 use Rattle.task_syntax.specs.Refusals.{IsInfix}

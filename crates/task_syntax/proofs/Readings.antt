@@ -5,14 +5,14 @@ use Rattle.task_tokens.specs.declared.kinds.Sign.TheVariants as sign
 use Rattle.task_tokens.specs.declared.kinds.TokenKind.{TokenKind}
 use Rattle.task_tokens.specs.declared.kinds.TokenKind.TheVariants as kind
 use Rattle.task_tokens.specs.declared.kinds.Token.{Token}
-use Rattle.task_syntax.specs.declared.tree.Name.{Name}
-use Rattle.task_syntax.specs.declared.tree.Expr.{Expr}
-use Rattle.task_syntax.specs.declared.tree.Let.{Let}
-use Rattle.task_syntax.specs.declared.tree.Argument.{Argument}
-use Rattle.task_syntax.specs.declared.tree.Use.{Use}
-use Rattle.task_syntax.specs.declared.tree.Block.{Block}
-use Rattle.task_syntax.specs.declared.tree.Thread.{Thread}
-use Rattle.task_syntax.specs.declared.tree.Program.{Program}
+use Rattle.task_tree.specs.declared.tree.Name.{Name}
+use Rattle.task_tree.specs.declared.tree.Expr.{Expr}
+use Rattle.task_tree.specs.declared.tree.Let.{Let}
+use Rattle.task_tree.specs.declared.tree.Argument.{Argument}
+use Rattle.task_tree.specs.declared.tree.Use.{Use}
+use Rattle.task_tree.specs.declared.tree.Block.{Block}
+use Rattle.task_tree.specs.declared.tree.Thread.{Thread}
+use Rattle.task_tree.specs.declared.tree.Program.{Program}
 use Rattle.task_syntax.specs.Grammar.{Begins, IsMark, IsName, IsExpr, ReadsExpr, number, variable, grouped, infixed, Many, none, more, Further, further, IsLet, bound, IsArgument, hole, value, IsSend, send, spawn, IsUse, sent, spawned, IsNext, next, IsBlock, ends_in_if, ends_in_send, ends_in_next, IsThread, thread, IsProgram}
 use Rattle.task_syntax.specs.Refusals.{Stands, stands, Stops}
 use Rattle.task_syntax.specs.Meeting.{named, valued, both, one, other, done, again, UseStands, send_stands, spawn_stands, ended, a_name, a_value, let_part, lets_part, argument_part, send_part, use_part, uses_part, next_part, block_part, thread_part, threads_part, program_part}

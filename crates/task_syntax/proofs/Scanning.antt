@@ -5,7 +5,7 @@ use Rattle.task_tokens.specs.declared.kinds.Operator.{Operator}
 use Rattle.task_tokens.specs.declared.kinds.TokenKind.{TokenKind}
 use Rattle.task_tokens.specs.declared.kinds.TokenKind.TheVariants as kind
 use Rattle.task_tokens.specs.declared.kinds.Token.{Token}
-use Rattle.task_syntax.specs.declared.tree.Expr.{Expr}
+use Rattle.task_tree.specs.declared.tree.Expr.{Expr}
 use Rattle.task_syntax.specs.declared.error.ParseError.{ParseError}
 use Rattle.task_syntax.specs.declared.error.ParseError.TheVariants.{TooDeepNest}
 use Rattle.task_syntax.specs.Grammar.{Begins, BeginsAt, IsMark, ReadsExpr, number, variable, grouped, infixed, height_of, level_of}

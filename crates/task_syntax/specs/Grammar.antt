@@ -10,19 +10,19 @@ use Rattle.task_tokens.specs.declared.kinds.Operator.TheVariants as operator
 use Rattle.task_tokens.specs.declared.kinds.TokenKind.{TokenKind}
 use Rattle.task_tokens.specs.declared.kinds.TokenKind.TheVariants as kind
 use Rattle.task_tokens.specs.declared.kinds.Token.{Token}
-use Rattle.task_syntax.specs.declared.tree.Name.{Name}
-use Rattle.task_syntax.specs.declared.tree.Expr.{Expr}
-use Rattle.task_syntax.specs.declared.tree.Expr.TheVariants.{Number, Variable, Binary'}
-use Rattle.task_syntax.specs.declared.tree.Let.{Let}
-use Rattle.task_syntax.specs.declared.tree.Argument.{Argument}
-use Rattle.task_syntax.specs.declared.tree.Argument.TheVariants as argument
-use Rattle.task_syntax.specs.declared.tree.Given.TheVariants.{Sent, Spawned}
-use Rattle.task_syntax.specs.declared.tree.Use.{Use}
-use Rattle.task_syntax.specs.declared.tree.Block.{Block}
-use Rattle.task_syntax.specs.declared.tree.End.{End}
-use Rattle.task_syntax.specs.declared.tree.End.TheVariants.{If', Send, Next}
-use Rattle.task_syntax.specs.declared.tree.Thread.{Thread}
-use Rattle.task_syntax.specs.declared.tree.Program.{Program}
+use Rattle.task_tree.specs.declared.tree.Name.{Name}
+use Rattle.task_tree.specs.declared.tree.Expr.{Expr}
+use Rattle.task_tree.specs.declared.tree.Expr.TheVariants.{Number, Variable, Binary'}
+use Rattle.task_tree.specs.declared.tree.Let.{Let}
+use Rattle.task_tree.specs.declared.tree.Argument.{Argument}
+use Rattle.task_tree.specs.declared.tree.Argument.TheVariants as argument
+use Rattle.task_tree.specs.declared.tree.Given.TheVariants.{Sent, Spawned}
+use Rattle.task_tree.specs.declared.tree.Use.{Use}
+use Rattle.task_tree.specs.declared.tree.Block.{Block}
+use Rattle.task_tree.specs.declared.tree.End.{End}
+use Rattle.task_tree.specs.declared.tree.End.TheVariants.{If', Send, Next}
+use Rattle.task_tree.specs.declared.tree.Thread.{Thread}
+use Rattle.task_tree.specs.declared.tree.Program.{Program}
 
 -- the tokens `from` are one of this kind, and then `to`
 pub record Begins (k : TokenKind) (from to : List Token) : Type 0 where

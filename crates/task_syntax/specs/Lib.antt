@@ -4,7 +4,5 @@ pub mod Refusals
 pub mod Meeting
 pub mod Errors
 pub mod Printed
-pub mod Shapes
-pub mod Equal
 pub mod PrintSteps
 pub mod PrintedBack

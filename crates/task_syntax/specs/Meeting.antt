@@ -11,8 +11,8 @@ use Rattle.task_tokens.specs.declared.kinds.TokenKind.TheVariants as kind
 use Rattle.task_tokens.specs.declared.kinds.Token.{Token}
 use Rattle.task_syntax.specs.declared.error.ParseError.{ParseError}
 use Rattle.task_syntax.specs.declared.error.ParseError.TheVariants.{Unexpected, TooLong, TooDeepNest, NotAscii}
-use Rattle.task_syntax.specs.declared.tree.Name.{Name}
-use Rattle.task_syntax.specs.declared.tree.Expr.{Expr}
+use Rattle.task_tree.specs.declared.tree.Name.{Name}
+use Rattle.task_tree.specs.declared.tree.Expr.{Expr}
 use Rattle.task_syntax.specs.Grammar.{Begins, BeginsAt, IsMark, IsName, IsExpr, ReadsExpr, height_of, level_of}
 use Rattle.task_syntax.specs.Refusals.{Lacks, Misses, Stands, Stops, offset_of, first_refusal, name_refusal, leaf_refusal}
 

@@ -10,20 +10,20 @@ use Rattle.task_tokens.specs.declared.kinds.Operator.{Operator}
 use Rattle.task_tokens.specs.declared.kinds.Operator.TheVariants as operator
 use Rattle.task_tokens.specs.declared.kinds.TokenKind.{TokenKind}
 use Rattle.task_tokens.specs.declared.kinds.TokenKind.TheVariants.{Ident, LongIdent, Keyword, Numeral, LargeNumeral, Infix, Mark, Unknown, End}
-use Rattle.task_syntax.specs.declared.tree.Name.{Name}
-use Rattle.task_syntax.specs.declared.tree.Expr.{Expr}
-use Rattle.task_syntax.specs.declared.tree.Expr.TheVariants.{Number, Variable, Binary'}
-use Rattle.task_syntax.specs.declared.tree.Let.{Let}
-use Rattle.task_syntax.specs.declared.tree.Argument.{Argument}
-use Rattle.task_syntax.specs.declared.tree.Argument.TheVariants as argument
-use Rattle.task_syntax.specs.declared.tree.Given.{Given}
-use Rattle.task_syntax.specs.declared.tree.Given.TheVariants.{Sent, Spawned}
-use Rattle.task_syntax.specs.declared.tree.Use.{Use}
-use Rattle.task_syntax.specs.declared.tree.Block.{Block}
-use Rattle.task_syntax.specs.declared.tree.End as end_type
-use Rattle.task_syntax.specs.declared.tree.End.TheVariants as end
-use Rattle.task_syntax.specs.declared.tree.Thread.{Thread}
-use Rattle.task_syntax.specs.declared.tree.Program.{Program}
+use Rattle.task_tree.specs.declared.tree.Name.{Name}
+use Rattle.task_tree.specs.declared.tree.Expr.{Expr}
+use Rattle.task_tree.specs.declared.tree.Expr.TheVariants.{Number, Variable, Binary'}
+use Rattle.task_tree.specs.declared.tree.Let.{Let}
+use Rattle.task_tree.specs.declared.tree.Argument.{Argument}
+use Rattle.task_tree.specs.declared.tree.Argument.TheVariants as argument
+use Rattle.task_tree.specs.declared.tree.Given.{Given}
+use Rattle.task_tree.specs.declared.tree.Given.TheVariants.{Sent, Spawned}
+use Rattle.task_tree.specs.declared.tree.Use.{Use}
+use Rattle.task_tree.specs.declared.tree.Block.{Block}
+use Rattle.task_tree.specs.declared.tree.End as end_type
+use Rattle.task_tree.specs.declared.tree.End.TheVariants as end
+use Rattle.task_tree.specs.declared.tree.Thread.{Thread}
+use Rattle.task_tree.specs.declared.tree.Program.{Program}
 
 -- how a kept word is spelled
 abbrev pub word_text : Word → List ℕ

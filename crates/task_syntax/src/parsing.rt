@@ -1,15 +1,15 @@
 ghost use Rattle.std.specs.Prelude.{◌≡◌, ◌≢◌, ℕ, List, ◌<◌, ◌≤◌, length, take, slice_index, All, IfOk, IfErr, MatchOption};
 ghost use Rattle.task_syntax.specs.Grammar.{Reads};
 ghost use Rattle.task_syntax.specs.declared.error.ParseError.{ParseError};
-ghost use Rattle.task_syntax.specs.declared.tree.Program.{Program};
+ghost use Rattle.task_tree.specs.declared.tree.Program.{Program};
 ghost use Rattle.task_syntax.specs.Meeting.{MeetsText};
-ghost use Rattle.task_syntax.specs.Equal.{EqualProgram};
+ghost use Rattle.task_tree.specs.Equal.{EqualProgram};
 
 use crate::error::ParseError;
 use crate::reader::program;
-use crate::tree::Program;
 use std::alloc::Global;
 use task_tokens::tokenize;
+use task_tree::Program;
 
 /// The longest text, in bytes.
 pub const LONGEST_TEXT: usize = 65536;

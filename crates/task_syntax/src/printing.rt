@@ -4,15 +4,15 @@ ghost use Rattle.task_tokens.specs.declared.kinds.TokenKind.TheVariants.{Ident, 
 ghost use Rattle.task_syntax.specs.Printed.{operand_kinds, expr_kinds, let_kinds, further_kinds, argument_kinds, parameter_kinds, call_end, send_kinds, given_kinds, use_kinds, next_kinds, end_kinds, block_kinds, thread_line, printed};
 ghost use Rattle.task_syntax.specs.PrintSteps.{Adds, Prints};
 ghost use Rattle.task_syntax.specs.PrintedBack.{ReadsBack};
-ghost use Rattle.task_syntax.specs.declared.tree.Program.{Program};
-ghost use Rattle.task_syntax.specs.Equal.{EqualProgram};
+ghost use Rattle.task_tree.specs.declared.tree.Program.{Program};
+ghost use Rattle.task_tree.specs.Equal.{EqualProgram};
 
 use crate::error::PrintError;
 use crate::parsing::LONGEST_TEXT;
-use crate::tree::{Argument, Block, End, Expr, Given, Let, Name, Program, Thread, Use};
 use std::alloc::Global;
 use std::marker::Model;
 use task_tokens::{Operator, Sign, Word};
+use task_tree::{Argument, Block, End, Expr, Given, Let, Name, Program, Thread, Use};
 
 /// A program's text in one form: each thread on a line that ends with LF, one blank between any two tokens, in
 /// parentheses each operand that is itself an operation and nothing else, numbers in decimal without leading zeros. An

@@ -3,9 +3,8 @@ ghost use Rattle.ids.specs.Naming.{name_of_grant, name_of_record};
 ghost use Rattle.ids.specs.Ordered.{AreInOrder};
 ghost use Rattle.victim_records.specs.Records.{record_in, put_record, without_record, renamed, with_holder, grants_of};
 
-use ids::{Change, GrantId, Incarnation, Listed, Record, Store};
+use ids::{Change, GrantId, Incarnation, Listed, Record, Store, Values};
 use std::alloc::{AllocError, Global};
-use std::collections::btree_map::Values;
 use std::marker::Model;
 
 /// The open records of one subcomputation, each grant once. Contracts see the list of them, by rising grant.
@@ -43,7 +42,7 @@ impl Records {
     }
 
     /// The records, by rising grant.
-    pub fn values(&self) -> Values<'_, (u64, u64), Record>
+    pub fn values(&self) -> Values<'_, Record>
         ensures { result ≡ self.now }
     {
         self.records.values()

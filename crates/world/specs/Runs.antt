@@ -1,6 +1,7 @@
 -- Runs from a first world on, by lists of events and by scripts, and what is promised of them.
 use Rattle.std.specs.Prelude.{◌∷◌, ◌≡◌, ◌⊎◌, ℕ, List, length, map, take, Option, None, Some, IsTrue, slice_get}
 use Rattle.disk.specs.Device.{Device}
+use Rattle.run_tables.specs.Tables.{◌∈◌}
 use Rattle.serial_meaning.specs.Job.{JobOf}
 use Rattle.event_script.specs.Left.{is_cut}
 use Rattle.event_script.specs.declared.event.Event.{Event}
@@ -11,6 +12,7 @@ use Rattle.world_steps.specs.World.{WorldOf, first_over}
 use Rattle.world_steps.specs.declared.parts.NoMemory.{NoMemory}
 use Rattle.world_steps.specs.Calls.{StarvesBehind}
 use Rattle.world_steps.specs.Safe.{SafeWorld}
+use Rattle.safe_runs.specs.Openings.{OpeningFinds}
 use Rattle.safe_runs.specs.Promises.{AllSafe}
 
 -- an event of a run finds no memory: the world is as it was, but a clearinghouse that was to answer is stopped
@@ -42,6 +44,8 @@ pub record IsSafeRunTo (Stops : Event → (last v : WorldOf) → Type 0) (job : 
   pub safe : AllSafe job (first_over run.disk ∷ run.worlds)
   -- and so is the one in which it ended, also where that was for want of memory
   pub last : SafeWorld job v
+  -- and each opening of the clearinghouse found the job's store on its disk
+  pub openings : (x : Entry) → x ∈ run.entries → OpeningFinds x.event x.answer
 
 abbrev pub IsRun : JobOf → List Event → ℕ → Option NoMemory → WorldOf → Type 0
 IsRun job = IsSafeRunTo (StopsIn job) job

@@ -51,12 +51,13 @@ pub fn run<'a>(alloc: Global, job: &'a Job, events: &[Event]) -> Result<RunEnd<'
 }
 
 /// The events of a script are carried out one after another, as `run` does. Refused by the first line that isn't of the form of
-/// `Script::new`, and no event is carried out then; and where there is no memory for the first world (E9). E9 may stop it at a
-/// Cut too, for whose bytes there is no memory; then nothing changes.
+/// `Script::new`, and no event is carried out then; and, of a script whose lines are all events', where there is no memory for the first
+/// world (E9). E9 may stop it at a Cut too, for whose bytes there is no memory; then nothing changes.
 pub fn replay<'a>(alloc: Global, job: &'a Job, text: &[u8]) -> Result<RunEnd<'a>, ReplayError>
     ensures job { IfOk result (λ r. r.world.job ≡ job.now) }
     ensures run { IfOk result (λ r. (events : List EventOf) × (script text.now ≡ Ok events) × IsReplay job.now events r.done r.stopped r.world.world) }
     ensures line { (l : _) → result ≡ Err (replay_error.Line l) → script text.now ≡ Err l }
+    ensures memory { result ≡ Err replay_error.Memory → (events : List EventOf) × (script text.now ≡ Ok events) }
 {
     let _checked = job.checked();
     script_carried_out(alloc, job, text)
@@ -85,6 +86,7 @@ fn script_carried_out<'a>(
     ensures job { IfOk result (λ r. r.world.job ≡ job.now) }
     ensures run { IfOk result (λ r. (events : List EventOf) × (script text.now ≡ Ok events) × IsRunTo (StopsReading job.now) job.now events r.done r.stopped r.world.world) }
     ensures line { (l : _) → result ≡ Err (replay_error.Line l) → script text.now ≡ Err l }
+    ensures memory { result ≡ Err replay_error.Memory → (events : List EventOf) × (script text.now ≡ Ok events) }
 {
     let mut script = match Script::new(text) {
         Ok(script) => script,

@@ -47,9 +47,9 @@ pub struct Seat<'a> {
 
 impl<'a> Model for Seat<'a> {
     ghost use Rattle.std.specs.Coded.{codes as known};
-    ghost use Rattle.task_syntax.specs.contracts.tree.Expr as expr;
-    ghost use Rattle.task_syntax.specs.contracts.tree.Block as block;
-    ghost use Rattle.task_syntax.specs.contracts.tree.End as end;
+    ghost use Rattle.task_tree.specs.contracts.tree.Expr as expr;
+    ghost use Rattle.task_tree.specs.contracts.tree.Block as block;
+    ghost use Rattle.task_tree.specs.contracts.tree.End as end;
     ghost use Rattle.world_steps.specs.Seats.{IsSeat, SeatOf, disk_of, house_at};
 
     ghost Value = { SeatOf };

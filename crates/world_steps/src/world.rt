@@ -23,7 +23,7 @@ use body_eval::Done;
 use codec::Datagram;
 use event_script::{Cut, Event, HouseEvent, NodeEvent, NodePlace};
 use ids::{Incarnation, Outcome, Store};
-use node_core::{Fill, Node, NodeError, Step};
+use node_core::{Fill, Node, NodeError, Step, Work};
 use serial_meaning::Job;
 use std::alloc::Global;
 use std::marker::Model;
@@ -48,9 +48,9 @@ pub struct World<'a> {
 impl<'a> Model for World<'a> {
     ghost use Rattle.std.specs.Prelude.{◌&&◌};
     ghost use Rattle.std.specs.Coded.{codes as known};
-    ghost use Rattle.task_syntax.specs.contracts.tree.Expr as expr;
-    ghost use Rattle.task_syntax.specs.contracts.tree.Block as block;
-    ghost use Rattle.task_syntax.specs.contracts.tree.End as end;
+    ghost use Rattle.task_tree.specs.contracts.tree.Expr as expr;
+    ghost use Rattle.task_tree.specs.contracts.tree.Block as block;
+    ghost use Rattle.task_tree.specs.contracts.tree.End as end;
     ghost use Rattle.world_steps.specs.Calls.{WorldOn};
     ghost use Rattle.world_steps.specs.Places.{IsWorld, ups};
 
@@ -106,6 +106,24 @@ impl<'a> World<'a> {
         ensures { option_copied result ≡ slice_get self.now.world.fills index }
     {
         self.fills.get(index)
+    }
+
+    /// The ready frame of the node of a place that comes after so many others, from the deepest level on and in a level the newest
+    /// first; none where fewer are ready, or no node is up there. It tells whoever acts for the node what to do next, and no clause
+    /// speaks of it: an event that names the frame is carried out by what the world holds. Refused for want of memory alone (E9).
+    pub fn ready(
+        &self,
+        alloc: Global,
+        place: NodePlace,
+        index: usize,
+    ) -> Result<Option<Work>, NoMemory> {
+        let Some(node) = &self.nodes[usize::from(place.index())] else {
+            return Ok(None);
+        };
+        match node.ready_at(alloc, index) {
+            Ok(work) => Ok(work),
+            Err(_) => Err(NoMemory),
+        }
     }
 
     /// The outcome that an open clearinghouse has recorded.

@@ -7,9 +7,9 @@ use crate::error::ParseError;
 use crate::reader::expressions::value;
 use crate::reader::statements::{bindings, send, spawn_next, uses};
 use crate::reader::tokens::{begins, closing_brace, expect_mark, expect_word, offset};
-use crate::tree::{Block, End};
 use std::alloc::Global;
 use task_tokens::{Sign, Token, Word};
+use task_tree::{Block, End};
 
 /// A block of at most `deep` blocks inside each other, this one among them.
 #[cycle(blocks)]

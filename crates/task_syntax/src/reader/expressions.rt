@@ -6,9 +6,9 @@ ghost use Rattle.task_syntax.specs.Meeting.{MeetsExpr};
 
 use crate::error::ParseError;
 use crate::reader::tokens::{expect_mark, first, infix, level, mark, name, offset};
-use crate::tree::Expr;
 use std::alloc::Global;
 use task_tokens::{Operator, Sign, Token, TokenKind};
+use task_tree::Expr;
 
 /// The most parentheses inside each other, and the most levels of a tree.
 const DEEPEST: u8 = 64;

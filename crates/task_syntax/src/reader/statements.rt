@@ -5,10 +5,10 @@ ghost use Rattle.task_syntax.specs.Meeting.{a_value, let_part, lets_part, argume
 use crate::error::ParseError;
 use crate::reader::expressions::value;
 use crate::reader::tokens::{begins, expect_mark, expect_word, mark, name};
-use crate::tree::{Argument, Expr, Given, Let, Name, Use};
 use ids::Listed;
 use std::alloc::Global;
 use task_tokens::{Sign, Token, Word};
+use task_tree::{Argument, Expr, Given, Let, Name, Use};
 
 /// `let name = value;`
 fn binding(alloc: Global, tokens: &[Token]) -> Result<(Let, &[Token]), ParseError>

@@ -6,10 +6,10 @@ ghost use Rattle.task_syntax.specs.Meeting.{a_name, thread_part, threads_part, p
 use crate::error::ParseError;
 use crate::reader::blocks::block;
 use crate::reader::tokens::{begins, expect_mark, expect_word, first, mark, name, offset};
-use crate::tree::{Name, Program, Thread};
 use ids::Listed;
 use std::alloc::Global;
 use task_tokens::{Sign, Token, TokenKind, Word};
+use task_tree::{Name, Program, Thread};
 
 /// The most blocks inside each other.
 const DEEPEST: u8 = 64;

@@ -5,10 +5,10 @@ ghost use Rattle.task_syntax.specs.Grammar.{Begins, BeginsAt, IsMark, IsWord, Is
 ghost use Rattle.task_syntax.specs.Refusals.{offset_of, Lacks, Misses, Stands, IsInfix, LacksInfix, name_refusal, first_refusal};
 
 use crate::error::ParseError;
-use crate::tree::Name;
 use ids::Listed;
 use std::alloc::Global;
 use task_tokens::{Operator, Sign, Token, TokenKind, Word};
+use task_tree::Name;
 
 /// The first token and those behind it.
 pub fn first(tokens: &[Token]) -> Option<(&Token, &[Token])>

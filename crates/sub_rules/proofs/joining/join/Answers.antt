@@ -27,7 +27,7 @@ returns-clause-answer c =
     let fits = c.in-Ok.ensures in
     let total : next + length (joined c.args.frame c.args.thread c.args.slots.now next) ≡ c.in-Ok.next = omega arith in
     let made = c.in_ok-made.ensures ∙ ap (joined c.args.frame c.args.thread c.args.slots.now) c.number-first.ensures in
-    rw (c.in_ok-insert_join.ensures, c.in_ok-ready.ensures, c.deref.ensures.value, made, c.new.ensures, c.of-after.ensures)
+    rw (c.in_ok-insert_join.ensures.ok, c.in_ok-ready.ensures, c.deref.ensures.value, made, c.new.ensures, c.of-after.ensures)
     (join_ok c.args.content c.args.frame c.args.thread c.args.slots.now c.in-Ok.next (omega arith) total (omega arith))
 
 pub returns-clause-sound : goal.returns-clause-sound
@@ -36,5 +36,5 @@ returns-clause-sound c =
     let counted = kids_counted c.args.frame.place next 0 (next + 1) c.args.slots.now in
     let fits = c.in-Ok.ensures in
     let total : c.in-Ok.next ≡ next + length (joined c.args.frame c.args.thread c.args.slots.now next) = omega arith in
-    rw (c.in_ok-insert_join.ensures, c.in_ok-made.ensures, c.of-after.ensures, c.number-first.ensures, total)
+    rw (c.in_ok-insert_join.ensures.ok, c.in_ok-made.ensures, c.of-after.ensures, c.number-first.ensures, total)
     (joined_sound c.args.content c.args.frame c.args.thread c.args.slots.now c.requires.lacks)

@@ -1,27 +1,43 @@
-use Rattle.std.proofs.Common.{◌≡◌, ap, ◌∙◌, refl}
-use Rattle.std.specs.BTreeMap as tree
-use Rattle.std.specs.Map.{values_of}
-use Rattle.ids.specs.Named.{item_in, changed_of, name_cmp}
-use Rattle.ids.proofs.KeyedLaws.{at}
-use Rattle.ids.proofs.Replacing.{after_change}
+use Rattle.std.proofs.Common.{◌≡◌, Some, None, ap, ◌∙◌, sym}
+use Rattle.slab.specs.Slab.{with_value}
+use Rattle.ids.specs.Named.{item_in, put_in, changed_of}
+use Rattle.ids.specs.Stored.{IsFound, IsMissing, items_at}
+use Rattle.ids.proofs.Keeping.{item_of, missing, after_over}
 use Rattle.ids.proofs.store.Store.change.Goals as goal
 
-pub change_there-requires : goal.change_there-requires
-change_there-requires g c =
+pub change_at-requires : goal.change_at-requires
+change_at-requires g c =
     let name = g.X.Named.name_of in
-    let there : tree.get name_cmp c.self.inside.items c.args.name ≡ item_in name c.args.name c.args.self.now = at name name_cmp c.args.name c.self.inside.items.entries c.self.invariant.tied ∙ ap (item_in name c.args.name) c.self.view_is in
-    rw there c.requires
+    let f : IsFound c.args.name c.self.inside.entries.items c.in-Ok.field-0-0 c.in-Ok.key = rw c.as_slice.ensures.value at c.in-Ok.ensures.found in
+    let item = item_of name c.args.name c.self.inside.items c.self.inside.entries.items c.in-Ok.field-0-0 c.in-Ok.key c.self.invariant f in
+    let there : item_in name c.args.name c.args.self.now ≡ Some item.x = sym (ap (item_in name c.args.name) c.self.view_is) ∙ item.found in
+    rw item.is (rw there at c.requires)
 
 pub invariant_of-self : goal.invariant_of-self
 invariant_of-self g c =
     let name = g.X.Named.name_of in
-    let there : tree.get name_cmp c.self.inside.items c.args.name ≡ item_in name c.args.name c.args.self.now = at name name_cmp c.args.name c.self.inside.items.entries c.self.invariant.tied ∙ ap (item_in name c.args.name) c.self.view_is in
-    (after_change name (g.C.Change.changed c.args.change.now) (g.C.Change.fits c.args.change.now) (g.met.C.Change.keeps_name c.args.change.now) c.args.name c.self.inside.items c.change_there.new.items (tree.get name_cmp c.self.inside.items c.args.name) refl (rw there c.requires) c.self.invariant c.change_there.ensures).stored
+    let change = g.C.Change.changed c.args.change.now in
+    let f : IsFound c.args.name c.self.inside.entries.items c.in-Ok.field-0-0 c.in-Ok.key = rw c.as_slice.ensures.value at c.in-Ok.ensures.found in
+    let item = item_of name c.args.name c.self.inside.items c.self.inside.entries.items c.in-Ok.field-0-0 c.in-Ok.key c.self.invariant f in
+    let new : c.change_at.new.items ≡ with_value c.self.inside.items c.in-Ok.key (change item.x) = rw item.is at c.change_at.ensures in
+    rw new (after_over name c.args.name c.self.inside.items c.self.inside.entries.items c.in-Ok.field-0-0 c.in-Ok.key (change item.x) c.self.invariant f (g.met.C.Change.keeps_name c.args.change.now item.x ∙ item.named)).stored
 
 pub returns : goal.returns
 returns g c =
     let name = g.X.Named.name_of in
-    let there : tree.get name_cmp c.self.inside.items c.args.name ≡ item_in name c.args.name c.args.self.now = at name name_cmp c.args.name c.self.inside.items.entries c.self.invariant.tied ∙ ap (item_in name c.args.name) c.self.view_is in
-    (after_change name (g.C.Change.changed c.args.change.now) (g.C.Change.fits c.args.change.now) (g.met.C.Change.keeps_name c.args.change.now) c.args.name c.self.inside.items c.change_there.new.items (tree.get name_cmp c.self.inside.items c.args.name) refl (rw there c.requires) c.self.invariant c.change_there.ensures).list
-    ∙ ap (λ o. changed_of name (g.C.Change.changed c.args.change.now) (values_of c.self.inside.items.entries) o) there
-    ∙ ap (λ xs. changed_of name (g.C.Change.changed c.args.change.now) xs (item_in name c.args.name c.args.self.now)) c.self.view_is
+    let change = g.C.Change.changed c.args.change.now in
+    let f : IsFound c.args.name c.self.inside.entries.items c.in-Ok.field-0-0 c.in-Ok.key = rw c.as_slice.ensures.value at c.in-Ok.ensures.found in
+    let item = item_of name c.args.name c.self.inside.items c.self.inside.entries.items c.in-Ok.field-0-0 c.in-Ok.key c.self.invariant f in
+    let there : item_in name c.args.name c.args.self.now ≡ Some item.x = sym (ap (item_in name c.args.name) c.self.view_is) ∙ item.found in
+    let new : c.change_at.new.items ≡ with_value c.self.inside.items c.in-Ok.key (change item.x) = rw item.is at c.change_at.ensures in
+    ap (λ s. items_at s c.self.inside.entries.items) new
+    ∙ (after_over name c.args.name c.self.inside.items c.self.inside.entries.items c.in-Ok.field-0-0 c.in-Ok.key (change item.x) c.self.invariant f (g.met.C.Change.keeps_name c.args.change.now item.x ∙ item.named)).list
+    ∙ ap (put_in name (change item.x)) c.self.view_is
+    ∙ sym (ap (changed_of name change c.args.self.now) there)
+
+pub unreachable-requires : goal.unreachable-requires
+unreachable-requires g c =
+    let name = g.X.Named.name_of in
+    let f : IsMissing c.args.name c.self.inside.entries.items c.in-Err.field-0 = rw c.as_slice.ensures.value at c.in-Err.ensures.missing in
+    let none : item_in name c.args.name c.args.self.now ≡ None = sym (ap (item_in name c.args.name) c.self.view_is) ∙ missing name c.args.name c.self.inside.items c.self.inside.entries.items c.in-Err.field-0 c.self.invariant f in
+    rw none at c.requires

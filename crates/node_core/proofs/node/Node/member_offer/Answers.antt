@@ -11,6 +11,13 @@ use Rattle.node_core.proofs.Offering.{has_roster}
 use Rattle.node_core.proofs.Returning.{meets_behind}
 use Rattle.node_core.proofs.node.Node.member_offer.Goals as goal
 
+pub accept-requires-clause-absent : goal.accept-requires-clause-absent
+accept-requires-clause-absent c =
+    let is : accepted c.args.self.now.job.program c.args.self.now.node.incarnation c.args.self.now.node.subs c.args.offer ≡ Some c.in-Some.sub = search rules in
+    let taken = taken_by c.args.self.now.job.program c.args.self.now.node.incarnation c.args.self.now.node.subs c.args.offer c.in-Some.sub is in
+    let absent : sub_in c.args.offer.grant c.args.self.now.node.subs ≡ None = search rules in
+    rw taken.same absent
+
 pub accept-requires-clause-here : goal.accept-requires-clause-here
 accept-requires-clause-here c =
     let is : accepted c.args.self.now.job.program c.args.self.now.node.incarnation c.args.self.now.node.subs c.args.offer ≡ Some c.in-Some.sub = search rules in

@@ -1,0 +1,27 @@
+-- What a commit puts back, and what its seat has then.
+use Rattle.std.proofs.Common.{◌≡◌, ℕ, List, [], ◌∷◌, ◌++◌, Option, Some, Result, Ok, Err, IfOk, OnErr, append-nil, sym, ap, ◌∙◌}
+use Rattle.std.proofs.lemmas.List.Elements.{All-nil, All-cons}
+use Rattle.turn_lock.specs.Histories.{AreOf, own}
+use Rattle.turn_lock.proofs.HistoryLemmas.{own-append, own_mine}
+use Rattle.event_script.specs.declared.event.Event.{Event}
+use Rattle.world_steps.specs.declared.parts.NoMemory.{NoMemory}
+use Rattle.chronicle.specs.declared.kept.Committed.{Committed}
+use Rattle.chronicle.specs.declared.kept.Entry.{Entry}
+use Rattle.chronicle.specs.History.{actor_of, entry, number_of}
+
+pub grows : (r : Result Committed NoMemory) (event : Event) (a : ℕ) (before after : List Entry) (taken : Option (List Entry)) → taken ≡ Some before → number_of event ≡ a
+    → IfOk r (λ c. after ≡ before ++ entry event c.told ∷ []) → OnErr r (after ≡ before)
+    → (log : List Entry) × (more : List Entry) × (taken ≡ Some log) × (after ≡ log ++ more) × AreOf actor_of a more
+grows (Ok c) event a before after taken is mine ok err = (before, entry event c.told ∷ [], is, ok, All-cons (λ e. actor_of e ≡ a) (entry event c.told) [] mine (All-nil (λ e. actor_of e ≡ a)))
+grows (Err e) event a before after taken is mine ok err = (before, [], is, err ∙ sym (append-nil before), All-nil (λ e. actor_of e ≡ a))
+
+pub gains : (r : Result Committed NoMemory) (event : Event) (a : ℕ) (before after mine got : List Entry) → number_of event ≡ a → IfOk r (λ c. after ≡ before ++ entry event c.told ∷ [])
+    → own actor_of a before ≡ mine → got ≡ own actor_of a after → IfOk r (λ c. got ≡ mine ++ entry event c.told ∷ [])
+gains (Ok c) event a before after mine got is grown was now =
+    let one : own actor_of a (entry event c.told ∷ []) ≡ entry event c.told ∷ [] = own_mine actor_of a (entry event c.told ∷ []) (All-cons (λ e. actor_of e ≡ a) (entry event c.told) [] is (All-nil (λ e. actor_of e ≡ a))) in
+    now ∙ (ap (own actor_of a) grown ∙ (own-append actor_of a before (entry event c.told ∷ []) ∙ (ap (λ l. l ++ own actor_of a (entry event c.told ∷ [])) was ∙ ap (λ l. mine ++ l) one)))
+gains (Err e) event a before after mine got is grown was now = tt
+
+pub first_of : (P Q : Type 0) (r : Result Committed NoMemory) → OnErr r (P × Q) → OnErr r P
+first_of P Q (Ok c) h = tt
+first_of P Q (Err e) h = h.0

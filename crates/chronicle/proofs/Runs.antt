@@ -1,0 +1,113 @@
+-- Runs, one step longer; and what is promised of them.
+use Rattle.std.proofs.Common.{◌≡◌, List, [], ◌∷◌, ◌++◌, map, Some, false, true, ◌⊎◌, inl, inr, ⊎_elim, subst, refl, ap, ◌∙◌, sym}
+use Rattle.ids.specs.declared.outcome.Outcome.{Outcome}
+use Rattle.disk.specs.Device.{Device}
+use Rattle.serial_meaning.specs.Job.{JobOf, IsJob, meaning_of}
+use Rattle.event_script.specs.declared.event.Event.{Event}
+use Rattle.run_tables.specs.Tables.{◌∈◌}
+use Rattle.world_steps.specs.declared.parts.Told.{Told}
+use Rattle.world_steps.specs.Answers.{Outturn}
+use Rattle.world_steps.specs.Calls.{WorldOn, told_of}
+use Rattle.world_steps.specs.Runs.{CanBegin, IsFormattedFor, Runs, ends, goes, last_of}
+use Rattle.world_steps.specs.Runs.{Entry as RunEntry}
+use Rattle.world_steps.specs.Safe.{SafeWorld}
+use Rattle.world_steps.specs.Steps.{Step}
+use Rattle.world_steps.specs.World.{WorldOf, first_over}
+use Rattle.world_steps.proofs.Meeting.{can_begin}
+use Rattle.safe_runs.proofs.Sound.{all_safe, each_safe}
+use Rattle.chronicle.specs.declared.kept.Entry.{Entry}
+use Rattle.chronicle.specs.History.{IsHistory, IsSafeHistory, entry, outcome_told, told_entry}
+use Rattle.chronicle.specs.Kept.{Reaches, StarvedBy}
+use Rattle.chronicle.proofs.Tellings.{told_recorded}
+
+abbrev run_entry : Event → Outturn → RunEntry
+run_entry event o = record { event = event; answer = o.answer }
+
+longer : (job : JobOf) (w : WorldOf) (steps : List RunEntry) (worlds : List WorldOf) (event : Event) (o : Outturn) → Runs job w steps worlds → Step job event (last_of w worlds) o
+    → Runs job w (steps ++ run_entry event o ∷ []) (worlds ++ o.world ∷ [])
+longer job w [] [] event o ends step = goes step ends
+longer job w [] (v ∷ worlds) event o ran step = elim ran [ ]
+longer job w (e ∷ steps) [] event o ran step = elim ran [ ]
+longer job w (e ∷ steps) (v ∷ worlds) event o (goes first_step rest) step = goes first_step (longer job v steps worlds event o rest step)
+
+last-snoc : (w v : WorldOf) (worlds : List WorldOf) → last_of w (worlds ++ v ∷ []) ≡ v
+last-snoc w v [] = refl
+last-snoc w v (u ∷ worlds) = last-snoc u v worlds
+
+-- the last of a run's worlds is one of them
+last_there : (w : WorldOf) (worlds : List WorldOf) → last_of w worlds ∈ (w ∷ worlds)
+last_there w [] = inl refl
+last_there w (v ∷ worlds) = inr (last_there v worlds)
+
+map-snoc : (steps : List RunEntry) (e : RunEntry) → map told_entry (steps ++ e ∷ []) ≡ map told_entry steps ++ told_entry e ∷ []
+map-snoc [] e = refl
+map-snoc (s ∷ steps) e = ap (λ l. told_entry s ∷ l) (map-snoc steps e)
+
+-- a history with one event more, and the world that it reaches
+record Grown (job : JobOf) (entries : List Entry) (event : Event) (told : Told) (o : Outturn) : Type 0 where
+  pub history : IsHistory job (entries ++ entry event told ∷ [])
+  pub last : last_of (first_over history.disk) history.worlds ≡ o.world
+
+grown : (job : JobOf) (entries : List Entry) (h : IsHistory job entries) (event : Event) (told : Told) (o : Outturn) → Step job event (last_of (first_over h.disk) h.worlds) o → told ≡ told_of o.answer → Grown job entries event told o
+grown job entries h event told o step is = record {
+  history = record {
+    disk = h.disk;
+    begins = h.begins;
+    steps = h.steps ++ run_entry event o ∷ [];
+    worlds = h.worlds ++ o.world ∷ [];
+    runs = longer job (first_over h.disk) h.steps h.worlds event o h.runs step;
+    told = map-snoc h.steps (run_entry event o) ∙ (ap (λ l. l ++ entry event (told_of o.answer) ∷ []) h.told ∙ ap (λ t. entries ++ entry event t ∷ []) (sym is));
+  };
+  last = last-snoc (first_over h.disk) o.world h.worlds;
+}
+
+-- what is kept at first reaches the first world
+abbrev pub Begins : JobOf → WorldOn → Type 0
+Begins job on = (d : Device) × IsFormattedFor job d × (on ≡ record { job = job; world = first_over d; is_placed = true })
+
+pub begins : (job : JobOf) (entries : List Entry) (on : WorldOn) → IsJob job → Begins job on → entries ≡ [] → Reaches on.job entries on.world false
+begins job entries on ok is none =
+    subst (λ es. Reaches on.job es on.world false) (sym none)
+    (subst (λ (w : WorldOn). Reaches w.job [] w.world false) (sym is.2)
+    (record { own = ok; history = record { disk = is.0; begins = can_begin job is.0 is.1; steps = []; worlds = []; runs = ends; told = refl }; here = refl }))
+
+pub begun_world : (job : JobOf) (on : WorldOn) → Begins job on → (d : Device) × CanBegin job d × (on.world ≡ first_over d)
+begun_world job on is = (is.0, can_begin job is.0 is.1, ap (λ (w : WorldOn). w.world) is.2)
+
+-- an event found no memory
+pub starves : (job : JobOf) (entries more : List Entry) (world left : WorldOf) → more ≡ entries → (left ≡ world) ⊎ StarvedBy job world left → Reaches job entries world false → Reaches job more left true
+starves job entries more world left same is reached =
+    subst (λ es. Reaches job es left true) (sym same) (record {
+      own = reached.own;
+      history = reached.history;
+      here = ⊎_elim (λ stays. inl (stays ∙ reached.here)) (λ stops. inr (subst (λ w. StarvedBy job w left) reached.here stops)) is;
+    })
+
+-- an event was carried out
+abbrev pub Stepped : JobOf → Event → Told → (world next : WorldOf) → Type 0
+Stepped job event told world next = (o : Outturn) × Step job event world o × (next ≡ o.world) × (told ≡ told_of o.answer)
+
+pub goes_on : (job : JobOf) (entries more : List Entry) (world next : WorldOf) (event : Event) (told : Told) → more ≡ entries ++ entry event told ∷ [] → Stepped job event told world next
+    → Reaches job entries world false → Reaches job more next false
+goes_on job entries more world next event told same stepped reached =
+    let o : Outturn = stepped.0 in
+    let g = grown job entries reached.history event told o (subst (λ w. Step job event w o) reached.here stepped.1) stepped.3 in
+    subst (λ es. Reaches job es next false) (sym same) (record { own = reached.own; history = g.history; here = stepped.2 ∙ sym g.last })
+
+-- each world of a history is safe
+worlds_safe : (job : JobOf) (entries : List Entry) (ok : IsJob job) (h : IsHistory job entries) (w : WorldOf) → w ∈ (first_over h.disk ∷ h.worlds) → SafeWorld job w
+worlds_safe job entries ok h w m = each_safe job ok h.disk h.steps h.worlds h.begins h.runs w m
+
+-- what is told then is the job's meaning
+pub tells_meaning : (job : JobOf) (entries : List Entry) (world next : WorldOf) (event : Event) (told : Told) → Stepped job event told world next → Reaches job entries world false
+    → (x : Outcome) → outcome_told told ≡ Some x → x ≡ meaning_of job
+tells_meaning job entries world next event told stepped reached x is =
+    let o : Outturn = stepped.0 in
+    let step : Step job event (last_of (first_over reached.history.disk) reached.history.worlds) o = subst (λ w. Step job event w o) reached.here stepped.1 in
+    let g = grown job entries reached.history event told o step stepped.3 in
+    let safe : SafeWorld job o.world = subst (λ w. SafeWorld job w) g.last (worlds_safe job (entries ++ entry event told ∷ []) reached.own g.history _ (last_there (first_over g.history.disk) g.history.worlds)) in
+    safe.outcome x (told_recorded job event _ o step x (ap outcome_told (sym stepped.3) ∙ is))
+
+-- a history that reaches a world is a safe one
+pub safe_history : (job : JobOf) (entries : List Entry) → IsJob job → IsHistory job entries → IsSafeHistory job entries
+safe_history job entries ok h = record { history = h; safe = all_safe job ok h.disk h.steps h.worlds h.begins h.runs }

@@ -1,0 +1,65 @@
+-- Histories: events with what was told of each.
+use Rattle.std.specs.Prelude.{◌≡◌, ℕ, ◌+◌, List, [], ◌∷◌, map, Option, None, Some}
+use Rattle.ids.specs.declared.outcome.Outcome.{Outcome}
+use Rattle.disk.specs.Device.{Device}
+use Rattle.serial_meaning.specs.Job.{JobOf}
+use Rattle.event_script.specs.declared.event.Event.{Event}
+use Rattle.event_script.specs.declared.event.Event.TheVariants.{Start, AtNode, Crash, AtHouse, HouseCrash, Cut}
+use Rattle.world_steps.specs.declared.parts.Told.{Told}
+use Rattle.world_steps.specs.declared.parts.Told.TheVariants as told
+use Rattle.world_steps.specs.Calls.{told_of}
+use Rattle.world_steps.specs.Runs.{CanBegin, Runs}
+use Rattle.world_steps.specs.Runs.{Entry as RunEntry}
+use Rattle.world_steps.specs.World.{WorldOf, first_over}
+use Rattle.safe_runs.specs.Promises.{AllSafe}
+use Rattle.chronicle.specs.declared.kept.Entry.{Entry}
+
+-- whose event it is: the clearinghouse is actor 0, and the node of place p is actor p + 1
+abbrev pub number_of : Event → ℕ
+number_of (Start p word) = p + 1
+number_of (AtNode p e) = p + 1
+number_of (Crash p) = p + 1
+number_of (AtHouse e) = 0
+number_of HouseCrash = 0
+number_of (Cut c) = 0
+
+abbrev pub actor_of : Entry → ℕ
+actor_of e = number_of e.event
+
+abbrev pub entry : Event → Told → Entry
+entry event told = record { event = event; told = told }
+
+-- the outcome that is told: of an event of the clearinghouse the one that is recorded after it, if one is
+abbrev pub outcome_told : Told → Option Outcome
+outcome_told told.Unfit = None
+outcome_told told.Ignored = None
+outcome_told (told.Refused e) = None
+outcome_told (told.Did sent fills) = None
+outcome_told (told.House e sent outcome) = outcome
+
+-- the first outcome that is told
+abbrev pub or_later : Option Outcome → Option Outcome → Option Outcome
+or_later None later = later
+or_later (Some o) later = Some o
+
+abbrev pub first_outcome : List Entry → Option Outcome
+first_outcome [] = None
+first_outcome (e ∷ es) = or_later (outcome_told e.told) (first_outcome es)
+
+-- an event of a run, with what is told of its answer
+abbrev pub told_entry : RunEntry → Entry
+told_entry e = entry e.event (told_of e.answer)
+
+-- a list of entries is a history of a job: a run over a disk on which one can begin has these events, and its answers are told so
+pub record IsHistory (job : JobOf) (entries : List Entry) : Type 0 where
+  pub disk : Device
+  pub begins : CanBegin job disk
+  pub steps : List RunEntry
+  pub worlds : List WorldOf
+  pub runs : Runs job (first_over disk) steps worlds
+  pub told : map told_entry steps ≡ entries
+
+-- and all worlds of the run are safe, agree with the serial meaning, and have lost nothing
+pub record IsSafeHistory (job : JobOf) (entries : List Entry) : Type 0 where
+  pub history : IsHistory job entries
+  pub safe : AllSafe job (first_over history.disk ∷ history.worlds)

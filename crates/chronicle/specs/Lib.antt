@@ -1,0 +1,4 @@
+pub mod History
+pub mod Kept
+pub mod Seats
+pub mod Texts

@@ -1,0 +1,259 @@
+ghost use Rattle.std.specs.Prelude.{◌≡◌, true, ◌++◌, ◌+◌, ◌<◌, ◌≤◌, [], ◌∷◌, All, IfOk, IfSome, IfNone, OnErr, Some, length, map, vec_len, option_copied};
+ghost use Rattle.std.specs.List.{range_with_len};
+ghost use Rattle.ids.specs.declared.outcome.Outcome.{Outcome};
+ghost use Rattle.kind_check.specs.Total.{Takes};
+ghost use Rattle.serial_meaning.specs.Job.{meaning_of};
+ghost use Rattle.world_steps.specs.Answers.{Outturn};
+ghost use Rattle.world_steps.specs.Calls.{IsOfJob, told_of};
+ghost use Rattle.world_steps.specs.Steps.{Step as StepOf};
+ghost use Rattle.world_steps.specs.World.{WorldOf};
+ghost use Rattle.chronicle.specs.History.{IsSafeHistory, entry, number_of, outcome_told};
+ghost use Rattle.chronicle.specs.Seats.{IsBlankSeatIn, IsSeatIn, TellsOf, first_last, seat_of};
+
+use crate::kept::{Committed, Kept};
+use crate::seat::ActorSeat;
+use crate::trace::Trace;
+use body_eval::Done;
+use event_script::{Event, NodePlace};
+use node_core::Work;
+use serial_meaning::Job;
+use std::alloc::{AllocError, Global};
+use std::marker::Model;
+use std::snapshot::Snapshot;
+use std::sync::Wait;
+use std::sync::atomic::AtomicU64;
+use std::sync::atomic::Ordering::SeqCst;
+use turn_lock::{LockSeat, TurnLock};
+use world_steps::NoMemory;
+
+/// A world under a lock, with the history that led to it. Threads share it by reference, each with the seats of its actors. Contracts
+/// see which chronicle it is, how many actors have a seat, and the job.
+#[derive(Drop)]
+pub struct Chronicle<'a> {
+    job: &'a Job,
+    lock: TurnLock<Kept<'a>>,
+    sent: AtomicU64,
+}
+
+impl<'a> Model for Chronicle<'a> {
+    ghost use Rattle.std.specs.Prelude.{◌≡◌};
+    ghost use Rattle.std.specs.Coded.{codes as known};
+    ghost use Rattle.task_tree.specs.contracts.tree.Expr as expr;
+    ghost use Rattle.task_tree.specs.contracts.tree.Block as block;
+    ghost use Rattle.task_tree.specs.contracts.tree.End as end;
+    ghost use Rattle.chronicle.specs.Seats.{ChronicleOf, chronicle_of};
+
+    ghost Value = { ChronicleOf };
+
+    ghost coded = { Prim.hlevel (known, expr.the_row.coded, block.the_row.coded, end.the_row.coded) };
+
+    ghost view = { λ c. chronicle_of c.lock };
+
+    ghost invariant = { λ c. c.lock.fixed.value ≡ c.job.now };
+}
+
+impl<'a> Chronicle<'a> {
+    /// A chronicle of a job's first world, with no history, and a seat for each actor: those of the nodes 0 to `nodes - 1` by rising
+    /// place, and the clearinghouse's last. Refused for want of memory alone (E9).
+    #[tactic(auto, using(crate::proofs::Seats::all_blank, crate::proofs::Seats::in_order))]
+    pub fn new(
+        alloc: Global,
+        job: &'a Job,
+        nodes: u8,
+    ) -> Result<(Chronicle<'a>, Vec<ActorSeat<'a>>), NoMemory>
+        requires { (0 < nodes) × (nodes ≤ 64) }
+        ensures chronicle { IfOk result (λ r. (r.0.job ≡ job.now) × (r.0.actors ≡ nodes + 1)) }
+        ensures seats { IfOk result (λ r. All (IsBlankSeatIn r.0) r.1.items) }
+        ensures order { IfOk result (λ r. map (λ s. s.actor) r.1.items ≡ range_with_len 1 nodes ++ 0 ∷ []) }
+    {
+        let kept = Kept::new(alloc, job)?;
+        let actors = usize::from(nodes) + 1;
+        let (lock, bare) = TurnLock::new(alloc, kept, actors, Snapshot::of(job))?;
+        let seats = by_place(alloc, bare)?;
+        let sent = AtomicU64::new(0);
+        Ok((Chronicle { job, lock, sent }, seats))
+    }
+
+    /// An event of the seat's actor is carried out, and becomes the seat's next entry. What it tells is of a step of the world that was
+    /// under the lock, and an outcome that it tells is the job's meaning. E9 where there is no memory, and from then on; the seat is
+    /// as it was then.
+    pub fn commit<R: Wait>(
+        &self,
+        rt: &R,
+        seat: &mut ActorSeat<'a>,
+        event: Event,
+    ) -> Result<Committed, NoMemory>
+        requires seat { IsSeatIn self.now seat.old }
+        requires owns { number_of event ≡ seat.old.actor }
+        ensures same { IsSeatIn self.now seat.new × (seat.new.actor ≡ seat.old.actor) }
+        ensures entry { IfOk result (λ c. seat.new.entries ≡ seat.old.entries ++ entry event c.told ∷ []) }
+        ensures step { IfOk result (λ c. (w : WorldOf) × (o : Outturn) × StepOf self.now.job event w o × (c.told ≡ told_of o.answer)) }
+        ensures outcome { IfOk result (λ c. (o : Outcome) → outcome_told c.told ≡ Some o → o ≡ meaning_of self.now.job) }
+        ensures err { OnErr result (seat.new ≡ seat.old) }
+    {
+        self.enter(rt, seat, event, None)
+    }
+
+    /// As `commit`, with a turn of the job's program that was evaluated before. An Exec uses it where it is the ready frame's own, of
+    /// its thread on its numbers; else it is put aside, and the frame's body is evaluated in the step.
+    pub fn commit_turn<R: Wait>(
+        &self,
+        rt: &R,
+        seat: &mut ActorSeat<'a>,
+        event: Event,
+        turn: &Done,
+    ) -> Result<Committed, NoMemory>
+        requires seat { IsSeatIn self.now seat.old }
+        requires owns { number_of event ≡ seat.old.actor }
+        requires turn { turn.now.program ≡ self.now.job.program }
+        ensures same { IsSeatIn self.now seat.new × (seat.new.actor ≡ seat.old.actor) }
+        ensures entry { IfOk result (λ c. seat.new.entries ≡ seat.old.entries ++ entry event c.told ∷ []) }
+        ensures step { IfOk result (λ c. (w : WorldOf) × (o : Outturn) × StepOf self.now.job event w o × (c.told ≡ told_of o.answer)) }
+        ensures outcome { IfOk result (λ c. (o : Outcome) → outcome_told c.told ≡ Some o → o ≡ meaning_of self.now.job) }
+        ensures err { OnErr result (seat.new ≡ seat.old) }
+    {
+        self.enter(rt, seat, event, Some(turn))
+    }
+
+    // An event is carried out under the lock, with the turn that is at hand, if one is.
+    fn enter<R: Wait>(
+        &self,
+        rt: &R,
+        seat: &mut ActorSeat<'a>,
+        event: Event,
+        turn: Option<&Done>,
+    ) -> Result<Committed, NoMemory>
+        requires seat { IsSeatIn self.now seat.old }
+        requires owns { number_of event ≡ seat.old.actor }
+        requires turn { IsOfJob self.now.job (option_copied turn) }
+        ensures same { IsSeatIn self.now seat.new × (seat.new.actor ≡ seat.old.actor) }
+        ensures entry { IfOk result (λ c. seat.new.entries ≡ seat.old.entries ++ entry event c.told ∷ []) }
+        ensures step { IfOk result (λ c. (w : WorldOf) × (o : Outturn) × StepOf self.now.job event w o × (c.told ≡ told_of o.answer)) }
+        ensures outcome { IfOk result (λ c. (o : Outcome) → outcome_told c.told ≡ Some o → o ≡ meaning_of self.now.job) }
+        ensures err { OnErr result (seat.new ≡ seat.old) }
+    {
+        let mut kept = self.lock.take(rt, &mut seat.seat);
+        let answer = kept.enter(seat, event, turn);
+        self.sent.store(kept.world().packets() as u64, SeqCst);
+        self.lock.put(&mut seat.seat, kept);
+        answer
+    }
+
+    /// A ready frame of the node of a place, the one after so many others, from the deepest level on and in a level the newest first;
+    /// none where fewer are ready, or for want of memory. It is a hint: the next event may find the world changed. Its thread takes
+    /// its numbers, so that its turn can be evaluated outside the lock.
+    pub fn ready<R: Wait>(
+        &self,
+        rt: &R,
+        alloc: Global,
+        seat: &mut ActorSeat<'a>,
+        place: NodePlace,
+        index: usize,
+    ) -> Option<Work>
+        requires seat { IsSeatIn self.now seat.old }
+        ensures same { seat.new ≡ seat.old }
+        ensures fits { IfSome result (λ w. Takes self.now.job.program w.thread (length w.numbers)) }
+    {
+        let kept = self.lock.take(rt, &mut seat.seat);
+        let work = work_in(alloc, self.job, &kept, place, index);
+        self.lock.put(&mut seat.seat, kept);
+        work
+    }
+
+    /// To whom a packet of all that were sent is addressed, by its number from 0; none where fewer were sent. A hint.
+    pub fn packet<R: Wait>(&self, rt: &R, seat: &mut ActorSeat<'a>, index: u64) -> Option<u64>
+        requires seat { IsSeatIn self.now seat.old }
+        ensures same { seat.new ≡ seat.old }
+    {
+        let kept = self.lock.take(rt, &mut seat.seat);
+        let to = addressee_of(&kept, index);
+        self.lock.put(&mut seat.seat, kept);
+        to
+    }
+
+    /// How many packets were sent, as far as is known without the lock. A hint, which may lag behind.
+    pub fn sent(&self) -> u64 {
+        self.sent.load(SeqCst)
+    }
+
+    /// Ends the chronicle, once all seats are back. What was committed is a safe history of the job, which has of each actor just what
+    /// its seat has, in the same order, and nothing else. None only where a seat is missing. It takes no memory.
+    pub fn finish(self, mut seats: Vec<ActorSeat<'a>>) -> Option<Trace>
+        requires own { All (IsSeatIn self) seats.items }
+        ensures run { IfSome result (λ t. IsSafeHistory self.entry.job t) }
+        ensures told { IfSome result (TellsOf seats.entry.items) }
+        ensures missing { IfNone result (vec_len seats.entry < self.entry.actors) }
+    {
+        let Chronicle {
+            job: _,
+            lock,
+            sent: _,
+        } = self;
+        if seats.len() < lock.actors() {
+            return None;
+        }
+        let mut all = lock.gathering();
+        while let Some(seat) = seats.pop() {
+            let ActorSeat { seat } = seat;
+            all.add(&lock, seat);
+        }
+        Some(Trace {
+            entries: lock.close(all).into_entries(),
+        })
+    }
+}
+
+/// The seats of actors, of which the first one goes behind the others.
+fn by_place<'a>(
+    alloc: Global,
+    mut bare: Vec<LockSeat<Kept<'a>>>,
+) -> Result<Vec<ActorSeat<'a>>, AllocError>
+    requires { 0 < vec_len bare }
+    ensures { IfOk result (λ seats. seats.items ≡ map seat_of (first_last bare.entry.items)) }
+{
+    let mut seats = Vec::with_capacity(alloc, bare.len())?;
+    let first = bare.remove(0);
+    for seat in bare {
+        seats.push(ActorSeat { seat })?;
+    }
+    seats.push(ActorSeat { seat: first })?;
+    Ok(seats)
+}
+
+/// A ready frame of the node of a place, whose thread takes its numbers.
+fn work_in(alloc: Global, job: &Job, kept: &Kept, place: NodePlace, index: usize) -> Option<Work>
+    ensures { IfSome result (λ w. Takes job.now.program w.thread (length w.numbers)) }
+{
+    let work = kept.world().ready(alloc, place, index).ok().flatten()?;
+    if takes_its_numbers(job, &work) {
+        Some(work)
+    } else {
+        None
+    }
+}
+
+/// Whether the thread of a frame is there and takes its numbers, as it does of each frame that a node has.
+fn takes_its_numbers(job: &Job, work: &Work) -> bool
+    ensures { result ≡ true → Takes job.now.program work.now.thread (length work.now.numbers) }
+{
+    let checked = job.checked();
+    if usize::from(work.thread) >= checked.threads() {
+        return false;
+    }
+    checked.program().thread(work.thread).numbers.len() == work.numbers.len()
+}
+
+/// To whom a packet is addressed.
+fn addressee_of(kept: &Kept, index: u64) -> Option<u64> {
+    let packet = kept.world().packet(index)?;
+    Some(addressee(packet.as_bytes()))
+}
+
+/// The word behind the first twelve bytes.
+fn addressee(bytes: &[u8]) -> u64 {
+    let mut word = 0;
+    for byte in bytes.iter().skip(12).take(8) {
+        word = (word << 8) | u64::from(*byte);
+    }
+    word
+}

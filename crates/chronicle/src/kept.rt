@@ -1,0 +1,172 @@
+ghost use Rattle.std.specs.Prelude.{◌≡◌, ◌++◌, ◌⊎◌, [], ◌∷◌, true, false, IfOk, IsErr, OnErr, Some};
+ghost use Rattle.std.specs.Prelude.{option_copied};
+ghost use Rattle.disk.specs.Device.{Device};
+ghost use Rattle.ids.specs.declared.outcome.Outcome.{Outcome as OutcomeOf};
+ghost use Rattle.serial_meaning.specs.Job.{meaning_of};
+ghost use Rattle.turn_lock.specs.Histories.{own};
+ghost use Rattle.world_steps.specs.Answers.{Outturn};
+ghost use Rattle.world_steps.specs.Calls.{IsOfJob, IsStarved, told_of};
+ghost use Rattle.world_steps.specs.Runs.{CanBegin};
+ghost use Rattle.world_steps.specs.Steps.{Step as StepOf};
+ghost use Rattle.world_steps.specs.World.{first_over};
+ghost use Rattle.chronicle.specs.History.{IsSafeHistory, actor_of, entry, number_of, outcome_told};
+
+use crate::seat::ActorSeat;
+use body_eval::Done;
+use event_script::Event;
+use ids::Outcome;
+use serial_meaning::Job;
+use std::alloc::Global;
+use std::marker::Model;
+use std::snapshot::Snapshot;
+use turn_lock::KeepsHistory;
+use world_steps::{NoMemory, Told, World};
+
+/// An event of the history, and what was told of it.
+#[derive(Drop)]
+pub struct Entry {
+    pub event: Event,
+    pub told: Told,
+}
+
+/// What is told of an event that was committed.
+#[derive(Clone, Copy)]
+pub struct Committed {
+    pub told: Told,
+}
+
+impl Committed {
+    /// The outcome that the clearinghouse has recorded after the event, if it is one of the clearinghouse and it has; else none.
+    pub fn outcome(&self) -> Option<Outcome>
+        ensures { result ≡ outcome_told self.now.told }
+    {
+        outcome_of(self.told)
+    }
+}
+
+/// The outcome that is told.
+pub(crate) fn outcome_of(told: Told) -> Option<Outcome>
+    ensures { result ≡ outcome_told told }
+{
+    match told {
+        Told::House(_, _, outcome) => outcome,
+        Told::Unfit | Told::Ignored | Told::Refused(_) | Told::Did(_, _) => None,
+    }
+}
+
+/// A history, and the world that it reaches. Contracts see both, with the world's job, and whether an event found no memory.
+#[derive(Drop)]
+pub struct Kept<'a> {
+    alloc: Global,
+    entries: Vec<Entry>,
+    world: World<'a>,
+    starved: bool,
+}
+
+impl<'a> Model for Kept<'a> {
+    ghost use Rattle.std.specs.Coded.{codes as known};
+    ghost use Rattle.task_tree.specs.contracts.tree.Expr as expr;
+    ghost use Rattle.task_tree.specs.contracts.tree.Block as block;
+    ghost use Rattle.task_tree.specs.contracts.tree.End as end;
+    ghost use Rattle.chronicle.specs.Kept.{KeptOf, Reaches};
+
+    ghost Value = { KeptOf };
+
+    ghost coded = { Prim.hlevel (known, expr.the_row.coded, block.the_row.coded, end.the_row.coded) };
+
+    ghost view = { λ k. record { on = k.world; entries = k.entries.items; starved = k.starved } };
+
+    ghost invariant = { λ k. Reaches k.world.job k.entries.items k.world.world k.starved };
+}
+
+impl<'a> KeepsHistory for Kept<'a> {
+    ghost use Rattle.chronicle.specs.History.{actor_of};
+    ghost use Rattle.chronicle.specs.Seats.{snapshot};
+
+    type Entry = Entry;
+
+    type Fixed = Snapshot<Job>;
+
+    ghost history = { λ k. k.entries };
+
+    ghost actor_of = { actor_of };
+
+    ghost fixed = { λ k. snapshot k.on.job };
+}
+
+impl<'a> Kept<'a> {
+    /// The first world of a job, over a disk that was formatted for it, with no history. Refused for want of memory alone (E9).
+    pub fn new(alloc: Global, job: &'a Job) -> Result<Kept<'a>, NoMemory>
+        ensures kept { IfOk result (λ k. (k.on.job ≡ job.now) × (k.entries ≡ []) × (k.starved ≡ false)) }
+        ensures world { IfOk result (λ k. (d : Device) × CanBegin job.now d × (k.on.world ≡ first_over d)) }
+    {
+        let _checked = job.checked();
+        Ok(Kept {
+            alloc,
+            entries: Vec::new(alloc),
+            world: World::new(alloc, job)?,
+            starved: false,
+        })
+    }
+
+    /// An event of the seat's actor is carried out, an Exec by the turn at hand, if it is the ready frame's own. It goes to the end of
+    /// the history, which had of the actor just the seat's entries; an outcome that is told is the job's meaning. E9 where there is no
+    /// memory, also from then on: the history is as it was, and so is the world, but that a clearinghouse that was to answer is
+    /// stopped.
+    pub fn enter(
+        &mut self,
+        seat: &mut ActorSeat<'a>,
+        event: Event,
+        turn: Option<&Done>,
+    ) -> Result<Committed, NoMemory>
+        requires seat { seat.old.taken ≡ Some self.old.entries }
+        requires owns { number_of event ≡ seat.old.actor }
+        requires turn { IsOfJob self.old.on.job (option_copied turn) }
+        ensures seat { seat.new ≡ seat.old }
+        ensures own { own actor_of seat.old.actor self.old.entries ≡ seat.old.entries }
+        ensures job { self.new.on.job ≡ self.old.on.job }
+        ensures step { IfOk result (λ c. (o : Outturn) × StepOf self.old.on.job event self.old.on.world o × (self.new.on.world ≡ o.world) × (c.told ≡ told_of o.answer)) }
+        ensures history { IfOk result (λ c. self.new.entries ≡ self.old.entries ++ entry event c.told ∷ []) }
+        ensures outcome { IfOk result (λ c. (o : OutcomeOf) → outcome_told c.told ≡ Some o → o ≡ meaning_of self.old.on.job) }
+        ensures starved { OnErr result ((self.new.entries ≡ self.old.entries) × (self.new.starved ≡ true)) }
+        ensures left { OnErr result ((self.new.on.world ≡ self.old.on.world) ⊎ ((o : Outturn) × IsStarved event self.old.on o × (self.new.on.world ≡ o.world))) }
+        ensures after { self.old.starved ≡ true → IsErr result × (self.new ≡ self.old) }
+    {
+        let _ = seat.actor();
+        if self.starved {
+            return Err(NoMemory);
+        }
+        let Kept {
+            alloc,
+            entries,
+            world,
+            starved,
+        } = self;
+        if entries.reserve(1).is_err() {
+            *starved = true;
+            return Err(NoMemory);
+        }
+        let Ok(told) = world.step(*alloc, &event, turn) else {
+            *starved = true;
+            return Err(NoMemory);
+        };
+        entries.push_reserved(Entry { event, told });
+        Ok(Committed { told })
+    }
+
+    /// The world.
+    pub fn world(&self) -> &World<'a>
+        ensures { result.now ≡ self.now.on }
+    {
+        &self.world
+    }
+
+    /// Its history, which is a safe one of the job.
+    pub fn into_entries(self) -> Vec<Entry>
+        ensures same { result.items ≡ self.entry.entries }
+        ensures run { IsSafeHistory self.entry.on.job result.items }
+    {
+        let Kept { entries, .. } = self;
+        entries
+    }
+}

@@ -1,0 +1,39 @@
+//! A world under a lock, with the history that led to it: what several threads do to the world is one run of it.
+//!
+//! **Actors and seats.** Each event is of one actor: the clearinghouse is actor 0, and the node of place p is actor p + 1. Each actor
+//! has one seat, which goes to the thread that acts for it, and without which its events can't be committed. Once all seats are back,
+//! `finish` gives the trace of all that was committed.
+//!
+//! **What is kept.** Under the lock of `turn_lock` lies a history, a list of events with what was told of each, and the world. A commit
+//! takes both out, carries out its event as a step of that world, puts the event with its answer at the end of the history, and puts
+//! both back. So events come one after another, and the thread bodies of the program can be evaluated outside the lock: a turn that
+//! was evaluated before is used where it is the ready frame's own, and put aside else.
+//!
+//! **Proved**, whatever threads do and in whatever order. A history under the lock is that of a run, over a disk on which a run of the
+//! job can begin, and the world beside it is the one to which that run leads. Once an event found no memory (E9), each later one does,
+//! the history stays, and the world differs at most in that a clearinghouse that was to answer is stopped. `Kept::enter` adds exactly
+//! its event, with the answer of a step from the world that was kept; by `commit` and `commit_turn` this entry becomes the seat's next
+//! one, or on E9 nothing of the seat changes. An outcome that is told is the job's meaning. The trace of `finish` has of each actor just
+//! the entries of its seat, in their order, and no others; it is the history of a run, of which all is promised that `safe_runs`
+//! promises: no slot is filled twice, each value is the serial program's, no grant has two live holders, an outcome stays. The script
+//! of a trace is read again as just its events, so that whoever has it can replay the run. What `ready` hands out fits the program, so
+//! that its turn can be evaluated with no further test.
+//!
+//! **For tests alone**, since no clause says it: that `new` and a commit succeed while there is memory, and that `ready` and `packet`
+//! find what is there.
+//!
+//! **Not promised**: that a commit ever gets its turn, and in which order actors do, beyond each actor's own; of `ready`, `packet` and
+//! `sent`, which are hints, that they tell what the world has, by the time that somebody acts on it. That a commit's step is one from
+//! the world that it found under the lock is said by `Kept::enter`, and of the trace as a whole; the clause of `commit` itself can't
+//! name what a lock held.
+#![tactic(auto)]
+
+mod chronicle;
+mod kept;
+mod seat;
+mod trace;
+
+pub use chronicle::Chronicle;
+pub use kept::{Committed, Entry, Kept};
+pub use seat::ActorSeat;
+pub use trace::Trace;
