@@ -44,8 +44,9 @@ def answers(program, lines):
     """How often a transcript is answered by what: the kind of a packet, or the first word."""
     with tempfile.TemporaryDirectory() as folder, open(file_of(folder, "text", lines), "rb") as text:
         printed = subprocess.run([program], stdin=text, stdout=subprocess.PIPE, check=True, text=True).stdout
-    words = (line.split(" ") for line in printed.split("\n") if line.startswith("> "))
-    return collections.Counter(it[2] if it[1].startswith("#") else it[1] for it in words)
+    words = (line.split(" ")[1:] for line in printed.split("\n") if line.startswith("> "))
+    # (a packet that was made by hand is its number alone)
+    return collections.Counter(it[1] if it[0].startswith("#") and len(it) > 1 else it[0] for it in words)
 
 
 def more_answers(program, texts):
