@@ -26,8 +26,8 @@ use std::sync::atomic::Ordering::SeqCst;
 use turn_lock::{LockSeat, TurnLock};
 use world_steps::NoMemory;
 
-/// A world under a lock, with the history that led to it. Threads share it by reference, each with the seats of its actors. Contracts
-/// see which chronicle it is, how many actors have a seat, and the job.
+/// A world under a lock, with the history that led to it. It is made for threads that share it by reference, each with the seats of its
+/// actors; that they may isn't proved yet. Contracts see which chronicle it is, how many actors have a seat, and the job.
 #[derive(Drop)]
 pub struct Chronicle<'a> {
     job: &'a Job,

@@ -19,8 +19,8 @@
 //! of a trace is read again as just its events, so that whoever has it can replay the run. What `ready` hands out fits the program, so
 //! that its turn can be evaluated with no further test.
 //!
-//! **For tests alone**, since no clause says it: that `new` and a commit succeed while there is memory, and that `ready` and `packet`
-//! find what is there.
+//! **Not shown**: that `new` and a commit succeed while there is memory, and that `ready` and `packet` find what is there, since no clause
+//! says it and no test tries it yet; and that a chronicle may be shared by threads and a seat go to another one (`Sync`, `Send`).
 //!
 //! **Not promised**: that a commit ever gets its turn, and in which order actors do, beyond each actor's own; of `ready`, `packet` and
 //! `sent`, which are hints, that they tell what the world has, by the time that somebody acts on it. That a commit's step is one from

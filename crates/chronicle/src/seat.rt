@@ -7,9 +7,8 @@ use event_script::Event;
 use std::marker::Model;
 use turn_lock::LockSeat;
 
-/// The right of one actor to commit its events. It has no clone, and can go to another thread. Contracts see the chronicle that it is
-/// of, the number of its actor, and the entries of this actor's events; while the kept value is out with the seat, `taken` is its
-/// history.
+/// The right of one actor to commit its events. It has no clone. Contracts see the chronicle that it is of, the number of its actor, and
+/// the entries of this actor's events; while the kept value is out with the seat, `taken` is its history.
 #[derive(Drop)]
 pub struct ActorSeat<'a> {
     pub(crate) seat: LockSeat<Kept<'a>>,
