@@ -17,8 +17,8 @@ use std::alloc::Global;
 /// Carries out the frame `number` by a turn that was evaluated. Where the turn sends a value, this fills the slot that awaits
 /// it, or is the outcome of the whole. Where it joins, its successor stands in its place with the kids of its holes, numbered
 /// from the content's next number on; at a place of 1,024 steps the whole is too deep. Refused as `Stale` (E40) where no
-/// frame has that number or the turn is none of it, as `Spent` (E62) where the numbers of the join pass 2^32 - 1, and as
-/// `Memory` (E9) where there is no memory.
+/// frame has that number or the turn is none of it, as `Spent` (E62) where the number that is next after the join
+/// would pass 2^32 - 1, and as `Memory` (E9) where there is no memory.
 pub fn exec(
     alloc: Global,
     content: Content,

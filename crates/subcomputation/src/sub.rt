@@ -161,7 +161,7 @@ impl Sub {
 
     /// Carries out the frame `number` by a turn that was evaluated, beside this subcomputation: it stays as it is, and the
     /// one after the turn is answered. E40 exactly where the frame isn't ready with that thread and those numbers, E62
-    /// where the numbers of a join pass 2^32 - 1, E9 where there is no memory.
+    /// where the number that is next after a join would pass 2^32 - 1, E9 where there is no memory.
     pub fn exec(&self, alloc: Global, number: FrameNo, done: &Done) -> Result<Changed, SubError>
         ensures answer { IsCarriedOut self.now (exec done.now number self.now.content) result }
         ensures starved { IsErrOf result Memory → is_stale_of done.now (frame_in number self.now.content.frames) ≡ false }
