@@ -4,3 +4,4 @@ pub mod Outcomes
 pub mod Seats
 pub mod Commits
 pub mod Texts
+pub mod Crossing

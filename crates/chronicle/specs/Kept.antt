@@ -18,9 +18,10 @@ pub record KeptOf : Type 0 where
 -- what an event that found no memory makes of a world
 pub record StarvedBy (job : JobOf) (w v : WorldOf) : Type 0 where
   pub event : Event
+  pub was_placed : Bool
   pub is_placed : Bool
   pub after : Outturn
-  pub starved : IsStarved event (record { job = job; world = w; is_placed = is_placed }) after
+  pub starved : IsStarved event (record { job = job; world = w; is_placed = was_placed }) is_placed after
   pub left : v ≡ after.world
 
 -- a history of a job reaches a world; where an event found no memory, the world differs from the reached one at most in what that

@@ -26,8 +26,32 @@ use std::sync::atomic::Ordering::SeqCst;
 use turn_lock::{LockSeat, TurnLock};
 use world_steps::NoMemory;
 
-/// A world under a lock, with the history that led to it. It is made for threads that share it by reference, each with the seats of its
-/// actors; that they may isn't proved yet. Contracts see which chronicle it is, how many actors have a seat, and the job.
+/// To whom a packet is addressed: the clearinghouse, in whichever epoch, or the worker of a start word.
+#[derive(Clone, Copy, Debug, PartialEq, Eq)]
+pub enum Receiver {
+    Clearinghouse,
+    Worker(u64),
+}
+
+impl Receiver {
+    /// Whether an address is its.
+    fn takes(self, address: u64) -> bool {
+        match self {
+            Receiver::Clearinghouse => address >= 1 << 63,
+            Receiver::Worker(word) => address == word,
+        }
+    }
+}
+
+/// A packet that was sent: its number from 0 among all that were, and its bytes.
+#[derive(Drop)]
+pub struct Arrived {
+    pub index: u64,
+    pub bytes: Vec<u8>,
+}
+
+/// A world under a lock, with the history that led to it. Threads share it by reference, each with the seats of its actors. Contracts see
+/// which chronicle it is, how many actors have a seat, and the job.
 #[derive(Drop)]
 pub struct Chronicle<'a> {
     job: &'a Job,
@@ -160,15 +184,30 @@ impl<'a> Chronicle<'a> {
         work
     }
 
-    /// To whom a packet of all that were sent is addressed, by its number from 0; none where fewer were sent. A hint.
-    pub fn packet<R: Wait>(&self, rt: &R, seat: &mut ActorSeat<'a>, index: u64) -> Option<u64>
+    /// The first packet from the one of a number on that is addressed to a receiver, with its bytes. Else how many packets were looked at in
+    /// all: those that were sent, or those before one whose bytes find no memory. A hint.
+    pub fn packet_for<R: Wait>(
+        &self,
+        rt: &R,
+        alloc: Global,
+        seat: &mut ActorSeat<'a>,
+        from: u64,
+        receiver: Receiver,
+    ) -> Result<Arrived, u64>
         requires seat { IsSeatIn self.now seat.old }
         ensures same { seat.new ≡ seat.old }
     {
         let kept = self.lock.take(rt, &mut seat.seat);
-        let to = addressee_of(&kept, index);
+        let found = first_for(alloc, &kept, from, receiver);
         self.lock.put(&mut seat.seat, kept);
-        to
+        found
+    }
+
+    /// The job.
+    pub fn job(&self) -> &'a Job
+        ensures { result.now ≡ self.now.job }
+    {
+        self.job
     }
 
     /// How many packets were sent, as far as is known without the lock. A hint, which may lag behind.
@@ -243,10 +282,23 @@ fn takes_its_numbers(job: &Job, work: &Work) -> bool
     checked.program().thread(work.thread).numbers.len() == work.numbers.len()
 }
 
-/// To whom a packet is addressed.
-fn addressee_of(kept: &Kept, index: u64) -> Option<u64> {
-    let packet = kept.world().packet(index)?;
-    Some(addressee(packet.as_bytes()))
+/// The first packet from the one of a number on that is addressed to a receiver, or how many were looked at.
+fn first_for(alloc: Global, kept: &Kept, from: u64, receiver: Receiver) -> Result<Arrived, u64> {
+    let world = kept.world();
+    let sent = world.packets() as u64;
+    for index in from..sent {
+        let Some(packet) = world.packet(index) else {
+            return Err(index);
+        };
+        let bytes = packet.as_bytes();
+        if receiver.takes(addressee(bytes)) {
+            return match Vec::from_slice(alloc, bytes) {
+                Ok(bytes) => Ok(Arrived { index, bytes }),
+                Err(_) => Err(index),
+            };
+        }
+    }
+    Err(sent)
 }
 
 /// The word behind the first twelve bytes.

@@ -129,7 +129,7 @@ impl<'a> Kept<'a> {
         ensures history { IfOk result (λ c. self.new.entries ≡ self.old.entries ++ entry event c.told ∷ []) }
         ensures outcome { IfOk result (λ c. (o : OutcomeOf) → outcome_told c.told ≡ Some o → o ≡ meaning_of self.old.on.job) }
         ensures starved { OnErr result ((self.new.entries ≡ self.old.entries) × (self.new.starved ≡ true)) }
-        ensures left { OnErr result ((self.new.on.world ≡ self.old.on.world) ⊎ ((o : Outturn) × IsStarved event self.old.on o × (self.new.on.world ≡ o.world))) }
+        ensures left { OnErr result ((self.new.on.world ≡ self.old.on.world) ⊎ ((o : Outturn) × IsStarved event self.old.on self.new.on.is_placed o × (self.new.on.world ≡ o.world))) }
         ensures after { self.old.starved ≡ true → IsErr result × (self.new ≡ self.old) }
     {
         let _ = seat.actor();

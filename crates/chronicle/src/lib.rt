@@ -19,11 +19,12 @@
 //! of a trace is read again as just its events, so that whoever has it can replay the run. What `ready` hands out fits the program, so
 //! that its turn can be evaluated with no further test.
 //!
-//! **Not shown**: that `new` and a commit succeed while there is memory, and that `ready` and `packet` find what is there, since no clause
-//! says it and no test tries it yet; and that a chronicle may be shared by threads and a seat go to another one (`Sync`, `Send`).
+//! A chronicle may be shared by threads, and a seat may go to another one (`proofs/Crossing`).
 //!
-//! **Not promised**: that a commit ever gets its turn, and in which order actors do, beyond each actor's own; of `ready`, `packet` and
-//! `sent`, which are hints, that they tell what the world has, by the time that somebody acts on it. That a commit's step is one from
+//! **Shown by runs alone**: that `new` and a commit succeed while there is memory, and that `ready` and `packet_for` find what is there.
+//!
+//! **Not promised**: that a commit ever gets its turn, and in which order actors do, beyond each actor's own; of `ready`, `packet_for`
+//! and `sent`, which are hints, that they tell what the world has, by the time that somebody acts on it. That a commit's step is one from
 //! the world that it found under the lock is said by `Kept::enter`, and of the trace as a whole; the clause of `commit` itself can't
 //! name what a lock held.
 #![tactic(auto)]
@@ -33,7 +34,7 @@ mod kept;
 mod seat;
 mod trace;
 
-pub use chronicle::Chronicle;
+pub use chronicle::{Arrived, Chronicle, Receiver};
 pub use kept::{Committed, Entry, Kept};
 pub use seat::ActorSeat;
 pub use trace::Trace;

@@ -27,6 +27,7 @@ status_of command.Usage = 2
 status_of command.File = 4
 status_of (command.Run fault) = status_of_run fault
 status_of command.TurnsSpent = 3
+status_of (command.Nodes error) = 3
 status_of (command.Replay fault) = replays.status_of fault
 
 -- a file that isn't read

@@ -2,16 +2,21 @@ ghost use Rattle.std.specs.Prelude.{◌≡◌};
 ghost use Rattle.cilknow.specs.Status.{of_file, of_job, of_words, status_of};
 
 use crate::fault::SoloFault;
+use crate::logged::log_text;
 use crate::solo::solo;
-use crate::words::{JobWords, Request, read_words};
+use crate::words::{JobWords, Request, RunWords, read_words};
 use jobs::{FileFault, JobFault, job_of, program_of, text_bytes};
+use node_runner::{Open, RunError, run_job};
 use replaying::{ReplayFault, ReplayWords, WordsFault, help_of, replay_files, write_replayed};
 use serial_meaning::{Outcome, SerialError, serial};
 use std::alloc::Global;
 use std::convert::AsStr;
-use std::fmt;
 use std::io::{self, Write};
 use std::rt::Files;
+use std::sync::Wait;
+use std::thread::Threads;
+use std::time::Clock;
+use std::{fmt, fs};
 use thiserror::Error;
 
 /// Why a command ends without its answer.
@@ -29,6 +34,9 @@ pub enum CommandFault {
     /// E20: more turns than `--turns` would be needed.
     #[error("{spent}", spent = SerialError::TurnsSpent)]
     TurnsSpent,
+    /// A run on nodes ends without an outcome.
+    #[error(transparent)]
+    Nodes(RunError),
     /// A script isn't replayed.
     #[error(transparent)]
     Replay(ReplayFault),
@@ -42,7 +50,8 @@ impl CommandFault {
     {
         match self {
             CommandFault::Run(SoloFault::Memory | SoloFault::TurnsSpent | SoloFault::NumbersSpent)
-            | CommandFault::TurnsSpent => 3,
+            | CommandFault::TurnsSpent
+            | CommandFault::Nodes(_) => 3,
             CommandFault::Run(SoloFault::Job(fault)) => fault.status(),
             CommandFault::Usage => 2,
             CommandFault::File => 4,
@@ -120,7 +129,42 @@ fn answer_replay<R: Files + AllocGlobal, O: Write>(
     write_replayed(out, &replayed).map_err(|_| CommandFault::File)
 }
 
-fn answer<R: Files + AllocGlobal, O: Write>(
+/// What a run comes to: by one evaluator where nothing asks for threads, else by nodes on threads.
+fn answer_run<R: Files + AllocGlobal + Threads + Wait + Clock + Sync, O: Write>(
+    rt: &R,
+    words: RunWords<'_>,
+    out: &mut O,
+) -> Result<(), CommandFault> {
+    let Some(config) = words.config() else {
+        return Err(CommandFault::Usage);
+    };
+    let (alloc, is_alone) = (rt.alloc(), words.is_alone());
+    let JobWords {
+        file,
+        turns,
+        job,
+        input,
+    } = words.job;
+    let text = text_bytes(rt, file)?;
+    if is_alone {
+        let outcome = solo(alloc, text.as_slice(), input, job, turns).map_err(CommandFault::Run)?;
+        return write_outcome(out, outcome).map_err(|_| CommandFault::File);
+    }
+    let job = job_of(alloc, text.as_slice(), input, job)?;
+    let ran = run_job(rt, alloc, &job, &config, &Open).map_err(CommandFault::Nodes)?;
+    if let Some(path) = words.trace {
+        let Ok(script) = ran.trace.script(alloc) else {
+            return Err(CommandFault::Nodes(RunError::Memory));
+        };
+        fs::write(rt, path, script).map_err(|_| CommandFault::File)?;
+    }
+    if let Some(path) = words.log {
+        fs::write(rt, path, log_text(alloc, &ran.trace)).map_err(|_| CommandFault::File)?;
+    }
+    write_outcome(out, ran.outcome).map_err(|_| CommandFault::File)
+}
+
+fn answer<R: Files + AllocGlobal + Threads + Wait + Clock + Sync, O: Write>(
     rt: &R,
     request: Request<'_>,
     out: &mut O,
@@ -136,13 +180,7 @@ fn answer<R: Files + AllocGlobal, O: Write>(
             let text = text_bytes(rt, words.file)?;
             write_outcome(out, serial_outcome(alloc, text.as_slice(), words)?)
         }
-        Request::Run(words) => {
-            let text = text_bytes(rt, words.file)?;
-            let outcome = solo(alloc, text.as_slice(), words.input, words.job, words.turns).map_err(
-                CommandFault::Run,
-            )?;
-            write_outcome(out, outcome)
-        }
+        Request::Run(words) => return answer_run(rt, words, out),
         Request::Replay(words) => return answer_replay(rt, words, out),
     };
     written.map_err(|_| CommandFault::File)
@@ -160,12 +198,12 @@ fn shown<O: Write>(error: clap::Error, out: &mut O) -> Result<(), CommandFault> 
 
 /// Carries out a command line, the program's own name its first word: answers go to `out`, and a fault goes to `err` as one
 /// line. The status to end with is 0 where all was done, and else that of the fault.
-pub fn command<R: Files + AllocGlobal, S: AsStr, O: Write, E: Write>(
-    rt: &R,
-    words: &[S],
-    out: &mut O,
-    err: &mut E,
-) -> u8 {
+pub fn command<
+    R: Files + AllocGlobal + Threads + Wait + Clock + Sync,
+    S: AsStr,
+    O: Write,
+    E: Write,
+>(rt: &R, words: &[S], out: &mut O, err: &mut E) -> u8 {
     let done = match read_words(rt.alloc(), words) {
         Ok(Some(request)) => answer(rt, request, out),
         Ok(None) => Err(CommandFault::Usage),

@@ -3,11 +3,13 @@
 
 mod command;
 mod fault;
+mod logged;
 mod solo;
 mod words;
 
 pub use command::{CommandFault, command, refused};
 pub use fault::SoloFault;
+pub use logged::log_text;
 use replaying::own_words;
 pub use solo::solo;
 use std::process::ExitCode;

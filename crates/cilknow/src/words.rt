@@ -1,4 +1,5 @@
-use clap::{ArgMatches, Command, Error};
+use clap::{Arg, ArgAction, ArgMatches, Command, Error};
+use node_runner::{Faults, RunConfig};
 use replaying::{
     ReplayWords, file_word, input_of, input_word, number_word, replay_words_of, with_replay_words,
 };
@@ -13,7 +14,7 @@ pub enum Request<'a> {
     /// The serial meaning of a job.
     Serial(JobWords<'a>),
     /// A run of a job.
-    Run(JobWords<'a>),
+    Run(RunWords<'a>),
     /// A replay of a script on a job.
     Replay(ReplayWords<'a>),
 }
@@ -25,6 +26,35 @@ pub struct JobWords<'a> {
     pub turns: u64,
     pub job: u64,
     pub input: Vec<i64>,
+}
+
+/// A run: its job, how many nodes and how many body workers each, the faults, and the files to which its trace and its log are written,
+/// where they are named.
+#[derive(Drop)]
+pub struct RunWords<'a> {
+    pub job: JobWords<'a>,
+    pub nodes: u64,
+    pub bodies: u64,
+    pub faults: Faults,
+    pub trace: Option<&'a str>,
+    pub log: Option<&'a str>,
+}
+
+impl<'a> RunWords<'a> {
+    /// Whether nothing asks for threads: one node without faults, of which no trace and no log is written.
+    pub fn is_alone(&self) -> bool {
+        self.nodes == 1
+            && self.faults.lose == 0
+            && self.faults.repeat == 0
+            && self.faults.crashes == 0
+            && self.trace.is_none()
+            && self.log.is_none()
+    }
+
+    /// How the nodes run; none where the words disagree.
+    pub fn config(&self) -> Option<RunConfig> {
+        RunConfig::new(self.nodes, self.bodies, self.faults, self.job.turns)
+    }
 }
 
 const ABOUT: &str = "Runs functional Cilk programs, and tells what they mean.";
@@ -54,6 +84,82 @@ fn job_words<'a>(alloc: Global, name: &'a str, about: &'a str) -> Result<Command
         .arg(input_word(alloc))
 }
 
+/// A subcommand that takes a run.
+fn run_words<'a>(alloc: Global) -> Result<Command<'a>, AllocError> {
+    job_words(alloc, "run", RUN)?
+        .arg(number_word(
+            alloc,
+            "nodes",
+            "1",
+            "So many nodes, 1 to 64, each on a thread",
+        ))?
+        .arg(number_word(alloc, "bodies", "1", "So many body workers a node: 1"))?
+        .arg(number_word(alloc, "faults", "1", "The word from which faults are drawn"))?
+        .arg(number_word(
+            alloc,
+            "lose",
+            "0",
+            "One packet in so many is lost, 0 for none",
+        ))?
+        .arg(number_word(
+            alloc,
+            "repeat",
+            "0",
+            "One packet in so many comes twice, 0 for none",
+        ))?
+        .arg(number_word(alloc, "crash", "0", "So many crashes of nodes"))?
+        .arg(number_word(
+            alloc,
+            "depart",
+            "0",
+            "So many nodes leave, fewer than there are",
+        ))?
+        .arg(
+            Arg::new(alloc, "trace")
+                .long("trace")
+                .action(ArgAction::Set)
+                .help("The file to which the script of the run is written"),
+        )?
+        .arg(
+            Arg::new(alloc, "log")
+                .long("log")
+                .action(ArgAction::Set)
+                .help("The file to which starts, crashes and departures of nodes are written"),
+        )
+}
+
+/// The words of a run; none where they don't have what `run_words` asks for.
+fn run_of<'a>(alloc: Global, matches: &ArgMatches<'a>) -> Result<Option<RunWords<'a>>, AllocError> {
+    let Some(job) = job_of(alloc, matches)? else {
+        return Ok(None);
+    };
+    let (Some(nodes), Some(bodies)) = (matches.get_one("nodes"), matches.get_one("bodies")) else {
+        return Ok(None);
+    };
+    let Some(faults) = faults_of(matches) else {
+        return Ok(None);
+    };
+    Ok(Some(RunWords {
+        job,
+        nodes,
+        bodies,
+        faults,
+        trace: matches.get_str("trace"),
+        log: matches.get_str("log"),
+    }))
+}
+
+/// The faults of a run.
+fn faults_of(matches: &ArgMatches<'_>) -> Option<Faults> {
+    Some(Faults {
+        word: matches.get_one("faults")?,
+        lose: matches.get_one("lose")?,
+        repeat: matches.get_one("repeat")?,
+        crashes: matches.get_one("crash")?,
+        departures: matches.get_one("depart")?,
+    })
+}
+
 fn all_words<'a>(alloc: Global) -> Result<Command<'a>, AllocError> {
     Command::new(alloc, "cilknow")
         .version("0.1.0")
@@ -66,7 +172,7 @@ fn all_words<'a>(alloc: Global) -> Result<Command<'a>, AllocError> {
                 .arg(file_word(alloc))?,
         )?
         .subcommand(job_words(alloc, "serial", SERIAL)?)?
-        .subcommand(job_words(alloc, "run", RUN)?)?
+        .subcommand(run_words(alloc)?)?
         .subcommand(with_replay_words(alloc, Command::new(alloc, "replay").about(REPLAY))?)
 }
 
@@ -100,7 +206,7 @@ pub fn read_words<'a, S: AsStr>(
     match matches.subcommand() {
         Some(("check", inner)) => Ok(inner.get_str("FILE").map(Request::Check)),
         Some(("serial", inner)) => Ok(job_of(alloc, inner)?.map(Request::Serial)),
-        Some(("run", inner)) => Ok(job_of(alloc, inner)?.map(Request::Run)),
+        Some(("run", inner)) => Ok(run_of(alloc, inner)?.map(Request::Run)),
         Some(("replay", inner)) => Ok(replay_words_of(alloc, inner)?.map(Request::Replay)),
         _ => Ok(None),
     }

@@ -132,8 +132,8 @@ impl Frames {
         if waits { None } else { self.remove(number) }
     }
 
-    /// Takes a frame away.
-    fn remove(&mut self, number: FrameNo) -> Option<Frame>
+    /// Takes the frame of a number away, ready or not, if there is one. Takes no memory.
+    pub fn remove(&mut self, number: FrameNo) -> Option<Frame>
         ensures same { result ≡ frame_in number self.old }
         ensures gone { self.new ≡ without_frame number self.old }
     {

@@ -17,5 +17,5 @@ pub use names::{Actor, Address, Count, Epoch, FrameNo, GrantId, Hop, Incarnation
 pub use outcome::{Outcome, Progress};
 pub use place::{Place, PlaceError};
 pub use returns::Return;
-pub use store::{Change, Exact, Named, Store, Values, item_of};
+pub use store::{Change, Exact, Named, Store, TryChange, Values, item_of};
 pub use work::{Frame, Record, Task};

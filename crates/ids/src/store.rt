@@ -39,6 +39,21 @@ pub trait Change<X: Named> {
     ghost keeps_name: { (change : Self) (item : X) → X.name_of (changed change item) ≡ X.name_of item };
 }
 
+/// A change of items that takes memory, which may be wanting; it keeps their names. Of which items it may be made.
+pub trait TryChange<X: Named> {
+    ghost fits: { Self → X → Type 0 };
+
+    ghost changed: { Self → X → X };
+
+    /// Changes an item; refused for want of memory alone, which changes nothing.
+    fn try_apply(self, item: &mut X) -> Result<(), AllocError>
+        requires { fits self item.old }
+        ensures ok { OnOk result (item.new ≡ changed self item.old) }
+        ensures err { OnErr result (item.new ≡ item.old) };
+
+    ghost keeps_name: { (change : Self) (item : X) → X.name_of (changed change item) ≡ X.name_of item };
+}
+
 /// Where the item of a name is kept.
 #[derive(Clone, Copy)]
 struct Entry {
@@ -185,6 +200,27 @@ impl<X: Named> Store<X> {
     }
 }
 
+impl<X: Named> Store<X> {
+    /// Changes the item of a name, which is there, where it stands; refused for want of memory alone, which changes nothing.
+    pub fn try_change<C: TryChange<X>>(
+        &mut self,
+        name: (u64, u64),
+        change: C,
+    ) -> Result<(), AllocError>
+        requires { IsSomeAnd (item_in X.name_of name self.old) (C.fits change) }
+        ensures ok { OnOk result (self.new ≡ changed_in X.name_of (C.changed change) name self.old) }
+        ensures err { OnErr result (self.new ≡ self.old) }
+    {
+        match find(self.entries.as_slice(), name) {
+            Ok((_, key)) => {
+                try_change_at(&mut self.items, key, change)?;
+                Ok(())
+            }
+            Err(_) => unreachable!(),
+        }
+    }
+}
+
 impl<X: Named + Drop> Store<X> {
     /// Puts an item under its name; refused for want of memory alone, which changes nothing.
     pub fn put(&mut self, item: X) -> Result<(), AllocError>
@@ -322,6 +358,22 @@ fn change_at<X: Named, C: Change<X>>(items: &mut Slab<X>, key: usize, change: &C
 {
     match items.get_mut(key) {
         Some(there) => change.apply(there),
+        None => unreachable!(),
+    }
+}
+
+/// Changes the item at a key, unless memory is wanting.
+fn try_change_at<X: Named, C: TryChange<X>>(
+    items: &mut Slab<X>,
+    key: usize,
+    change: C,
+) -> Result<(), AllocError>
+    requires { IsSomeAnd (slots.get items.old key) (C.fits change) }
+    ensures ok { OnOk result (IfSome (slots.get items.old key) (λ x. items.new ≡ slots.with_value items.old key (C.changed change x))) }
+    ensures err { OnErr result (items.new ≡ items.old) }
+{
+    match items.get_mut(key) {
+        Some(there) => change.try_apply(there),
         None => unreachable!(),
     }
 }

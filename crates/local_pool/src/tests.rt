@@ -1,7 +1,7 @@
-ghost use Rattle.std.specs.Prelude.{◌≡◌, All, IfOk, vec_len};
+ghost use Rattle.std.specs.Prelude.{◌≡◌, All, IfOk, IfSome, Some, vec_len};
 ghost use Rattle.local_pool.specs.Pools.{IsWorkerOf};
 
-use crate::{BodyWorker, LocalPool, Owner, TurnPass, TurnQueue};
+use crate::{BodyWorker, LocalPool, Owner, Stamped, TurnPass, TurnQueue};
 use std::alloc::{AllocError, Global};
 use std::sync::Wait;
 use std::sync::atomic::AtomicU64;
@@ -165,18 +165,38 @@ fn tickets_come_in_their_order(rt: HostRuntime) -> Result<(), Fail> {
     Ok(())
 }
 
-/// Puts the turns 1 to 1,000.
-fn put_all<R: Wait>(rt: &R, queue: &TurnQueue<u64>, mut pass: TurnPass<u64>) -> TurnPass<u64>
-    requires { pass.queue ≡ queue.now.queue }
+/// A turn of a job, with its number.
+#[derive(Debug, PartialEq, Drop)]
+struct Turn {
+    job: u64,
+    number: u64,
+}
+
+impl Stamped for Turn {
+    type Stamp = u64;
+
+    ghost stamp = { λ t. t.job };
+}
+
+/// A finished turn of the job 5.
+fn finished(number: u64) -> Turn
+    ensures { result ≡ record { job = 5; number = number } }
+{
+    Turn { job: 5, number }
+}
+
+/// Puts the turns 2 to 1,000.
+fn put_all<R: Wait>(rt: &R, queue: &TurnQueue<Turn>, mut pass: TurnPass<Turn>) -> TurnPass<Turn>
+    requires { (pass.queue ≡ queue.now.queue) × (pass.stamp ≡ Some 5) }
     ensures { result.queue ≡ queue.entry.now.queue }
 {
-    let mut turn = 1u64;
+    let mut number = 2u64;
     for _ in rt.forever() {
-        if turn > 1000 {
+        if number > 1000 {
             break;
         }
-        match queue.put(rt, &mut pass, turn) {
-            Ok(()) => turn += 1,
+        match queue.put(rt, &mut pass, finished(number)) {
+            Ok(()) => number += 1,
             Err(_) => thread::yield_now(),
         }
     }
@@ -186,9 +206,9 @@ fn put_all<R: Wait>(rt: &R, queue: &TurnQueue<u64>, mut pass: TurnPass<u64>) -> 
 /// Takes turns as long as they come in their order, up to 1,000, and answers how many came.
 fn take_all<R: Wait>(
     rt: &R,
-    queue: &TurnQueue<u64>,
-    mut pass: TurnPass<u64>,
-) -> (TurnPass<u64>, u64)
+    queue: &TurnQueue<Turn>,
+    mut pass: TurnPass<Turn>,
+) -> (TurnPass<Turn>, u64)
     requires { pass.queue ≡ queue.now.queue }
     ensures { result.0.queue ≡ queue.entry.now.queue }
 {
@@ -198,7 +218,7 @@ fn take_all<R: Wait>(
             break;
         }
         match queue.take(rt, &mut pass) {
-            Some(turn) if turn == taken + 1 => taken = turn,
+            Some(turn) if turn.number == taken + 1 => taken = turn.number,
             Some(_) => break,
             None => thread::yield_now(),
         }
@@ -208,17 +228,17 @@ fn take_all<R: Wait>(
 
 #[test]
 fn turns_come_back_in_their_order(rt: HostRuntime) -> Result<(), Fail> {
-    let (queue, keeper, mut passes) = TurnQueue::<u64>::new(rt.alloc(), 16, 2)?;
+    let (queue, keeper, mut passes) = TurnQueue::new(&rt, rt.alloc(), 16, 2, finished(1))?;
     let line = &queue;
     let giver = passes.pop().ok_or(AllocError)?;
     let taker = passes.pop().ok_or(AllocError)?;
     let (giver, (taker, taken)) = join(
         &rt,
-        || -> TurnPass<u64>
-            requires { giver.queue ≡ line.now.queue }
+        || -> TurnPass<Turn>
+            requires { (giver.queue ≡ line.now.queue) × (giver.stamp ≡ Some 5) }
             ensures { result.queue ≡ line.entry.now.queue }
         { put_all(&rt, line, giver) },
-        || -> (TurnPass<u64>, u64)
+        || -> (TurnPass<Turn>, u64)
             requires { taker.queue ≡ line.now.queue }
             ensures { result.0.queue ≡ line.entry.now.queue }
         { take_all(&rt, line, taker) },
@@ -231,40 +251,40 @@ fn turns_come_back_in_their_order(rt: HostRuntime) -> Result<(), Fail> {
     Ok(())
 }
 
-/// What a queue with room for two turns answers to three of them, and then which turn comes first.
+/// What a queue with room for two turns answers to two more than its first, and then which turn comes first.
 fn fill<R: Wait>(
     rt: &R,
-    queue: &TurnQueue<u64>,
-    pass: &mut TurnPass<u64>,
-) -> ([Result<(), u64>; 3], Option<u64>)
-    requires { pass.old.queue ≡ queue.now.queue }
-    ensures { pass.new.queue ≡ pass.old.queue }
+    queue: &TurnQueue<Turn>,
+    pass: &mut TurnPass<Turn>,
+) -> ([Result<(), Turn>; 2], Option<Turn>)
+    requires { (pass.old.queue ≡ queue.now.queue) × (pass.old.stamp ≡ Some 5) }
+    ensures queue { pass.new.queue ≡ pass.old.queue }
+    ensures job { IfSome result.1 (λ t. t.job ≡ 5) }
 {
-    let first = queue.put(rt, pass, 7);
-    let second = queue.put(rt, pass, 8);
-    let third = queue.put(rt, pass, 9);
-    ([first, second, third], queue.take(rt, pass))
+    let second = queue.put(rt, pass, finished(8));
+    let third = queue.put(rt, pass, finished(9));
+    ([second, third], queue.take(rt, pass))
 }
 
 #[test]
 fn a_full_queue_gives_a_turn_back(rt: HostRuntime) -> Result<(), Fail> {
-    let (queue, keeper, mut passes) = TurnQueue::<u64>::new(rt.alloc(), 2, 1)?;
+    let (queue, keeper, mut passes) = TurnQueue::new(&rt, rt.alloc(), 2, 1, finished(7))?;
     let mut pass = passes.pop().ok_or(AllocError)?;
     assert_eq!(rt;
         fill(&rt, &queue, &mut pass),
-        ([Ok(()), Ok(()), Err(9)], Some(7))
+        ([Ok(()), Err(finished(9))], Some(finished(7)))
     );
     passes.push(pass)?;
     let left = queue.close(&rt, keeper, passes).ok().ok_or(AllocError)?;
-    assert_eq!(rt; left.as_slice(), [8].as_slice());
+    assert_eq!(rt; left.as_slice(), [finished(8)].as_slice());
     Ok(())
 }
 
 #[test]
 fn as_many_passes_as_there_may_be(rt: HostRuntime) -> Result<(), Fail> {
-    let (queue, keeper, passes) = TurnQueue::<u64>::new(rt.alloc(), 16, 1024)?;
+    let (queue, keeper, passes) = TurnQueue::new(&rt, rt.alloc(), 16, 1024, finished(1))?;
     assert_eq!(rt; passes.len(), 1024);
     let left = queue.close(&rt, keeper, passes).ok().ok_or(AllocError)?;
-    assert_eq!(rt; left.len(), 0);
+    assert_eq!(rt; left.as_slice(), [finished(1)].as_slice());
     Ok(())
 }

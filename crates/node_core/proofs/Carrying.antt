@@ -8,8 +8,7 @@ use Rattle.sub_rules.specs.Carrying.{exec as carry}
 use Rattle.sub_rules.specs.declared.change.Change.{Change}
 use Rattle.sub_rules.specs.declared.change.SubError.{SubError}
 use Rattle.subcomputation.specs.Subs.{SubOf, sub_in}
-use Rattle.subcomputation.specs.Told.{carried_out, changed}
-use Rattle.subcomputation.specs.declared.sub.Changed.{Changed}
+use Rattle.subcomputation.specs.Told.{carried_out, changed, Changed}
 use Rattle.node_state.specs.Node.{NodeOf, by_state}
 use Rattle.node_state.specs.Parts.{IsMember}
 use Rattle.node_state.specs.declared.parts.State.{State}

@@ -14,3 +14,4 @@ mod Offering
 mod Chosen
 mod Evaluating
 mod Naming
+mod Changing

@@ -12,8 +12,7 @@ use Rattle.sub_rules.specs.Readiness.{TellsReady}
 use Rattle.sub_rules.specs.declared.change.Readied.{Readied}
 use Rattle.victim_records.specs.Records.{record_in}
 use Rattle.subcomputation.specs.Subs.{SubOf, host_in, sub_in}
-use Rattle.subcomputation.specs.Told.{HasNoOthersBut, changed, changed_by}
-use Rattle.subcomputation.specs.declared.sub.Changed.{Changed}
+use Rattle.subcomputation.specs.Told.{HasNoOthersBut, changed, changed_by, Changed}
 use Rattle.node_state.specs.Node.{NodeOf, by_state}
 use Rattle.node_state.specs.Parts.{IsFresh, IsMember, IsNext}
 use Rattle.node_state.specs.declared.parts.State.{State}

@@ -92,8 +92,8 @@ impl<'a> Node<'a> {
             return Err(NodeError::Stale);
         };
         let _ = done.turn();
-        let changed = sub.exec(alloc, frame, done)?;
-        self.change(alloc, Listed::new(alloc), changed)
+        let prepared = sub.prepare_exec(alloc, frame, done)?;
+        self.change(alloc, Listed::new(alloc), grant, prepared)
     }
 
     /// Sends again what isn't answered yet: a joining node its Join, a member its Beat, its pending Steal, and the Result of each

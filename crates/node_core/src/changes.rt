@@ -1,20 +1,21 @@
 //! Changes of a subcomputation: an outcome that comes, a turn, and the end of what isn't wanted any more.
 ghost use Rattle.std.specs.Prelude.{◌≡◌, ◌++◌, Ok, Some, [], ◌∷◌};
 ghost use Rattle.codec.specs.declared.body.Body.TheVariants as body;
-ghost use Rattle.node_state.specs.Parts.{IsMember, IsNext, HasNoNewRecord};
-ghost use Rattle.subcomputation.specs.Fitting.{Fits};
+ghost use Rattle.node_state.specs.Parts.{IsMember};
+ghost use Rattle.subcomputation.specs.Subs.{SubOf, sub_in};
+ghost use Rattle.subcomputation.specs.Told.{changed_of};
 ghost use Rattle.node_core.specs.Cases as cases;
 ghost use Rattle.node_core.specs.Choosing.{own_choice};
-ghost use Rattle.node_core.specs.Meeting.{Meets, MeetsBehind, changes_of};
+ghost use Rattle.node_core.specs.Meeting.{Meets, MeetsBehind, MayChangeIn, changes_of};
 
 use crate::error::NodeError;
 use crate::node::Node;
 use crate::parts::Step;
-use crate::sending::{fills_of, ignored, send_aborts, send_results, sends};
+use crate::sending::{fills_of, ignored, send_aborts, send_end, sends};
 use codec::{Abort, Datagram, Packet, ResultAck, TaskResult, alone};
-use ids::Listed;
+use ids::{GrantId, Listed};
 use std::alloc::Global;
-use subcomputation::Changed;
+use sub_rules::Prepared;
 
 impl<'a> Node<'a> {
     /// The outcome of a grant comes: it is acknowledged, and its record closed, if it is open.
@@ -38,36 +39,44 @@ impl<'a> Node<'a> {
         let Some(host) = self.parts.host(outcome.grant) else {
             return Ok(sends(alloc, sent));
         };
-        let Some(changed) = host.take_result(alloc, outcome.grant, outcome.outcome)? else {
+        let held = host.grant();
+        let Some(prepared) = host.prepare_result(alloc, outcome.grant, outcome.outcome)? else {
             return Ok(sends(alloc, sent));
         };
-        self.change(alloc, sent, changed)
+        self.change(alloc, sent, held, prepared)
     }
 
-    /// A subcomputation changes, behind packets that are sent before: the holder of each record that was dropped is told so, and
-    /// the host that waits for the outcome gets it if there is one.
+    /// The subcomputation of a grant changes as it was prepared, behind packets that are sent before: the holder of each record
+    /// that is dropped is told so, and the host that waits for the outcome gets it if there is one.
     pub(crate) fn change(
         &mut self,
         alloc: Global,
         before: Listed<Datagram>,
-        changed: Changed,
+        grant: GrantId,
+        prepared: Prepared,
     ) -> Result<Step, NodeError>
-        requires next { IsNext self.old.node changed.after changed.ready }
-        requires records { HasNoNewRecord self.old.node changed.after }
-        requires fits { Fits self.old.job.program changed.after.content }
-        ensures { MeetsBehind before (changes_of self.old.job changed self.old.node) result self.old self.new }
+        requires { MayChangeIn self.old grant prepared }
+        ensures { (s : SubOf) → sub_in grant self.old.node.subs ≡ Some s → MeetsBehind before (changes_of self.old.job (changed_of s prepared) self.old.node) result self.old self.new }
     {
+        let Prepared {
+            update,
+            fill,
+            ready,
+        } = prepared;
         let mut sent = before;
-        send_aborts(alloc, self.job, &mut sent, &changed.dropped)?;
-        send_results(
+        let Some(sub) = self.parts.sub(grant) else {
+            unreachable!();
+        };
+        send_end(
             alloc,
             self.job,
             &mut sent,
             self.parts.incarnation(),
-            &changed.after,
+            sub,
+            &update,
         )?;
-        let fills = fills_of(alloc, changed.after.grant(), changed.fill)?;
-        self.parts.change(changed.after, changed.ready.as_slice())?;
+        let fills = fills_of(alloc, grant, fill)?;
+        self.parts.update(grant, update, ready.as_slice())?;
         Ok(Step {
             sent,
             fills,

@@ -2,14 +2,17 @@
 ghost use Rattle.std.specs.Prelude.{◌≡◌, ◌++◌, OnOk, IfOk, IsTrue, true, false, [], ◌∷◌, map};
 ghost use Rattle.node_core.specs.Moves as moves;
 ghost use Rattle.node_core.specs.Steps.{fills_of};
+ghost use Rattle.ids.specs.declared.outcome.Progress.TheVariants.{Active, Finished};
+ghost use Rattle.sub_rules.specs.Updates.{dropped_by, left_by};
+ghost use Rattle.subcomputation.specs.Told.{updated_sub};
 
 use crate::parts::{Fill, Step};
 use codec::{Abort, Datagram, Packet, TaskResult, send};
-use ids::{GrantId, Incarnation, Listed, Progress};
+use ids::{GrantId, Incarnation, Listed, Outcome, Progress};
 use recovery::Stopped;
 use serial_meaning::Job;
 use std::alloc::{AllocError, Global};
-use sub_rules::Filling;
+use sub_rules::{Filling, Leaver, Update, Work};
 use subcomputation::Sub;
 use victim_records::Records;
 
@@ -75,20 +78,73 @@ pub fn send_results(
 ) -> Result<(), AllocError>
     ensures { OnOk result (sent.new ≡ sent.old ++ moves.results job.now from sub.now) }
 {
-    let content = sub.content();
-    if let Progress::Finished(outcome) = content.progress {
-        let result = TaskResult {
-            from,
-            grant: sub.grant(),
-            outcome,
-        };
-        send(
-            alloc,
-            sent,
-            &Packet::result(job.number(), content.parent, result),
-        )?;
+    match sub.content().progress {
+        Progress::Finished(outcome) => send_outcome(alloc, job, sent, from, sub, outcome),
+        Progress::Active => Ok(()),
     }
-    Ok(())
+}
+
+/// Adds the Result of a subcomputation that has an outcome, to the host that waits for it.
+fn send_outcome(
+    alloc: Global,
+    job: &Job,
+    sent: &mut Listed<Datagram>,
+    from: Incarnation,
+    sub: &Sub,
+    outcome: Outcome,
+) -> Result<(), AllocError>
+    ensures { OnOk result (sent.new ≡ sent.old ++ moves.result_by job.now from sub.now (Finished outcome)) }
+{
+    let result = TaskResult {
+        from,
+        grant: sub.grant(),
+        outcome,
+    };
+    send(
+        alloc,
+        sent,
+        &Packet::result(job.number(), sub.content().parent, result),
+    )
+}
+
+/// Adds an Abort to the holder of each record of a subcomputation that a frame or a record leaves, by rising grant.
+fn send_dropped(
+    alloc: Global,
+    job: &Job,
+    sent: &mut Listed<Datagram>,
+    sub: &Sub,
+    leaver: Leaver,
+) -> Result<(), AllocError>
+    ensures { OnOk result (sent.new ≡ sent.old ++ moves.aborts job.now (left_by leaver sub.now.content).records) }
+{
+    match leaver {
+        Leaver::FrameOf(_) => send_aborts(alloc, job, sent, &sub.content().records),
+        Leaver::RecordOf(grant) => {
+            let mut left = sub.content().records.clone()?;
+            left.close(grant);
+            send_aborts(alloc, job, sent, &left)
+        }
+    }
+}
+
+/// Adds what is sent where an update is made of a subcomputation that goes on: nothing unless it ends that; else an Abort to the
+/// holder of each record that is dropped, by rising grant, and the Result to the host that waits for it.
+pub fn send_end(
+    alloc: Global,
+    job: &Job,
+    sent: &mut Listed<Datagram>,
+    from: Incarnation,
+    sub: &Sub,
+    update: &Update,
+) -> Result<(), AllocError>
+    requires active { sub.now.content.progress ≡ Active }
+    ensures { OnOk result (sent.new ≡ sent.old ++ moves.aborts job.now (dropped_by update.now.work (left_by update.now.leaver sub.now.content)) ++ moves.results job.now from (updated_sub update.now sub.now)) }
+{
+    let Work::Ends(outcome) = &update.work else {
+        return Ok(());
+    };
+    send_dropped(alloc, job, sent, sub, update.leaver)?;
+    send_outcome(alloc, job, sent, from, sub, *outcome)
 }
 
 /// The values that a change put into slots of a grant's subcomputation: one or none.

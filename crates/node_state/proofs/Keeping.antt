@@ -2,7 +2,7 @@
 use Rattle.std.proofs.Common.{◌≡◌, ◌<◌, ℕ, ℤ, ◌+◌, Bool, true, false, zero, suc, List, [], ◌∷◌, cond, Option, Some, None, IsSome, is_some, refl, sym, ap, ◌∙◌, arith}
 use Rattle.std.specs.List.{filter}
 use Rattle.ids.specs.Names.{Grant}
-use Rattle.ids.specs.Named.{item_in, without_in}
+use Rattle.ids.specs.Named.{changed_in, changed_of, item_in, without_in}
 use Rattle.ids.specs.Naming.{name_of_frame, name_of_grant}
 use Rattle.ids.specs.Ordered.{AreInOrder}
 use Rattle.ids.specs.Slots.{numbers_in}
@@ -17,12 +17,14 @@ use Rattle.sub_rules.specs.Content.{Ready, is_ready, ready_in}
 use Rattle.sub_rules.specs.Readiness.{listed_of, times}
 use Rattle.sub_rules.specs.declared.change.Readied.{Readied}
 use Rattle.sub_rules.specs.declared.content.Content.{Content}
+use Rattle.sub_rules.specs.declared.updates.Update.{Update}
 use Rattle.sub_rules.proofs.Contents.{ready_test}
 use Rattle.sub_rules.proofs.Listings.{listed_each}
 use Rattle.sub_rules.proofs.Slots.{apart, full_numbers, numbers_full}
 use Rattle.steal_protocol.specs.Requests.{AskerOf}
 use Rattle.steal_protocol.specs.declared.replies.Reply.{Reply}
 use Rattle.subcomputation.specs.Subs.{SubOf, name_of_sub, put_sub, ready_frames, sub_in, without_sub}
+use Rattle.subcomputation.specs.Told.{updated_sub}
 use Rattle.subcomputation.specs.declared.sub.ReadyIn.{ReadyIn}
 use Rattle.subcomputation.proofs.Others.{put_goes, put_other, without_itself, without_other}
 use Rattle.node_state.specs.Node.{NodeOf, by_state, ended, holding, hop_in, name_of_seen, put_seen, starting}
@@ -383,3 +385,7 @@ seen_again g hop seen none = put_goes name_of_seen (record { grant = g; hop = ho
 -- what is still to be minted after one more was still to be minted before
 pub more_minted : (n : NodeOf) (h : Grant) → h.minter ≡ n.incarnation → n.minted + 1 < h.number → IsFresh n h
 more_minted n h minter less = (minter, omega arith)
+
+-- an update where a subcomputation stands puts it in its place
+pub updated_put : (u : Update) (g : Grant) (s : SubOf) (subs new : List SubOf) → sub_in g subs ≡ Some s → new ≡ changed_in name_of_sub (updated_sub u) (name_of_grant g) subs → new ≡ put_sub (updated_sub u s) subs
+updated_put u g s subs new there is = is ∙ ap (changed_of name_of_sub (updated_sub u) subs) there

@@ -8,7 +8,10 @@ use Rattle.sub_rules.specs.Debts.{one_if}
 use Rattle.sub_rules.specs.Readiness.{TellsReady}
 use Rattle.sub_rules.specs.declared.change.Readied.{Readied}
 use Rattle.steal_protocol.specs.Requests.{AskerOf}
-use Rattle.subcomputation.specs.Subs.{SubOf, put_sub, sub_in}
+use Rattle.sub_rules.specs.declared.updates.Update.{Update}
+use Rattle.sub_rules.specs.Updates.{updated, MayUpdate}
+use Rattle.subcomputation.specs.Subs.{IsBegun, SubOf, put_sub, sub_in}
+use Rattle.subcomputation.specs.Told.{updated_sub}
 use Rattle.subcomputation.specs.declared.sub.ReadyIn.{ReadyIn}
 use Rattle.recovery.specs.Told.{ComesTold}
 use Rattle.node_state.specs.Node.{NodeOf, hop_in}
@@ -110,6 +113,17 @@ pub record IsNext (n : NodeOf) (s : SubOf) (told : List Readied) : Type 0 where
 -- it has no record of a grant of which it had none
 abbrev pub HasNoNewRecord : NodeOf → SubOf → Type 0
 HasNoNewRecord n s = (h : Grant) → IsFresh n h → record_in h s.content.records ≡ None
+
+-- an update may be made of the subcomputation of a grant: what it leaves is kept, the frames that became ready are told, and it has
+-- no record of a grant of which it had none
+pub record MayUpdateIn (n : NodeOf) (g : Grant) (u : Update) (told : List Readied) : Type 0 where
+  pub sub : SubOf
+  pub there : sub_in g n.subs ≡ Some sub
+  pub named : sub.grant ≡ g
+  pub may : MayUpdate u sub.content
+  pub begun : IsBegun (updated u sub.content)
+  pub next : IsNext n (updated_sub u sub) told
+  pub records : HasNoNewRecord n (updated_sub u sub)
 
 -- what comes of an Offer of a grant, which a recovery may have dropped: a subcomputation of that grant, with no record of a
 -- grant that is still to be minted here

@@ -1,4 +1,4 @@
-ghost use Rattle.std.specs.Prelude.{◌≡◌, ◌<◌, ◌+◌, ◌^◌, ℕ, OnOk, OnErr, IfOk, IfSome, IsSome, None, Some, option_copied, is_some, []};
+ghost use Rattle.std.specs.Prelude.{◌≡◌, ◌<◌, ◌+◌, ◌^◌, ℕ, OnOk, OnErr, IfOk, IfSome, IsSome, None, Some, option_copied, is_some, [], refl};
 ghost use Rattle.std.specs.List.{filter};
 ghost use Rattle.ids.specs.declared.member.Status as declared;
 ghost use Rattle.sub_rules.specs.declared.change.Readied as readied;
@@ -11,9 +11,11 @@ ghost use Rattle.sub_rules.specs.Changes.{readied_in};
 ghost use Rattle.ids.specs.Naming.{name_of_frame, name_of_grant};
 ghost use Rattle.ids.specs.Names.{Grant};
 ghost use Rattle.ids.specs.Ordered.{AreInOrder};
-ghost use Rattle.subcomputation.specs.Subs.{SubOf};
+ghost use Rattle.subcomputation.specs.Subs.{IsBegun, SubOf};
+ghost use Rattle.subcomputation.specs.Told.{updated_sub};
+ghost use Rattle.sub_rules.specs.Updates.{updated, MayUpdate};
 ghost use Rattle.node_state.specs.declared.parts.State.TheVariants.{Member, Leaving};
-ghost use Rattle.node_state.specs.Parts.{ArePosts, MayBeMember, MayCome, IsJoined, IsLeaving, IsMember, IsNext, HasNoNewRecord, IsFresh, put_some, ready_of, with_posts};
+ghost use Rattle.node_state.specs.Parts.{ArePosts, MayBeMember, MayCome, IsJoined, IsLeaving, IsMember, IsNext, HasNoNewRecord, IsFresh, MayUpdateIn, put_some, ready_of, with_posts};
 ghost use Rattle.recovery.specs.Plans.{IsPlan};
 ghost use Rattle.recovery.specs.Told.{AreWhole, IsWhole};
 ghost use Rattle.subcomputation.specs.Recovering.{recovered};
@@ -22,13 +24,13 @@ ghost use Rattle.task_tree.specs.declared.tree.Program.{Program};
 
 use crate::parts::{Confirmed, Seen, State};
 use codec::Roster;
-use ids::{Actor, GrantId, Hop, Incarnation, Named, Status, Store, Values};
+use ids::{Actor, GrantId, Hop, Incarnation, Named, Status, Store, TryChange, Values};
 use level_deques::{Post, PostTest, Posts};
 use recovery::Plan;
 use std::alloc::{AllocError, Global};
 use std::marker::Model;
 use steal_protocol::{AskError, Asker, Replies, Reply, Request};
-use sub_rules::Readied;
+use sub_rules::{Readied, Update};
 use subcomputation::{ReadyIn, Sub};
 
 /// The name under which what a grant names is kept.
@@ -338,18 +340,26 @@ impl Parts {
         Ok(())
     }
 
-    /// Puts a subcomputation in the place of the one that a member holds under its grant, and posts the frames that became
-    /// ready in it; refused for want of memory alone, which changes nothing.
-    pub fn change(&mut self, after: Sub, ready: &[Readied]) -> Result<(), AllocError>
-        requires next { IsNext self.old.node after ready.now }
-        requires records { HasNoNewRecord self.old.node after }
-        ensures ok { OnOk result (self.new ≡ with_posts (record self.old.node { subs = put_sub after self.old.node.subs }) (ready_of after.grant ready.now) self.old.posts) }
+    /// Makes a change that was prepared of the subcomputation that a member holds under a grant, where it stands, and posts the
+    /// frames that became ready in it; refused for want of memory alone, which changes nothing.
+    pub fn update(
+        &mut self,
+        grant: GrantId,
+        update: Update,
+        ready: &[Readied],
+    ) -> Result<(), AllocError>
+        requires { MayUpdateIn self.old.node grant update ready.now }
+        ensures ok { (s : SubOf) → sub_in grant self.old.node.subs ≡ Some s → OnOk result (self.new ≡ with_posts (record self.old.node { subs = put_sub (updated_sub update s) self.old.node.subs }) (ready_of grant ready.now) self.old.posts) }
         ensures err { OnErr result (self.new ≡ self.old) }
     {
-        let posts = posted(&self.posts, after.grant(), ready)?;
-        frames_stand_in_order(&self.subs, after.grant());
-        stands_in_order(&after);
-        self.subs.replace(after);
+        let posts = posted(&self.posts, grant, ready)?;
+        frames_stand_in_order(&self.subs, grant);
+        let change = InPlace {
+            alloc: self.alloc,
+            update,
+        };
+        self.subs.try_change(name_of(grant), change)?;
+        frames_stand_in_order(&self.subs, grant);
         self.posts = posts;
         withdraw_stale(&mut self.posts, &self.subs);
         Ok(())
@@ -528,6 +538,25 @@ fn note(
         return Err(refused);
     }
     Ok(())
+}
+
+/// A change of a subcomputation that was prepared.
+#[derive(Drop)]
+struct InPlace {
+    alloc: Global,
+    update: Update,
+}
+
+impl TryChange<Sub> for InPlace {
+    ghost fits = { λ change sub. MayUpdate change.update sub.content × IsBegun (updated change.update sub.content) };
+
+    ghost changed = { λ change sub. updated_sub change.update sub };
+
+    ghost keeps_name = { λ change sub. refl };
+
+    fn try_apply(self, sub: &mut Sub) -> Result<(), AllocError> {
+        sub.update(self.alloc, self.update)
+    }
 }
 
 /// The test of a post: its frame is ready.

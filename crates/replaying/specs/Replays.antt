@@ -5,7 +5,8 @@ use Rattle.jobs.specs.Jobs.{IsJobOf, IsRefusal}
 use Rattle.event_script.specs.Scripts.{script}
 use Rattle.event_script.specs.declared.event.Event.{Event}
 use Rattle.world.specs.Runs.{IsRun}
-use Rattle.world_steps.specs.World.{WorldOf, recorded}
+use Rattle.world_steps.specs.Calls.{WorldOn}
+use Rattle.world_steps.specs.World.{recorded}
 use Rattle.replaying.specs.declared.fault.ReplayFault.{ReplayFault}
 use Rattle.replaying.specs.declared.fault.ReplayFault.TheVariants as fault
 use Rattle.replaying.specs.declared.replayed.Replayed.{Replayed}
@@ -15,11 +16,11 @@ use Rattle.replaying.specs.declared.replayed.Replayed.{Replayed}
 pub record IsReplayOf (job : JobOf) (text : List ℕ) (r : Replayed) : Type 0 where
   pub events : List Event
   pub read : script text ≡ Ok events
-  pub world : WorldOf
-  pub run : IsRun job events r.events None world
-  pub packets : r.packets ≡ length world.net
-  pub fills : r.fills ≡ length world.fills
-  pub outcome : r.outcome ≡ recorded world
+  pub on : WorldOn
+  pub run : IsRun job events r.events None on
+  pub packets : r.packets ≡ length on.world.net
+  pub fills : r.fills ≡ length on.world.fills
+  pub outcome : r.outcome ≡ recorded on.world
 
 -- what a refusal of a script says: its first line that isn't an event's; or all lines are events', and one or the first world found
 -- no memory

@@ -199,7 +199,7 @@ not_carried d c n none = by_found (frame_in n c.frames) none
     by_found (Some f) none = by_missing f (missing_in f.slots) refl none
 
 -- the turn of a frame is its turn where it left
-turned_is : (f : Frame) (turn : Turn) (c : Content) → turned f turn c ≡ turned_left f turn (record c { frames = without_frame f.number c.frames })
+pub turned_is : (f : Frame) (turn : Turn) (c : Content) → turned f turn c ≡ turned_left f turn (record c { frames = without_frame f.number c.frames })
 turned_is f (Sends v) c = refl
 turned_is f (Joins t slots) c = refl
 

@@ -1,91 +1,93 @@
 ghost use Rattle.std.specs.Prelude.{◌≡◌, IfOk};
+ghost use Rattle.frames.specs.Frames.{missing_in};
 ghost use Rattle.sub_rules.specs.Changes.{arrives, ends};
-ghost use Rattle.sub_rules.specs.Filling.{ready_of};
-ghost use Rattle.sub_rules.specs.Debts.{IsSound};
+ghost use Rattle.sub_rules.specs.Filling.{ready_by_one};
 ghost use Rattle.sub_rules.specs.Leaving.{LacksDebtor};
+ghost use Rattle.sub_rules.specs.Updates.{left_by, Leads};
 
-use crate::change::{Change, Filling, Readied};
+use crate::change::{Filling, Readied};
 use crate::content::Content;
-use frames::{Filled, Frames};
-use ids::{FrameNo, Listed, Outcome, Progress, Return};
+use crate::updates::{Leaver, Prepared, Update, Work};
+use ids::{Frame, FrameNo, Listed, Outcome, Return};
 use std::alloc::{AllocError, Global};
-use victim_records::Records;
 
-/// A value comes to where it is awaited: it fills a slot, or is the outcome of the whole.
-pub fn arrive(
+/// Prepares that a value comes to where it is awaited, once its debtor left: it fills a slot, or is the outcome of the whole.
+pub fn prepare_arrival(
     alloc: Global,
-    content: Content,
+    content: &Content,
+    leaver: Leaver,
     returns: Return,
     value: i64,
-) -> Result<Change, AllocError>
-    requires { LacksDebtor returns content }
-    ensures change { IfOk result (λ change. change ≡ arrives returns value content) }
-    ensures sound { IfOk result (λ change. IsSound change.after) }
+) -> Result<Prepared, AllocError>
+    requires { LacksDebtor returns (left_by leaver content.now) }
+    ensures { IfOk result (λ p. Leads content.now p (arrives returns value (left_by leaver content.now))) }
 {
     match returns {
-        Return::Whole => Ok(end(alloc, content, Outcome::Value(value))),
-        Return::Local(number, slot) => fill(alloc, content, number, slot, value),
+        Return::Whole => Ok(prepare_end(alloc, content, leaver, Outcome::Value(value))),
+        Return::Local(number, slot) => prepare_fill(alloc, content, leaver, number, slot, value),
     }
 }
 
-/// The end of a subcomputation: its frames and records go.
-pub fn end(alloc: Global, content: Content, outcome: Outcome) -> Change
-    ensures change { result ≡ ends outcome content }
-    ensures sound { IsSound result.after }
+/// Prepares the end of a subcomputation, once a frame or a record left: its frames and records go.
+pub fn prepare_end(alloc: Global, content: &Content, leaver: Leaver, outcome: Outcome) -> Prepared
+    ensures { Leads content.now result (ends outcome (left_by leaver content.now)) }
 {
-    Change {
-        after: Content {
-            parent: content.parent,
-            progress: Progress::Finished(outcome),
-            task: content.task,
-            next: content.next,
-            frames: Frames::new(alloc),
-            records: Records::new(alloc),
+    let _ = content;
+    Prepared {
+        update: Update {
+            leaver,
+            work: Work::Ends(outcome),
         },
         fill: None,
         ready: Listed::new(alloc),
-        dropped: content.records,
     }
 }
 
-/// A value comes to a slot that awaits it.
-fn fill(
+/// Prepares that a value comes to a slot that awaits it, once its debtor left.
+fn prepare_fill(
     alloc: Global,
-    content: Content,
+    content: &Content,
+    leaver: Leaver,
     number: FrameNo,
     slot: u8,
     value: i64,
-) -> Result<Change, AllocError>
-    requires { LacksDebtor (Return.Local number slot) content }
-    ensures change { IfOk result (λ change. change ≡ arrives (Return.Local number slot) value content) }
-    ensures sound { IfOk result (λ change. IsSound change.after) }
+) -> Result<Prepared, AllocError>
+    requires { LacksDebtor (Return.Local number slot) (left_by leaver content.now) }
+    ensures { IfOk result (λ p. Leads content.now p (arrives (Return.Local number slot) value (left_by leaver content.now))) }
 {
-    let mut after = content;
-    let place = after.frames.get(number).unwrap().place.clone()?;
-    let filled = after.frames.fill(number, slot, value);
-    Ok(Change {
-        after,
+    let frame = content.frames.get(number).unwrap();
+    Ok(Prepared {
+        update: Update {
+            leaver,
+            work: Work::Fills(number, slot, value),
+        },
         fill: Some(Filling {
             frame: number,
             slot,
-            place,
+            place: frame.place.clone()?,
             value,
         }),
-        ready: readied(alloc, number, filled)?,
-        dropped: Records::new(alloc),
+        ready: ready_by_one(alloc, frame)?,
     })
 }
 
-/// The frame of a number, if it is ready after a fill.
-fn readied(alloc: Global, number: FrameNo, filled: Filled) -> Result<Listed<Readied>, AllocError>
-    ensures { IfOk result (λ ready. ready ≡ ready_of number filled) }
+/// A frame, if it is ready once one more of its slots is filled.
+fn ready_by_one(alloc: Global, frame: &Frame) -> Result<Listed<Readied>, AllocError>
+    ensures { IfOk result (λ ready. ready ≡ ready_by_one frame.now) }
 {
     let mut ready = Listed::new(alloc);
-    if let Filled::Ready(level) = filled {
+    if empty_slots(frame.slots.as_slice()) == 1 {
         ready.push(Readied {
-            frame: number,
-            level,
+            frame: frame.number,
+            level: frame.place.level(),
         })?;
     }
     Ok(ready)
+}
+
+/// How many slots are empty.
+fn empty_slots(slots: &[Option<i64>]) -> usize
+    ensures { result ≡ missing_in slots.now }
+{
+    slots.iter().filter(|slot| slot.is_none()).count()
 }

@@ -1,18 +1,19 @@
-ghost use Rattle.std.specs.Prelude.{◌≡◌, IfOk};
+ghost use Rattle.std.specs.Prelude.{◌≡◌, ◌<◌, ◌^◌, IfOk};
 ghost use Rattle.frames.specs.Frames.{frame_in};
 ghost use Rattle.sub_rules.specs.Carrying as carrying;
 ghost use Rattle.sub_rules.specs.Carrying.{IsAnswerTo, is_stale_of, is_turn_of, holds_numbers};
 ghost use Rattle.sub_rules.specs.Debts.{IsSound};
 ghost use Rattle.sub_rules.specs.Turning.{TurnFew};
+ghost use Rattle.sub_rules.specs.Updates.{change_by, IsPreparedFor, MayUpdate};
 
-use crate::arriving::arrive;
+use crate::arriving::prepare_arrival;
 use crate::change::{Change, SubError};
 use crate::content::Content;
-use crate::joining::join;
-use crate::leaving::{LeftFrame, next_is_a_number, take_ready};
+use crate::joining::prepare_join;
+use crate::updates::{Leaver, Prepared};
 use body_eval::{Done, Turn};
 use ids::{Frame, FrameNo};
-use std::alloc::Global;
+use std::alloc::{AllocError, Global};
 
 /// Carries out the frame `number` by a turn that was evaluated. Where the turn sends a value, this fills the slot that awaits
 /// it, or is the outcome of the whole. Where it joins, its successor stands in its place with the kids of its holes, numbered
@@ -29,18 +30,64 @@ pub fn exec(
     ensures answer { IsAnswerTo (carrying.exec done.now number content) result }
     ensures sound { IfOk result (λ change. IsSound change.after) }
 {
-    let Some(LeftFrame { frame, content }) = take_ready(content, number) else {
+    let prepared = prepare_exec(alloc, &content, number, done)?;
+    Ok(carried_out(alloc, content, prepared)?)
+}
+
+/// Prepares what `exec` does, with what memory it takes, and changes nothing. It is refused where `exec` is.
+pub fn prepare_exec(
+    alloc: Global,
+    content: &Content,
+    number: FrameNo,
+    done: &Done,
+) -> Result<Prepared, SubError>
+    requires sound { IsSound content.now }
+    ensures { IsPreparedFor content.now (carrying.exec done.now number content.now) result }
+{
+    let Some(frame) = content.frames.get(number) else {
         return Err(SubError::Stale);
     };
-    if !is_turn_of(&frame, done) {
+    if !is_turn_of(frame, done) {
         return Err(SubError::Stale);
     }
-    next_is_a_number(&content);
+    content.frames.stand_in_order();
+    next_is_a_number(content);
     turn_is_few(done);
     match done.turn() {
-        Turn::Sends(value) => Ok(arrive(alloc, content, frame.returns, *value)?),
-        Turn::Joins(thread, slots) => join(alloc, content, frame, *thread, slots.as_slice()),
+        Turn::Sends(value) => {
+            let leaver = Leaver::FrameOf(number);
+            Ok(prepare_arrival(alloc, content, leaver, frame.returns, *value)?)
+        }
+        Turn::Joins(thread, slots) => {
+            prepare_join(alloc, content, frame, *thread, slots.as_slice())
+        }
     }
+}
+
+/// The change of a content by what is prepared.
+pub(crate) fn carried_out(
+    alloc: Global,
+    content: Content,
+    prepared: Prepared,
+) -> Result<Change, AllocError>
+    requires { MayUpdate prepared.update content }
+    ensures { IfOk result (λ change. change ≡ change_by prepared content) }
+{
+    let mut after = content;
+    let dropped = after.update(alloc, prepared.update)?;
+    Ok(Change {
+        after,
+        fill: prepared.fill,
+        ready: prepared.ready,
+        dropped,
+    })
+}
+
+/// The number of the next frame is a frame's number. Does nothing.
+fn next_is_a_number(content: &Content)
+    ensures { content.now.next < 2 ^ 32 }
+{
+    let _ = content.next.number();
 }
 
 /// A turn that was evaluated has at most 8 slots, and holes 1 to 8, since its program was accepted. Does nothing.

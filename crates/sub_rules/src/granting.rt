@@ -4,12 +4,15 @@ ghost use Rattle.victim_records.specs.Records.{record_in};
 ghost use Rattle.sub_rules.specs.Content.{first_frame, granted_content, ready_in};
 ghost use Rattle.sub_rules.specs.Changes.{closed_in, given_away, done_again, frame_of};
 ghost use Rattle.sub_rules.specs.Debts.{IsSound};
+ghost use Rattle.sub_rules.specs.Updates.{IsPreparedIn};
 
-use crate::arriving::{arrive, end};
+use crate::arriving::{prepare_arrival, prepare_end};
 use crate::change::{Change, DoneAgain, GivenAway, Readied};
 use crate::content::Content;
+use crate::executing::carried_out;
 use crate::joining::all_given;
 use crate::leaving::{LeftFrame, LeftRecord, take_ready, take_record};
+use crate::updates::{Leaver, Prepared};
 use frames::Frames;
 use ids::{
     Actor, Frame, FrameNo, GrantId, Incarnation, Listed, Outcome, Progress, Record, Return, Task,
@@ -95,12 +98,34 @@ pub fn close(
     ensures change { IfOk result (λ o. o ≡ closed_in outcome content (record_in grant content.records)) }
     ensures sound { IfOk result (λ o. IfSome o (λ change. IsSound change.after)) }
 {
-    let Some(LeftRecord { taken, content }) = take_record(content, grant) else {
+    match prepare_close(alloc, &content, grant, outcome)? {
+        Some(prepared) => Ok(Some(carried_out(alloc, content, prepared)?)),
+        None => Ok(None),
+    }
+}
+
+/// Prepares what `close` does, with what memory it takes, and changes nothing.
+pub fn prepare_close(
+    alloc: Global,
+    content: &Content,
+    grant: GrantId,
+    outcome: Outcome,
+) -> Result<Option<Prepared>, AllocError>
+    requires sound { IsSound content.now }
+    ensures { IfOk result (λ o. IsPreparedIn content.now (closed_in outcome content.now (record_in grant content.now.records)) o) }
+{
+    let Some(taken) = content.records.get(grant) else {
         return Ok(None);
     };
+    content.frames.stand_in_order();
+    content.records.stand_in_order();
+    let leaver = Leaver::RecordOf(grant);
     match outcome {
-        Outcome::Value(value) => Ok(Some(arrive(alloc, content, taken.returns, value)?)),
-        Outcome::TooDeep => Ok(Some(end(alloc, content, Outcome::TooDeep))),
+        Outcome::Value(value) => {
+            let prepared = prepare_arrival(alloc, content, leaver, taken.returns, value)?;
+            Ok(Some(prepared))
+        }
+        Outcome::TooDeep => Ok(Some(prepare_end(alloc, content, leaver, Outcome::TooDeep))),
     }
 }
 

@@ -1,53 +1,56 @@
 ghost use Rattle.std.specs.Prelude.{◌≡◌, ◌<◌, ◌≤◌, ◌+◌, ◌^◌, IfOk, length, map, ◌∷◌, Some, count_by, ◌==◌};
-ghost use Rattle.frames.specs.Frames.{missing_in};
+ghost use Rattle.frames.specs.Frames.{AreBelow, missing_in};
 ghost use Rattle.kind_check.specs.Turns.{given_of};
-ghost use Rattle.sub_rules.specs.Carrying.{within_numbers, IsAnswerTo};
+ghost use Rattle.sub_rules.specs.Carrying.{within_numbers};
 ghost use Rattle.sub_rules.specs.Changes.{joined, readied_in};
-ghost use Rattle.sub_rules.specs.Debts.{IsSound};
 ghost use Rattle.sub_rules.specs.Leaving.{LacksDebtor, join_left};
 ghost use Rattle.sub_rules.specs.Turning.{SlotsFew, awaits};
+ghost use Rattle.sub_rules.specs.Updates.{left_by, IsPreparedFor};
+ghost use Rattle.sub_rules.specs.declared.updates.Leaver.TheVariants.{FrameOf};
 
-use crate::arriving::end;
-use crate::change::{Change, Readied, SubError};
+use crate::arriving::prepare_end;
+use crate::change::{Readied, SubError};
 use crate::content::Content;
+use crate::updates::{Leaver, Prepared, Update, Work};
 use body_eval::{Kid, Slot};
 use ids::limits::MOST_STEPS;
 use ids::{Frame, FrameNo, Listed, Outcome, Place, Return};
 use std::alloc::{AllocError, Global};
-use victim_records::Records;
 
-/// A frame that left joins: its successor and the kids of its holes stand in its place. At a place of 1,024 steps the whole
-/// is too deep.
-pub fn join(
+/// Prepares that a frame joins, once it left: its successor and the kids of its holes stand in its place. At a place of 1,024
+/// steps the whole is too deep.
+pub fn prepare_join(
     alloc: Global,
-    content: Content,
-    frame: Frame,
+    content: &Content,
+    frame: &Frame,
     thread: u8,
     slots: &[Slot],
-) -> Result<Change, SubError>
-    requires lacks { LacksDebtor frame.returns content }
+) -> Result<Prepared, SubError>
+    requires next { content.now.next < 2 ^ 32 }
+    requires below { AreBelow content.now.next content.now.frames }
+    requires number { frame.now.number < content.now.next }
+    requires lacks { LacksDebtor frame.now.returns (left_by (FrameOf frame.now.number) content.now) }
     requires slots { SlotsFew slots.now }
-    ensures answer { IsAnswerTo (within_numbers (join_left frame thread slots.now content)) result }
-    ensures sound { IfOk result (λ change. IsSound change.after) }
+    ensures { IsPreparedFor content.now (within_numbers (join_left frame.now thread slots.now (left_by (FrameOf frame.now.number) content.now))) result }
 {
+    let leaver = Leaver::FrameOf(frame.number);
     if frame.place.len() >= MOST_STEPS {
-        return Ok(end(alloc, content, Outcome::TooDeep));
+        return Ok(prepare_end(alloc, content, leaver, Outcome::TooDeep));
     }
     let first = content.next.number();
     let behind = u64::from(first) + 1 + kids_in(slots) as u64;
     let Ok(next) = u32::try_from(behind) else {
         return Err(SubError::Spent);
     };
-    let made = made(alloc, first, &frame, thread, slots)?;
+    let made = made(alloc, first, frame, thread, slots)?;
     let ready = ready_in(alloc, &made)?;
-    let mut after = content;
-    after.frames.insert_join(FrameNo::of(first), made)?;
-    after.next = FrameNo::of(next);
-    Ok(Change {
-        after,
+    Ok(Prepared {
+        update: Update {
+            leaver,
+            work: Work::Adds(Listed::from_vec(made), FrameNo::of(next)),
+        },
         fill: None,
         ready,
-        dropped: Records::new(alloc),
     })
 }
 

@@ -1,4 +1,4 @@
-ghost use Rattle.std.specs.Prelude.{◌≡◌, ◌<◌, ◌^◌, IfSome};
+ghost use Rattle.std.specs.Prelude.{◌≡◌, IfSome};
 ghost use Rattle.frames.specs.Frames.{frame_in, if_ready};
 ghost use Rattle.victim_records.specs.Records.{record_in};
 ghost use Rattle.sub_rules.specs.Debts.{IsSound};
@@ -47,11 +47,4 @@ pub fn take_record(content: Content, grant: GrantId) -> Option<LeftRecord>
     content.records.stand_in_order();
     let taken = content.records.close(grant)?;
     Some(LeftRecord { taken, content })
-}
-
-/// The number of the next frame is a frame's number.
-pub fn next_is_a_number(content: &Content)
-    ensures { content.now.next < 2 ^ 32 }
-{
-    let _ = content.next.number();
 }

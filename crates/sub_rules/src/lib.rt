@@ -10,11 +10,12 @@ mod joining;
 mod laws;
 mod leaving;
 mod readiness;
+mod updates;
 
 pub use change::{Change, DoneAgain, Filling, GivenAway, Readied, SubError};
 pub use content::Content;
-pub use executing::{exec, is_stale};
-pub use granting::{close, grant_out, granted, numbers_in, redo};
+pub use executing::{exec, is_stale, prepare_exec};
+pub use granting::{close, grant_out, granted, numbers_in, prepare_close, redo};
 pub use laws::{
     contents_without_records_have_a_ready_frame, granted_contents_are_sound,
     ready_frames_await_nothing, renaming_keeps_sound,
@@ -24,3 +25,4 @@ pub use readiness::{
     ready_frames_are_listed_once, renaming_makes_nothing_ready, results_tell_what_is_ready,
     turns_tell_what_is_ready,
 };
+pub use updates::{Leaver, Prepared, Update, Work};

@@ -1,15 +1,19 @@
 -- The number of a content's first frame stays given.
 use Rattle.std.proofs.Common.{◌≡◌, ℕ, ℤ, ◌+◌, ◌^◌, ◌<◌, Bool, true, false, nat_lt, cond, length, Option, Some, None, Result, Ok, Err, arith}
-use Rattle.ids.specs.declared.outcome.Outcome.TheVariants.{TooDeep}
+use Rattle.ids.specs.Names.{Grant}
+use Rattle.ids.specs.declared.outcome.Outcome.{Outcome}
+use Rattle.ids.specs.declared.outcome.Outcome.TheVariants.{Value, TooDeep}
 use Rattle.ids.specs.declared.returns.Return.{Return}
 use Rattle.ids.specs.declared.returns.Return.TheVariants.{Whole, Local}
 use Rattle.ids.specs.declared.work.Frame.{Frame}
+use Rattle.ids.specs.declared.work.Record.{Record}
 use Rattle.kind_check.specs.declared.turn.Turn.{Turn}
 use Rattle.kind_check.specs.declared.turn.Turn.TheVariants.{Sends, Joins}
 use Rattle.body_eval.specs.Done.{DoneOf}
 use Rattle.frames.specs.Frames.{frame_in, without_frame}
+use Rattle.victim_records.specs.Records.{record_in, without_record}
 use Rattle.sub_rules.specs.Carrying.{exec, executed, is_turn_of, within_numbers}
-use Rattle.sub_rules.specs.Changes.{arrives, ends, filled_in, joined, replaced, turned}
+use Rattle.sub_rules.specs.Changes.{arrives, closed, closed_in, ends, filled_in, joined, replaced, turned}
 use Rattle.sub_rules.specs.declared.change.Change.{Change}
 use Rattle.sub_rules.specs.declared.change.SubError.{SubError}
 use Rattle.sub_rules.specs.declared.change.SubError.TheVariants.{Stale, Spent}
@@ -56,3 +60,17 @@ exec_begun c x d n change same is begun = by_frame (frame_in n c.frames) (rw sam
     by_frame : (o : Option Frame) → executed d c o ≡ Ok change → Begun change.after
     by_frame None at = absurd cc
     by_frame (Some f) at = by_turn f (is_turn_of d f) at
+
+-- after an outcome came
+pub result_begun : (c : Content) (g : Grant) (o : Outcome) (change : Change) → Some change ≡ closed_in o c (record_in g c.records) → 0 < c.next → 0 < change.after.next
+result_begun c g o change is begun = by_record (record_in g c.records) is
+  where
+    closed_begun : (r : Record) (o : Outcome) → Begun (closed r o c).after
+    closed_begun r (Value v) = arrives_begun r.returns v (record c { records = without_record r.grant c.records }) begun
+    closed_begun r TooDeep = begun
+
+    by_record : (r : Option Record) → Some change ≡ closed_in o c r → Begun change.after
+    by_record None at = absurd cc
+    by_record (Some r) at =
+        let equal : closed r o c ≡ change = cc in
+        rw (← equal) (closed_begun r o)

@@ -1,17 +1,30 @@
 -- What a call of a subcomputation tells: the change of its content, as one of it.
 use Rattle.std.specs.Prelude.{◌≡◌, List, Option, None, Some, Result, Ok, Err}
 use Rattle.ids.specs.Names.{Grant}
+use Rattle.ids.specs.declared.outcome.Progress.TheVariants.{Active}
 use Rattle.ids.specs.declared.work.Record.{Record}
 use Rattle.victim_records.specs.Records.{record_in}
 use Rattle.sub_rules.specs.declared.change.Change.{Change}
 use Rattle.sub_rules.specs.declared.change.DoneAgain.{DoneAgain}
+use Rattle.sub_rules.specs.declared.change.Filling.{Filling}
 use Rattle.sub_rules.specs.declared.change.GivenAway.{GivenAway}
+use Rattle.sub_rules.specs.declared.change.Readied.{Readied}
 use Rattle.sub_rules.specs.declared.change.SubError.{SubError}
 use Rattle.sub_rules.specs.declared.change.SubError.TheVariants.{Stale, Spent, Memory}
 use Rattle.subcomputation.specs.declared.sub.Again.{Again}
-use Rattle.subcomputation.specs.declared.sub.Changed.{Changed}
 use Rattle.subcomputation.specs.declared.sub.Given.{Given}
-use Rattle.subcomputation.specs.Subs.{SubOf, with_content}
+use Rattle.sub_rules.specs.declared.updates.Prepared.{Prepared}
+use Rattle.sub_rules.specs.declared.updates.Update.{Update}
+use Rattle.sub_rules.specs.Updates.{change_by, updated, MayUpdate}
+use Rattle.subcomputation.specs.Subs.{IsBegun, SubOf, with_content}
+
+-- what a change leads to: the subcomputation after it, the value that it put into a slot, the frames that became ready, in the
+-- order in which they are posted, and the records that were dropped, whose holders are told so
+pub record Changed : Type 0 where
+  pub after : SubOf
+  pub fill : Option Filling
+  pub ready : List Readied
+  pub dropped : List Record
 
 abbrev pub changed : SubOf → Change → Changed
 changed s c = record { after = with_content s c.after; fill = c.fill; ready = c.ready; dropped = c.dropped }
@@ -32,12 +45,30 @@ abbrev pub carried_out : SubOf → Result Change SubError → Result Changed Sub
 carried_out s (Ok c) = Ok (changed s c)
 carried_out s (Err e) = Err e
 
--- what is answered is what was to be answered, or there was no memory
-abbrev pub IsCarriedOut : SubOf → Result Change SubError → Result Changed SubError → Type 0
-IsCarriedOut s expected (Ok c) = carried_out s expected ≡ Ok c
-IsCarriedOut s expected (Err Stale) = expected ≡ Err Stale
-IsCarriedOut s expected (Err Spent) = expected ≡ Err Spent
-IsCarriedOut s expected (Err Memory) = Unit {0}
+-- what is prepared of a subcomputation, as a change of it
+abbrev pub changed_of : SubOf → Prepared → Changed
+changed_of s p = changed s (change_by p s.content)
+
+abbrev pub changed_of_some : SubOf → Option Prepared → Option Changed
+changed_of_some s None = None
+changed_of_some s (Some p) = Some (changed_of s p)
+
+-- a subcomputation after an update of its content
+abbrev pub updated_sub : Update → SubOf → SubOf
+updated_sub u s = with_content s (updated u s.content)
+
+-- what is prepared is what was to be answered, or there was no memory
+abbrev pub IsPreparedAs : SubOf → Result Change SubError → Result Prepared SubError → Type 0
+IsPreparedAs s expected (Ok p) = carried_out s expected ≡ Ok (changed_of s p)
+IsPreparedAs s expected (Err Stale) = expected ≡ Err Stale
+IsPreparedAs s expected (Err Spent) = expected ≡ Err Spent
+IsPreparedAs s expected (Err Memory) = Unit {0}
+
+-- what is prepared may be made, of a subcomputation that goes on, and what is kept of that stays
+pub record MayChange (s : SubOf) (p : Prepared) : Type 0 where
+  pub may : MayUpdate p.update s.content
+  pub begun : IsBegun (updated p.update s.content)
+  pub active : s.content.progress ≡ Active
 
 -- records of no grant but those of which there were some
 abbrev pub HasNoOthers : List Record → List Record → Type 0

@@ -1,4 +1,4 @@
-ghost use Rattle.std.specs.Prelude.{◌≡◌, ◌<◌, false, IsErrOf, IfOk, IfSome, IsTrue, Some, None, is_some, map, [], ◌∷◌};
+ghost use Rattle.std.specs.Prelude.{◌≡◌, ◌<◌, false, IsErrOf, IfOk, OnOk, OnErr, IfSome, IsTrue, Some, None, is_some, map, [], ◌∷◌};
 ghost use Rattle.ids.specs.Slots.{numbers_in};
 ghost use Rattle.task_tree.specs.declared.tree.Program.{Program};
 ghost use Rattle.kind_check.specs.Total.{TurnFits};
@@ -12,7 +12,8 @@ ghost use Rattle.sub_rules.specs.Debts.{IsSound};
 ghost use Rattle.subcomputation.specs.Subs.{IsBegun, granted_sub, name_of_sub, with_content};
 ghost use Rattle.subcomputation.specs.Fitting.{Fits, task_fits};
 ghost use Rattle.sub_rules.specs.Readiness.{TellsReady};
-ghost use Rattle.subcomputation.specs.Told.{HasNoOthers, HasNoOthersBut, IsCarriedOut, changed, changed_by, given_by, again_by};
+ghost use Rattle.sub_rules.specs.Updates.{updated, MayUpdate};
+ghost use Rattle.subcomputation.specs.Told.{HasNoOthers, HasNoOthersBut, IsPreparedAs, MayChange, changed_by, changed_of, changed_of_some, given_by, again_by};
 
 use body_eval::Done;
 use frames::Frames;
@@ -22,7 +23,7 @@ use ids::{
 };
 use std::alloc::{AllocError, Global};
 use std::marker::Model;
-use sub_rules::{Change, Content, Filling, Readied, SubError};
+use sub_rules::{Content, Prepared, Readied, SubError, Update};
 use victim_records::Records;
 
 /// A subcomputation: the grant under which its task came, how often it had moved when it came here, and its content, in
@@ -72,16 +73,6 @@ impl Exact for Sub {
 pub struct ReadyIn {
     pub grant: GrantId,
     pub frame: Readied,
-}
-
-/// What a change leads to: the subcomputation after it, the value that it put into a slot, the frames that became ready, in
-/// the order in which they are posted, and the records that were dropped, whose holders are told so.
-#[derive(Drop)]
-pub struct Changed {
-    pub after: Sub,
-    pub fill: Option<Filling>,
-    pub ready: Listed<Readied>,
-    pub dropped: Records,
 }
 
 /// A frame that was given away: the subcomputation after it, and the task that the thief gets.
@@ -159,48 +150,61 @@ impl Sub {
         }
     }
 
-    /// Carries out the frame `number` by a turn that was evaluated, beside this subcomputation: it stays as it is, and the
-    /// one after the turn is answered. E40 exactly where the frame isn't ready with that thread and those numbers, E62
-    /// where the number that is next after a join would pass 2^32 - 1, E9 where there is no memory.
-    pub fn exec(&self, alloc: Global, number: FrameNo, done: &Done) -> Result<Changed, SubError>
-        ensures answer { IsCarriedOut self.now (exec done.now number self.now.content) result }
+    /// Prepares that the frame `number` is carried out by a turn that was evaluated. E40 exactly where the frame isn't ready with
+    /// that thread and those numbers, E62 where the number that is next after a join would pass 2^32 - 1, E9 where there is no
+    /// memory.
+    pub fn prepare_exec(
+        &self,
+        alloc: Global,
+        number: FrameNo,
+        done: &Done,
+    ) -> Result<Prepared, SubError>
+        ensures answer { IsPreparedAs self.now (exec done.now number self.now.content) result }
         ensures starved { IsErrOf result Memory → is_stale_of done.now (frame_in number self.now.content.frames) ≡ false }
-        ensures ready { IfOk result (λ c. TellsReady self.now.content c.after.content c.ready) }
-        ensures records { IfOk result (λ c. HasNoOthers self.now.content.records c.after.content.records) }
-        ensures fits { (p : Program) → Fits p self.now.content → TurnFits p done.now.turn → IfOk result (λ c. Fits p c.after.content) }
+        ensures may { IfOk result (λ p. MayChange self.now p) }
+        ensures ready { IfOk result (λ p. TellsReady self.now.content (changed_of self.now p).after.content p.ready) }
+        ensures records { IfOk result (λ p. HasNoOthers self.now.content.records (changed_of self.now p).after.content.records) }
+        ensures fits { (p : Program) → Fits p self.now.content → TurnFits p done.now.turn → IfOk result (λ q. Fits p (changed_of self.now q).after.content) }
     {
         if sub_rules::is_stale(&self.content, number, done) {
             return Err(SubError::Stale);
         }
-        sub_rules::turns_tell_what_is_ready();
         self.content.frames.stand_in_order();
-        let change = sub_rules::exec(alloc, self.content.clone()?, number, done)?;
-        Ok(self.changed(change))
+        let prepared = sub_rules::prepare_exec(alloc, &self.content, number, done)?;
+        Ok(prepared)
     }
 
-    /// Takes the outcome of a grant, beside this subcomputation: its record is closed, a value goes where it is awaited, and
-    /// too deep is the outcome of the whole. None where there is no record of the grant; refused for want of memory alone.
-    pub fn take_result(
+    /// Prepares that the outcome of a grant comes: its record is closed, a value goes where it is awaited, and too deep is the
+    /// outcome of the whole. None where there is no record of the grant; refused for want of memory alone.
+    pub fn prepare_result(
         &self,
         alloc: Global,
         grant: GrantId,
         outcome: Outcome,
-    ) -> Result<Option<Changed>, AllocError>
-        ensures change { IfOk result (λ o. o ≡ changed_by self.now (closed_in outcome self.now.content (record_in grant self.now.content.records))) }
-        ensures ready { IfOk result (λ o. IfSome o (λ c. TellsReady self.now.content c.after.content c.ready)) }
-        ensures records { IfOk result (λ o. IfSome o (λ c. HasNoOthers self.now.content.records c.after.content.records)) }
-        ensures fits { (p : Program) → Fits p self.now.content → IfOk result (λ o. IfSome o (λ c. Fits p c.after.content)) }
+    ) -> Result<Option<Prepared>, AllocError>
+        ensures change { IfOk result (λ o. changed_of_some self.now o ≡ changed_by self.now (closed_in outcome self.now.content (record_in grant self.now.content.records))) }
+        ensures may { IfOk result (λ o. IfSome o (λ p. MayChange self.now p)) }
+        ensures ready { IfOk result (λ o. IfSome o (λ p. TellsReady self.now.content (changed_of self.now p).after.content p.ready)) }
+        ensures records { IfOk result (λ o. IfSome o (λ p. HasNoOthers self.now.content.records (changed_of self.now p).after.content.records)) }
+        ensures fits { (p : Program) → Fits p self.now.content → IfOk result (λ o. IfSome o (λ q. Fits p (changed_of self.now q).after.content)) }
     {
-        if self.content.records.get(grant).is_none() {
-            return Ok(None);
-        }
-        sub_rules::results_tell_what_is_ready();
         self.content.frames.stand_in_order();
         self.content.records.stand_in_order();
-        match sub_rules::close(alloc, self.content.clone()?, grant, outcome)? {
-            Some(change) => Ok(Some(self.changed(change))),
+        match sub_rules::prepare_close(alloc, &self.content, grant, outcome)? {
+            Some(prepared) => Ok(Some(prepared)),
             None => Ok(None),
         }
+    }
+
+    /// Makes a change that was prepared of this subcomputation; refused for want of memory alone, which changes nothing.
+    pub fn update(&mut self, alloc: Global, update: Update) -> Result<(), AllocError>
+        requires may { MayUpdate update self.old.content }
+        requires begun { IsBegun (updated update self.old.content) }
+        ensures ok { OnOk result (self.new ≡ with_content self.old (updated update self.old.content)) }
+        ensures err { OnErr result (self.new ≡ self.old) }
+    {
+        self.content.update(alloc, update)?;
+        Ok(())
     }
 
     /// Gives a ready frame away under a grant that no record has, beside this subcomputation: a record that the thief holds
@@ -290,19 +294,6 @@ impl Sub {
             grant: self.grant,
             hop: self.hop,
             content,
-        }
-    }
-
-    /// A change of the content, as one of this subcomputation.
-    fn changed(&self, change: Change) -> Changed
-        requires { IsBegun change.after }
-        ensures { result ≡ changed self.now change }
-    {
-        Changed {
-            after: self.with_content(change.after),
-            fill: change.fill,
-            ready: change.ready,
-            dropped: change.dropped,
         }
     }
 }

@@ -10,7 +10,7 @@ use Rattle.safe_runs.proofs.Events.{first_tied}
 use Rattle.safe_runs.proofs.Finding.{openings_find}
 use Rattle.safe_runs.proofs.Sound.{all_safe, each_safe}
 use Rattle.world_steps.specs.Answers.{Outturn}
-use Rattle.world_steps.specs.Calls.{StarvesBehind}
+use Rattle.world_steps.specs.Calls.{StarvesBehind, WorldOn}
 use Rattle.world_steps.specs.Runs.{last_of}
 use Rattle.world_steps.specs.Safe.{SafeWorld}
 use Rattle.world_steps.specs.Steps.{Starves}
@@ -55,20 +55,20 @@ module _ (job : JobOf) where
   behind_safe HouseCrash w o s never = absurd never
 
   -- where a run stops
-  pub stop_safe : (e : Event) (last v : WorldOf) → SafeWorld job last → StopsIn job e last v → SafeWorld job v
+  pub stop_safe : (e : Event) (last : WorldOf) (v : WorldOn) → SafeWorld job last → StopsIn job e last v → SafeWorld job v.world
   stop_safe e last v s (o, inl starves, is) = rw is (starved_safe e last o s starves)
-  stop_safe e last v s (o, inr starves, is) = rw is (behind_safe e last o s starves)
+  stop_safe e last v s (o, inr starves, is) = rw is (behind_safe e last o s starves.1)
 
-  pub reading_safe : (e : Event) (last v : WorldOf) → SafeWorld job last → StopsReading job e last v → SafeWorld job v
+  pub reading_safe : (e : Event) (last : WorldOf) (v : WorldOn) → SafeWorld job last → StopsReading job e last v → SafeWorld job v.world
   reading_safe e last v s (inl stops) = stop_safe e last v s stops
   reading_safe e last v s (inr (cut, is)) = rw is s
 
-  module _ (Stops : Event → (last v : WorldOf) → Type 0) (stays : (e : Event) (last v : WorldOf) → SafeWorld job last → Stops e last v → SafeWorld job v) where
-    end_safe : (events : List Event) (done : ℕ) (stopped : Option NoMemory) (last v : WorldOf) → SafeWorld job last → EndsIn Stops events done stopped last v → SafeWorld job v
+  module _ (Stops : Event → (last : WorldOf) → (on : WorldOn) → Type 0) (stays : (e : Event) (last : WorldOf) (v : WorldOn) → SafeWorld job last → Stops e last v → SafeWorld job v.world) where
+    end_safe : (events : List Event) (done : ℕ) (stopped : Option NoMemory) (last : WorldOf) (v : WorldOn) → SafeWorld job last → EndsIn Stops events done stopped last v → SafeWorld job v.world
     end_safe events done None last v s (all, is) = rw is s
     end_safe events done (Some lacks) last v s (e, there, stops) = stays e last v s stops
 
-    pub promised : (events : List Event) (done : ℕ) (stopped : Option NoMemory) (v : WorldOf) → IsJob job → IsRunTo Stops job events done stopped v → IsSafeRunTo Stops job events done stopped v
+    pub promised : (events : List Event) (done : ℕ) (stopped : Option NoMemory) (v : WorldOn) → IsJob job → IsRunTo Stops job events done stopped v → IsSafeRunTo Stops job events done stopped v
     promised events done stopped v ok run =
         let can = can_begin job run.disk run.formatted in
         let last : WorldOf = last_of (first_over run.disk) run.worlds in

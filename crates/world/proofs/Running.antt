@@ -49,30 +49,30 @@ on_under_way job past v w e o u step is =
     }
 
 -- one of them stops the run
-pub run_stops : (Stops : Event → (last v : WorldOf) → Type 0) (job : JobOf) (events past : List Event) (done : ℕ) (lacks : NoMemory) (e : Event) (w v : WorldOf)
+pub run_stops : (Stops : Event → (last : WorldOf) → (on : WorldOn) → Type 0) (job : JobOf) (events past : List Event) (done : ℕ) (lacks : NoMemory) (e : Event) (w : WorldOf) (v : WorldOn)
     → IsUnderWay job past w → past ≡ take done events → slice_get events done ≡ Some e → Stops e w v → IsRunTo Stops job events done (Some lacks) v
 run_stops Stops job events past done lacks e w v u front next stops =
     record { disk = u.disk; formatted = u.formatted; entries = u.entries; worlds = u.worlds; runs = u.runs; carried = u.carried ∙ front; ends = (e, next, rw u.at stops) }
 
 -- it finds no memory, as a step tells it
 
-pub starved_stops : (job : JobOf) (e : Event) (on : WorldOn) (o : Outturn) (v : WorldOf) → on.job ≡ job → IsStarved e on o → v ≡ o.world → StopsIn job e on.world v
+pub starved_stops : (job : JobOf) (e : Event) (on : WorldOn) (o : Outturn) (v : WorldOn) → on.job ≡ job → IsStarved e on v.is_placed o → v.world ≡ o.world → StopsIn job e on.world v
 starved_stops job e on o v same (inl s) is = (o, inl (rw (← same) s), is)
-starved_stops job e on o v same (inr s) is = (o, inr s.1, is)
+starved_stops job e on o v same (inr s) is = (o, inr (s.1, s.2), is)
 
-pub one_starved : (job : JobOf) (events past : List Event) (done : ℕ) (lacks : NoMemory) (e : Event) (on : WorldOn) (o : Outturn) (v : WorldOf)
-    → on.job ≡ job → IsUnderWay job past on.world → past ≡ take done events → slice_get events done ≡ Some e → IsStarved e on o → v ≡ o.world → IsRunTo (StopsIn job) job events done (Some lacks) v
+pub one_starved : (job : JobOf) (events past : List Event) (done : ℕ) (lacks : NoMemory) (e : Event) (on : WorldOn) (o : Outturn) (v : WorldOn)
+    → on.job ≡ job → IsUnderWay job past on.world → past ≡ take done events → slice_get events done ≡ Some e → IsStarved e on v.is_placed o → v.world ≡ o.world → IsRunTo (StopsIn job) job events done (Some lacks) v
 one_starved job events past done lacks e on o v same u front next s is = run_stops (StopsIn job) job events past done lacks e on.world v u front next (starved_stops job e on o v same s is)
 
 -- so it is of a replay
-pub script_starved : (job : JobOf) (events past : List Event) (done : ℕ) (lacks : NoMemory) (e : Event) (on : WorldOn) (o : Outturn) (v : WorldOf)
-    → on.job ≡ job → IsUnderWay job past on.world → past ≡ take done events → slice_get events done ≡ Some e → IsStarved e on o → v ≡ o.world → IsRunTo (StopsReading job) job events done (Some lacks) v
+pub script_starved : (job : JobOf) (events past : List Event) (done : ℕ) (lacks : NoMemory) (e : Event) (on : WorldOn) (o : Outturn) (v : WorldOn)
+    → on.job ≡ job → IsUnderWay job past on.world → past ≡ take done events → slice_get events done ≡ Some e → IsStarved e on v.is_placed o → v.world ≡ o.world → IsRunTo (StopsReading job) job events done (Some lacks) v
 script_starved job events past done lacks e on o v same u front next s is = run_stops (StopsReading job) job events past done lacks e on.world v u front next (inl (starved_stops job e on o v same s is))
 
 -- the bytes of a Cut find none
-pub bytes_starved : (job : JobOf) (events past : List Event) (done : ℕ) (lacks : NoMemory) (e : Event) (w : WorldOf)
-    → IsUnderWay job past w → past ≡ take done events → slice_get events done ≡ Some e → is_cut e ≡ true → IsRunTo (StopsReading job) job events done (Some lacks) w
-bytes_starved job events past done lacks e w u front next cut = run_stops (StopsReading job) job events past done lacks e w w u front next (inr (cut, refl))
+pub bytes_starved : (job : JobOf) (events past : List Event) (done : ℕ) (lacks : NoMemory) (e : Event) (w : WorldOn)
+    → IsUnderWay job past w.world → past ≡ take done events → slice_get events done ≡ Some e → is_cut e ≡ true → IsRunTo (StopsReading job) job events done (Some lacks) w
+bytes_starved job events past done lacks e w u front next cut = run_stops (StopsReading job) job events past done lacks e w.world w u front next (inr (cut, refl))
 
 pub next_under_way : (job : JobOf) (past : List Event) (own : JobOf) (v w : WorldOf) (e : Event) (o : Outturn)
     → own ≡ job → IsUnderWay job past v → Step own e v o → w ≡ o.world → IsUnderWay job (past ++ e ∷ []) w

@@ -44,7 +44,7 @@ pub enum ReplayError {
 /// serial meaning, and nothing is lost.
 pub fn run<'a>(alloc: Global, job: &'a Job, events: &[Event]) -> Result<RunEnd<'a>, NoMemory>
     ensures job { IfOk result (λ r. r.world.job ≡ job.now) }
-    ensures run { IfOk result (λ r. IsRun job.now events.now r.done r.stopped r.world.world) }
+    ensures run { IfOk result (λ r. IsRun job.now events.now r.done r.stopped r.world) }
 {
     let _checked = job.checked();
     carried_out(alloc, job, events)
@@ -55,7 +55,7 @@ pub fn run<'a>(alloc: Global, job: &'a Job, events: &[Event]) -> Result<RunEnd<'
 /// world (E9). E9 may stop it at a Cut too, for whose bytes there is no memory; then nothing changes.
 pub fn replay<'a>(alloc: Global, job: &'a Job, text: &[u8]) -> Result<RunEnd<'a>, ReplayError>
     ensures job { IfOk result (λ r. r.world.job ≡ job.now) }
-    ensures run { IfOk result (λ r. (events : List EventOf) × (script text.now ≡ Ok events) × IsReplay job.now events r.done r.stopped r.world.world) }
+    ensures run { IfOk result (λ r. (events : List EventOf) × (script text.now ≡ Ok events) × IsReplay job.now events r.done r.stopped r.world) }
     ensures line { (l : _) → result ≡ Err (replay_error.Line l) → script text.now ≡ Err l }
     ensures memory { result ≡ Err replay_error.Memory → (events : List EventOf) × (script text.now ≡ Ok events) }
 {
@@ -66,7 +66,7 @@ pub fn replay<'a>(alloc: Global, job: &'a Job, text: &[u8]) -> Result<RunEnd<'a>
 /// Events are carried out one after another.
 fn carried_out<'a>(alloc: Global, job: &'a Job, events: &[Event]) -> Result<RunEnd<'a>, NoMemory>
     ensures job { IfOk result (λ r. r.world.job ≡ job.now) }
-    ensures run { IfOk result (λ r. IsRunTo (StopsIn job.now) job.now events.now r.done r.stopped r.world.world) }
+    ensures run { IfOk result (λ r. IsRunTo (StopsIn job.now) job.now events.now r.done r.stopped r.world) }
 {
     let mut run = begun(alloc, job)?;
     for event in events {
@@ -84,7 +84,7 @@ fn script_carried_out<'a>(
     text: &[u8],
 ) -> Result<RunEnd<'a>, ReplayError>
     ensures job { IfOk result (λ r. r.world.job ≡ job.now) }
-    ensures run { IfOk result (λ r. (events : List EventOf) × (script text.now ≡ Ok events) × IsRunTo (StopsReading job.now) job.now events r.done r.stopped r.world.world) }
+    ensures run { IfOk result (λ r. (events : List EventOf) × (script text.now ≡ Ok events) × IsRunTo (StopsReading job.now) job.now events r.done r.stopped r.world) }
     ensures line { (l : _) → result ≡ Err (replay_error.Line l) → script text.now ≡ Err l }
     ensures memory { result ≡ Err replay_error.Memory → (events : List EventOf) × (script text.now ≡ Ok events) }
 {
@@ -130,7 +130,7 @@ impl<'a> RunEnd<'a> {
         requires { self.old.done + 1 < 2 ^ 64 }
         ensures job { self.new.world.job ≡ self.old.world.job }
         ensures carried { result ≡ true → (o : Outturn) × StepOf self.old.world.job event.now self.old.world.world o × (self.new.world.world ≡ o.world) × (self.new.done ≡ self.old.done + 1) × (self.new.stopped ≡ self.old.stopped) }
-        ensures starved { result ≡ false → (o : Outturn) × IsStarved event.now self.old.world o × (self.new.world.world ≡ o.world) × (self.new.done ≡ self.old.done) × (lacks : NoMemoryOf) × (self.new.stopped ≡ Some lacks) }
+        ensures starved { result ≡ false → (o : Outturn) × IsStarved event.now self.old.world self.new.world.is_placed o × (self.new.world.world ≡ o.world) × (self.new.done ≡ self.old.done) × (lacks : NoMemoryOf) × (self.new.stopped ≡ Some lacks) }
     {
         match self.world.step(alloc, event, None) {
             Ok(_) => {

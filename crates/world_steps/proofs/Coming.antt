@@ -286,6 +286,6 @@ module _ (before : WorldOn) (v : WorldOf) (a : ℕ) (e : NodeEvent) (x : NodeErr
   refused_told (Ok t) m = let d = refused_step before v a e x m.1 c in (_, d.0, d.1, m.0)
 
   -- and where there is no memory
-  pub lacks_told : (r : Result Told NoMemory) → OnErr r (x ≡ error.Memory) → OnErr r ((o : Outturn) × IsStarved (AtNode a e) before o × (v ≡ o.world))
-  lacks_told (Ok t) m = tt
-  lacks_told (Err lacks) m = let d = lacks_step before v a e (subst (λ y. Came before v a e (Err y)) m c) in (_, inl (d.0, refl), d.1)
+  pub lacks_told : (r : Result Told NoMemory) (placed : Bool) → OnErr r (x ≡ error.Memory) → OnErr r ((o : Outturn) × IsStarved (AtNode a e) before placed o × (v ≡ o.world))
+  lacks_told (Ok t) placed m = tt
+  lacks_told (Err lacks) placed m = let d = lacks_step before v a e (subst (λ y. Came before v a e (Err y)) m c) in (_, inl (d.0, refl), d.1)

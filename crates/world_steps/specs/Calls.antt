@@ -66,9 +66,9 @@ StarvesBehind (AtHouse e) w o = ⊥
 StarvesBehind HouseCrash w o = ⊥
 StarvesBehind (Cut c) w o = ⊥
 
--- an event finds no memory
-abbrev pub IsStarved : Event → WorldOn → Outturn → Type 0
-IsStarved e on o = Starves on.job e on.world o ⊎ ((on.is_placed ≡ false) × StarvesBehind e on.world o)
+-- an event finds no memory, for itself, or for what was sent and put into slots before; then that has no place afterwards either
+abbrev pub IsStarved : Event → (old : WorldOn) → (placed : Bool) → Outturn → Type 0
+IsStarved e on placed o = Starves on.job e on.world o ⊎ ((on.is_placed ≡ false) × (placed ≡ false) × StarvesBehind e on.world o)
 
 -- what a call of a node does by an event, with the packet that is delivered
 abbrev pub Carries : NodeEvent → Option PacketOf → Result NodeStep NodeError → (old new : NodeOn) → Type 0

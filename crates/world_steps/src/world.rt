@@ -146,7 +146,7 @@ impl<'a> World<'a> {
         requires { IsOfJob self.old.job (option_copied turn) }
         ensures job { self.new.job ≡ self.old.job }
         ensures step { IfOk result (λ t. (o : Outturn) × StepOf self.old.job event.now self.old.world o × (self.new.world ≡ o.world) × (t ≡ told_of o.answer)) }
-        ensures starved { OnErr result ((o : Outturn) × IsStarved event.now self.old o × (self.new.world ≡ o.world)) }
+        ensures starved { OnErr result ((o : Outturn) × IsStarved event.now self.old self.new.is_placed o × (self.new.world ≡ o.world)) }
     {
         match event {
             Event::Start(place, word) => self.start(alloc, *place, *word),
@@ -173,7 +173,7 @@ impl<'a> World<'a> {
         ensures job { self.new.job ≡ self.old.job }
         ensures same { self.new.world ≡ self.old.world }
         ensures placed { OnOk result (self.new.is_placed ≡ true) }
-        ensures refused { OnErr result (self.old.is_placed ≡ false) }
+        ensures refused { OnErr result ((self.old.is_placed ≡ false) × (self.new.is_placed ≡ false)) }
     {
         self.net.place()?;
         self.fills.place()?;
@@ -238,7 +238,7 @@ impl<'a> World<'a> {
     fn start(&mut self, alloc: Global, place: NodePlace, word: u64) -> Result<Told, NoMemory>
         ensures job { self.new.job ≡ self.old.job }
         ensures step { IfOk result (λ t. (o : Outturn) × StepOf self.old.job (events.Start place word) self.old.world o × (self.new.world ≡ o.world) × (t ≡ told_of o.answer)) }
-        ensures starved { OnErr result ((o : Outturn) × IsStarved (events.Start place word) self.old o × (self.new.world ≡ o.world)) }
+        ensures starved { OnErr result ((o : Outturn) × IsStarved (events.Start place word) self.old self.new.is_placed o × (self.new.world ≡ o.world)) }
     {
         let Some(incarnation) = self.starts(place, word) else {
             return Ok(Told::Unfit);
@@ -262,7 +262,7 @@ impl<'a> World<'a> {
         requires { IsOfJob self.old.job (option_copied turn) }
         ensures job { self.new.job ≡ self.old.job }
         ensures step { IfOk result (λ t. (o : Outturn) × StepOf self.old.job (events.AtNode place event) self.old.world o × (self.new.world ≡ o.world) × (t ≡ told_of o.answer)) }
-        ensures starved { OnErr result ((o : Outturn) × IsStarved (events.AtNode place event) self.old o × (self.new.world ≡ o.world)) }
+        ensures starved { OnErr result ((o : Outturn) × IsStarved (events.AtNode place event) self.old self.new.is_placed o × (self.new.world ≡ o.world)) }
     {
         self.may_choose(place);
         if !self.fits(place, event) {
@@ -352,7 +352,7 @@ impl<'a> World<'a> {
     fn at_house(&mut self, alloc: Global, event: HouseEvent) -> Result<Told, NoMemory>
         ensures job { self.new.job ≡ self.old.job }
         ensures step { IfOk result (λ t. (o : Outturn) × StepOf self.old.job (events.AtHouse event) self.old.world o × (self.new.world ≡ o.world) × (t ≡ told_of o.answer)) }
-        ensures starved { OnErr result ((o : Outturn) × IsStarved (events.AtHouse event) self.old o × (self.new.world ≡ o.world)) }
+        ensures starved { OnErr result ((o : Outturn) × IsStarved (events.AtHouse event) self.old self.new.is_placed o × (self.new.world ≡ o.world)) }
     {
         if !self.seat.applies(event, delivered(&self.net, event)) {
             return Ok(self.unheard());
@@ -369,7 +369,7 @@ impl<'a> World<'a> {
     fn cut(&mut self, alloc: Global, cut: &Cut) -> Result<Told, NoMemory>
         ensures job { self.new.job ≡ self.old.job }
         ensures step { IfOk result (λ t. (o : Outturn) × StepOf self.old.job (events.Cut cut.now) self.old.world o × (self.new.world ≡ o.world) × (t ≡ told_of o.answer)) }
-        ensures starved { OnErr result ((o : Outturn) × IsStarved (events.Cut cut.now) self.old o × (self.new.world ≡ o.world)) }
+        ensures starved { OnErr result ((o : Outturn) × IsStarved (events.Cut cut.now) self.old self.new.is_placed o × (self.new.world ≡ o.world)) }
     {
         self.seat.can_cut();
         if !self

@@ -39,7 +39,7 @@ pop_as-requires-clause-rule g c = (takes _ _ (omega (arith, c.loop-turn.invarian
 pub loop-turn-preserved : goal.loop-turn-preserved
 loop-turn-preserved g c =
     let was = c.loop-turn.invariant in
-    let v : Lane g.row.D.Denot = view c.loop-turn.keeper in
+    let v : Lane g.row.D.Denot g.row.D-Stamp.Denot = view c.loop-turn.keeper in
     let turn : g.row.D.Denot = c.in-Some.turn in
     let took = c.in-Some.ensures.rule in
     let number : ℕ = took.0 in

@@ -8,13 +8,14 @@ use Rattle.local_pool.proofs.turns.gather_all.Goals as goal
 
 pub loop-pass-preserved : goal.loop-pass-preserved
 loop-pass-preserved g c =
-    let Pass : Type 0 = PassOf g.row.D.Denot in
+    let Pass : Type 0 = PassOf g.row.D.Denot g.row.D-Stamp.Denot in
     let rest : List Pass = c.pop.new.self.items in
     let one : Pass = c.in-Some.pass in
     let popped = c.in-Some.ensures.items in
     record {
       here = search rules;
       parts = omega (arith, c.in-Some.ensures.cases, c.gather.ensures.part, c.loop-pass.invariant.parts);
+      some_part = omega (arith, c.gather.ensures.part);
       own = (All-pop (λ (p : Pass). p.queue ≡ c.args.line.now.table.shared.table_id) _ _ _ c.pop.ensures.items c.loop-pass.invariant.own).0;
       put = λ weight.
           let was = c.loop-pass.invariant.put weight in

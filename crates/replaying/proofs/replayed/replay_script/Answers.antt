@@ -2,7 +2,7 @@ use Rattle.std.proofs.Common.{◌≡◌, ◌∙◌, ℕ, List, refl, subst, sym,
 use Rattle.event_script.specs.declared.event.Event.{Event}
 use Rattle.serial_meaning.specs.Job.{JobOf}
 use Rattle.world.specs.Runs.{IsReplay, IsRun}
-use Rattle.world_steps.specs.World.{WorldOf}
+use Rattle.world_steps.specs.Calls.{WorldOn}
 use Rattle.world_steps.specs.declared.parts.NoMemory.{NoMemory}
 use Rattle.replaying.proofs.replayed.replay_script.Goals as goal
 
@@ -11,7 +11,7 @@ none_is None is = refl
 none_is (Some e) is = absurd cc
 
 -- a replay that nothing stopped is a run
-whole : (job : JobOf) (events : List Event) (done : ℕ) (stopped : Option NoMemory) (v : WorldOf) → stopped ≡ None → IsReplay job events done stopped v → IsRun job events done None v
+whole : (job : JobOf) (events : List Event) (done : ℕ) (stopped : Option NoMemory) (v : WorldOn) → stopped ≡ None → IsReplay job events done stopped v → IsRun job events done None v
 whole job events done stopped v none replay =
     let r : IsReplay job events done None v = subst (λ s. IsReplay job events done s v) none replay in
     record { run = record { disk = r.run.disk; formatted = r.run.formatted; entries = r.run.entries; worlds = r.run.worlds; runs = r.run.runs; carried = r.run.carried; ends = r.run.ends }; safe = r.safe; last = r.last; openings = r.openings }
@@ -22,8 +22,8 @@ returns-clause-run c =
     record {
       events = run.0;
       read = run.1;
-      world = c.in_ok-end.end.world.world;
-      run = whole c.args.job.now run.0 c.in_ok-end.end.done c.in_ok-end.end.stopped c.in_ok-end.end.world.world (none_is c.in_ok-end.end.stopped (sym c.is_some.ensures ∙ c.if-is_some.false)) run.2;
+      on = c.in_ok-end.end.world;
+      run = whole c.args.job.now run.0 c.in_ok-end.end.done c.in_ok-end.end.stopped c.in_ok-end.end.world (none_is c.in_ok-end.end.stopped (sym c.is_some.ensures ∙ c.if-is_some.false)) run.2;
       packets = c.packets.ensures;
       fills = c.fills.ensures;
       outcome = c.outcome.ensures;

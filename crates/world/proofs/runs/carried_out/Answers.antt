@@ -14,7 +14,7 @@ returns-then-not-carry_on-clause-run c =
     let s = c.if-not-carry_on.ensures.starved refl in
     let next = slice_get_read c.args.events.now _ c.loop-event.event-index c.event-item.result refl c.loop-event-test.true c.event-item.is in
     rw (s.3, at.1, s.5)
-    (one_starved c.args.job.now c.args.events.now (take c.loop-event.event-index c.args.events.now) c.loop-event.event-index s.4 c.event-item.result c.loop-event.run.world s.0 c.carry_on.new.self.world.world at.0 at.3 refl next s.1 s.2)
+    (one_starved c.args.job.now c.args.events.now (take c.loop-event.event-index c.args.events.now) c.loop-event.event-index s.4 c.event-item.result c.loop-event.run.world s.0 c.carry_on.new.self.world at.0 at.3 refl next s.1 s.2)
 
 pub loop-event-preserved : goal.loop-event-preserved
 loop-event-preserved c =

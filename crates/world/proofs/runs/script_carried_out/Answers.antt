@@ -25,7 +25,7 @@ returns-then-not-carry_on-clause-run c =
       events,
       at.3,
       rw (s.3, s.5)
-          (script_starved c.args.job.now events at.2 c.loop-event.run.done s.4 c.in-Ok-Some.event c.loop-event.run.world s.0 c.carry_on.new.self.world.world at.0 at.5 (take_past at.2 c.loop-event.script c.loop-event.run.done at.4) get s.1 s.2),
+          (script_starved c.args.job.now events at.2 c.loop-event.run.done s.4 c.in-Ok-Some.event c.loop-event.run.world s.0 c.carry_on.new.self.world at.0 at.5 (take_past at.2 c.loop-event.script c.loop-event.run.done at.4) get s.1 s.2),
     )
 
 pub loop-event-preserved-else-not-carry_on : goal.loop-event-preserved-else-not-carry_on
@@ -50,4 +50,4 @@ returns-in-Err-next-clause-run c =
     let events = at.2 ++ c.loop-event.script in
     let left = cut_left c.loop-event.script c.in-Err-next.ensures.cut in
     let get = get_left at.2 c.loop-event.script left.1 left.0 c.loop-event.run.done at.4 left.2 in
-    (events, at.3, bytes_starved c.args.job.now events at.2 c.loop-event.run.done _ left.0 c.loop-event.run.world.world at.5 (take_past at.2 c.loop-event.script c.loop-event.run.done at.4) get left.3)
+    (events, at.3, bytes_starved c.args.job.now events at.2 c.loop-event.run.done _ left.0 c.loop-event.run.world at.5 (take_past at.2 c.loop-event.script c.loop-event.run.done at.4) get left.3)

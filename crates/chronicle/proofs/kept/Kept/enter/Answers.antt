@@ -14,7 +14,7 @@ invariant_of-self-in_default c =
     let s = c.in_default.ensures.starved in
     subst (λ j. Reaches j c.reserve.new.self.items c.step.new.self.world true) (sym c.step.ensures.job)
     (starves c.self.inside.world.job c.self.inside.entries.items c.reserve.new.self.items c.self.inside.world.world c.step.new.self.world (search rules)
-    (inr (record { event = c.args.event; is_placed = c.self.inside.world.is_placed; after = s.0; starved = s.1; left = s.2 })) here)
+    (inr (record { event = c.args.event; was_placed = c.self.inside.world.is_placed; is_placed = c.step.new.self.is_placed; after = s.0; starved = s.1; left = s.2 })) here)
 
 pub invariant_of-self-2 : goal.invariant_of-self-2
 invariant_of-self-2 c =

@@ -8,7 +8,7 @@ returns-clause-ok g c = (
   λ weight.
       let a = c.drain.ensures.1 weight in
       let b = c.gather_all.ensures.put weight in
-      let none = ap (λ l. sum_by weight (l ++ put_by c.args.passes.items)) c.keeper.invariant.put in
+      let same = ap (λ k. sum_by weight (k.put ++ put_by c.args.passes.items)) c.keeper.view_is in
       omega arith,
   λ weight.
       let a = c.drain.ensures.2 weight in

@@ -1,0 +1,18 @@
+-- What a run on threads answers.
+use Rattle.std.specs.Prelude.{◌≡◌, Some, IfSome}
+use Rattle.serial_meaning.specs.Job.{JobOf, meaning_of}
+use Rattle.chronicle.specs.History.{IsSafeHistory, first_outcome}
+use Rattle.chronicle.specs.Seats.{ChronicleOf, IsSeatIn}
+use Rattle.start_words.specs.Words.{IsPenOf, TableOf}
+use Rattle.node_runner.specs.declared.run.ActorContext.{ActorContext}
+use Rattle.node_runner.specs.declared.run.Ran.{Ran}
+
+-- the outcome is the job's meaning, and the trace a safe history of the job that tells it first
+pub record IsRanOf (job : JobOf) (ran : Ran) : Type 0 where
+  pub meant : ran.outcome ≡ meaning_of job
+  pub safe : IsSafeHistory job ran.trace
+  pub told : first_outcome ran.trace ≡ Some ran.outcome
+
+-- an actor's context, in a chronicle, with a pen of a table of start words
+abbrev pub IsContextIn : ChronicleOf → TableOf → ActorContext → Type 0
+IsContextIn c words context = IsSeatIn c context.seat × IfSome context.pen (IsPenOf words)

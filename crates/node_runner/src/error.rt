@@ -1,0 +1,15 @@
+use thiserror::Error;
+
+/// Why a run ends without an outcome.
+#[derive(Clone, Copy, Debug, PartialEq, Eq, Error)]
+pub enum RunError {
+    /// E95: all turns were taken.
+    #[error("E95")]
+    TurnsSpent,
+    /// E96: there is no memory.
+    #[error("E96")]
+    Memory,
+    /// E97: the clearinghouse can't go on with its disk. The number of its refusal (62, or 70 to 73) is told in place of this one.
+    #[error("E{0}")]
+    Disk(u8),
+}

@@ -1,0 +1,152 @@
+ghost use Rattle.std.specs.Prelude.{◌≡◌};
+ghost use Rattle.serial_meaning.specs.Job.{meaning_of};
+ghost use Rattle.chronicle.specs.Seats.{IsSeatIn};
+
+use crate::counts::End;
+use crate::fates::Fates;
+use crate::gate::Gate;
+use crate::inbox::Inbox;
+use crate::resting::rest;
+use crate::shared::{Shared, commit};
+use board::Note;
+use chronicle::{ActorSeat, Receiver};
+use clearinghouse::HouseError;
+use event_script::{Event, HouseEvent};
+use std::alloc::Global;
+use std::sync::Wait;
+use std::time::Clock;
+use world_steps::Told;
+
+/// How many events are committed between two ticks of the clearinghouse, and how far the moment goes with each.
+const TICK: u64 = 100;
+
+/// The place of the clearinghouse, from which its fates are drawn: behind those of nodes.
+const PLACE: u64 = 64;
+
+/// The clearinghouse of a run: its packets, how many events were committed when it ticked last, how often it did, and in how many
+/// turns in a row it did nothing.
+#[derive(Drop)]
+struct House {
+    inbox: Inbox,
+    ticked: u64,
+    ticks: u64,
+    idle: u64,
+}
+
+/// The clearinghouse's turns, until the run ends. It is opened first.
+pub(crate) fn run_house<'a, R: Wait + Clock, G: Gate + Sync>(
+    rt: &R,
+    alloc: Global,
+    shared: &Shared<'_, 'a, G>,
+    mut seat: ActorSeat<'a>,
+) -> ActorSeat<'a>
+    requires seat { IsSeatIn shared.now.chronicle.now seat }
+    requires tie { shared.now.board.now.outcome ≡ meaning_of shared.now.chronicle.now.job }
+    ensures { IsSeatIn shared.entry.now.chronicle.now result }
+{
+    let mut note = shared.board.note();
+    let faults = shared.config.faults();
+    let fates = Fates::new(faults.word, PLACE, faults.lose, faults.repeat);
+    let mut house = House {
+        inbox: Inbox::new(Receiver::Clearinghouse, fates),
+        ticked: 0,
+        ticks: 0,
+        idle: 0,
+    };
+    if !goes_on(rt, shared, &mut seat, &mut note, HouseEvent::Restart) {
+        return seat;
+    }
+    for _ in rt.forever() {
+        if !shared.counts.takes_turn()
+            || !turn(rt, alloc, shared, &mut seat, &mut note, &mut house)
+        {
+            break;
+        }
+    }
+    seat
+}
+
+/// A turn: the next packet is taken, and afterwards it ticks, if it is time. Whether the run goes on.
+fn turn<'a, R: Wait + Clock, G: Gate + Sync>(
+    rt: &R,
+    alloc: Global,
+    shared: &Shared<'_, 'a, G>,
+    seat: &mut ActorSeat<'a>,
+    note: &mut Note,
+    house: &mut House,
+) -> bool
+    requires seat { IsSeatIn shared.now.chronicle.now seat.old }
+    requires tie { shared.now.board.now.outcome ≡ meaning_of shared.now.chronicle.now.job }
+    requires note { note.old.board ≡ shared.now.board.now.board }
+    ensures seat { IsSeatIn shared.entry.now.chronicle.now seat.new }
+    ensures note { note.new.board ≡ note.old.board }
+{
+    let arrived = house.inbox.take(rt, alloc, shared.chronicle, seat);
+    shared.pace.sees(house.inbox.seen());
+    if let Some(arrived) = arrived {
+        house.idle = 0;
+        if !goes_on(rt, shared, seat, note, HouseEvent::Deliver(arrived.index)) {
+            return false;
+        }
+    } else {
+        house.idle = house.idle.saturating_add(1);
+        rest(rt, 1, house.idle);
+    }
+    let events = shared.counts.events();
+    if events < house.ticked.saturating_add(TICK) {
+        return true;
+    }
+    house.ticked = events;
+    house.ticks = house.ticks.saturating_add(1);
+    let moment = house.ticks.saturating_mul(TICK);
+    goes_on(rt, shared, seat, note, HouseEvent::Tick(moment))
+}
+
+/// An event of the clearinghouse is committed. The run goes on, unless an outcome is told, which is published, or the clearinghouse
+/// can't go on with its disk, or there is no memory.
+fn goes_on<'a, R: Wait, G: Gate + Sync>(
+    rt: &R,
+    shared: &Shared<'_, 'a, G>,
+    seat: &mut ActorSeat<'a>,
+    note: &mut Note,
+    event: HouseEvent,
+) -> bool
+    requires seat { IsSeatIn shared.now.chronicle.now seat.old }
+    requires tie { shared.now.board.now.outcome ≡ meaning_of shared.now.chronicle.now.job }
+    requires note { note.old.board ≡ shared.now.board.now.board }
+    ensures seat { IsSeatIn shared.entry.now.chronicle.now seat.new }
+    ensures note { note.new.board ≡ note.old.board }
+{
+    let event = Event::AtHouse(event);
+    let Some(committed) = commit(rt, shared.chronicle, shared.counts, seat, event, None) else {
+        return false;
+    };
+    if let Some(outcome) = committed.outcome() {
+        if shared.board.publish(note, outcome).is_err() {
+            shared.counts.ends(End::Memory);
+        }
+        return false;
+    }
+    match refused(committed.told) {
+        Some(number) => {
+            shared.counts.ends(End::Disk(number));
+            false
+        }
+        None => true,
+    }
+}
+
+/// The number of a refusal after which the clearinghouse can't go on.
+fn refused(told: Told) -> Option<u8> {
+    let Told::House(Some(error), _, _) = told else {
+        return None;
+    };
+    match error {
+        HouseError::Spent
+        | HouseError::JobMismatch
+        | HouseError::Damaged
+        | HouseError::Device
+        | HouseError::Version => Some(error.number()),
+        HouseError::Bytes(_) | HouseError::RosterFull | HouseError::Memory => None,
+    }
+}

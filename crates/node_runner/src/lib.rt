@@ -1,0 +1,41 @@
+//! A job on many nodes and a clearinghouse, each on a thread of its own.
+//!
+//! **Actors and turns.** Each place of a node has an actor, and so has the clearinghouse. An actor takes turn after turn, until the outcome is
+//! known or all turns are taken. In a turn a node takes the next packet that is addressed to it, else it runs one ready frame, else it asks
+//! the clearinghouse or a live member for work. A thread body is evaluated outside the lock of the chronicle, once the gate lets it. A node
+//! sends again after 16 turns with nothing done, then after twice as many each time, up to 4,096; and where 100 events were committed since.
+//! The clearinghouse takes its packets, and ticks where 100 events were committed since. One whose node has been declared dead starts
+//! another, with a new word. A node that sent again holds while another actor is behind it, so that none is taken for dead because its
+//! thread is slow.
+//!
+//! **Faults** are drawn from one word, for each place by itself: packets that are lost and that come twice (`Fates`), and whom a node asks.
+//! Crash i comes once 50 i events were committed, on the place i modulo the count of nodes; departure i once 50 i + 25 were, on the i-th
+//! place from the end.
+//!
+//! **Proved**: an outcome that `run_job` answers is the job's meaning, and its trace is a safe history of the job which tells it first,
+//! whatever threads do; packets have the fates that the generator gives.
+//!
+//! **Not proved**: that an outcome comes, which of its refusals comes when, that the nodes share the work, and that the crashes and
+//! departures come that are asked for.
+#![tactic(auto)]
+
+mod config;
+mod counts;
+mod error;
+mod fates;
+mod gate;
+mod house;
+mod inbox;
+mod members;
+mod node;
+mod pace;
+mod plans;
+mod resting;
+mod run;
+mod shared;
+
+pub use config::{Faults, RunConfig};
+pub use error::RunError;
+pub use fates::{Fate, Fates};
+pub use gate::{Gate, Open};
+pub use run::{Ran, run_job};

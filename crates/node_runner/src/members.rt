@@ -1,0 +1,86 @@
+use codec::{Body, decode};
+use event_script::Asked;
+use ids::{Member, Status};
+use rand_core::SeedableRng;
+use rand_core::utils::NextWord;
+use rand_pcg::Pcg32;
+use std::alloc::Global;
+
+/// How far behind a place's fates its victims are drawn.
+const VICTIMS: u64 = 128;
+
+/// Who is listed, by the last roster that a node took, and the generator by which it draws whom it asks.
+#[derive(Drop)]
+pub(crate) struct Members {
+    listed: Vec<Member>,
+    victims: Pcg32,
+}
+
+impl Members {
+    /// Nobody is listed yet, at a place, by a fault word.
+    pub(crate) fn new(alloc: Global, word: u64, place: u64) -> Members {
+        Members {
+            listed: Vec::new(alloc),
+            victims: Pcg32::seed_from_u64(word.wrapping_add(place).wrapping_add(VICTIMS)),
+        }
+    }
+
+    /// Nobody is listed any more.
+    pub(crate) fn forget(&mut self) {
+        self.listed.clear();
+    }
+
+    /// A node took a packet: where it is a roster, its members are listed. Bytes that find no memory are passed over, and the next
+    /// roster tells more.
+    pub(crate) fn take(&mut self, alloc: Global, bytes: &[u8]) {
+        let Ok(packet) = decode(alloc, bytes) else {
+            return;
+        };
+        if let Body::Roster(roster) = packet.into_body() {
+            self.listed = roster.members.into_vec();
+        }
+    }
+
+    /// Whom a node of a start word asks next: drawn among the clearinghouse and the other live members. None where nobody is listed.
+    pub(crate) fn victim(&mut self, word: u64) -> Option<Asked> {
+        if self.listed.is_empty() {
+            return None;
+        }
+        let mut others = 0u64;
+        for member in &self.listed {
+            if is_other(member, word) {
+                others = others.saturating_add(1);
+            }
+        }
+        let drawn = u64::from(self.victims.next_word()) % others.saturating_add(1);
+        Some(match self.other(word, drawn) {
+            Some(other) => Asked::Worker(other),
+            None => Asked::House,
+        })
+    }
+
+    /// The least other live member, to which a node of a start word may leave.
+    pub(crate) fn heir(&self, word: u64) -> Option<u64> {
+        self.other(word, 0)
+    }
+
+    /// The start word of the other live member that comes after so many.
+    fn other(&self, word: u64, before: u64) -> Option<u64> {
+        let mut left = before;
+        for member in &self.listed {
+            if !is_other(member, word) {
+                continue;
+            }
+            if left == 0 {
+                return Some(member.incarnation.word());
+            }
+            left -= 1;
+        }
+        None
+    }
+}
+
+/// Whether a member is live, and another one than the node of a start word.
+fn is_other(member: &Member, word: u64) -> bool {
+    member.status == Status::Live && member.incarnation.word() != word
+}

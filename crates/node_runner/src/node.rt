@@ -1,0 +1,459 @@
+ghost use Rattle.std.specs.Prelude.{◌≡◌, IfSome, length};
+ghost use Rattle.kind_check.specs.Total.{Takes};
+ghost use Rattle.chronicle.specs.Seats.{IsSeatIn};
+
+use crate::counts::End;
+use crate::fates::Fates;
+use crate::gate::Gate;
+use crate::inbox::Inbox;
+use crate::members::Members;
+use crate::plans::Plans;
+use crate::resting::{pause, pauses, rest};
+use crate::shared::{Shared, commit};
+use body_eval::Done;
+use chronicle::{ActorSeat, Arrived, Receiver};
+use event_script::{Event, FrameOf, NodeEvent, NodePlace};
+use node_core::{NodeError, Work};
+use start_words::Pen;
+use std::alloc::Global;
+use std::sync::Wait;
+use std::thread::yield_now;
+use std::time::Clock;
+use world_steps::Told;
+
+/// After how many turns in a row with nothing done a node sends again, at first and at most.
+const PATIENCE: u64 = 16;
+
+const MOST_PATIENCE: u64 = 4096;
+
+/// How many events may be committed until a node sends again.
+const SILENCE: u64 = 100;
+
+/// In how many turns a node that sent again holds at most while another actor is behind.
+const HOLDS: u64 = 10_000;
+
+/// A node place of a run.
+#[derive(Drop)]
+struct Node {
+    place: NodePlace,
+    /// The start word of the node that is up.
+    word: u64,
+    inbox: Inbox,
+    members: Members,
+    plans: Plans,
+    /// Whether a frame may have become ready since there was none.
+    may_be_ready: bool,
+    /// Whether a request waits for its answer.
+    has_asked: bool,
+    /// Whether it leaves, and whether it has ended then.
+    leaves: bool,
+    is_over: bool,
+    /// In how many turns in a row nothing was done, and in how many since it sent again last, and after how many it sends again.
+    rested: u64,
+    idle: u64,
+    patience: u64,
+    /// How many events were committed when it sent again last.
+    sent: u64,
+    /// Whether it holds while another actor is behind, and in how many turns it did since it sent again last.
+    holds: bool,
+    held: u64,
+    /// How often it asked since it ran a frame, and in how many turns it pauses until it asks once more.
+    dry: u64,
+    pauses: u64,
+}
+
+/// The turns of a node place, until the run ends.
+pub(crate) fn run_node<'a, R: Wait + Clock, G: Gate + Sync>(
+    rt: &R,
+    alloc: Global,
+    shared: &Shared<'_, 'a, G>,
+    mut seat: ActorSeat<'a>,
+    mut pen: Pen,
+    place: NodePlace,
+) -> ActorSeat<'a>
+    requires seat { IsSeatIn shared.now.chronicle.now seat }
+    requires pen { pen.table ≡ shared.now.words.now.table }
+    ensures { IsSeatIn shared.entry.now.chronicle.now result }
+{
+    let mut note = shared.board.note();
+    let faults = shared.config.faults();
+    let number = u64::from(place.index());
+    let fates = Fates::new(faults.word, number, faults.lose, faults.repeat);
+    let mut node = Node {
+        place,
+        word: 0,
+        inbox: Inbox::new(Receiver::Worker(0), fates),
+        members: Members::new(alloc, faults.word, number),
+        plans: Plans::new(shared.config, place),
+        may_be_ready: false,
+        has_asked: false,
+        leaves: false,
+        is_over: false,
+        rested: 0,
+        idle: 0,
+        patience: PATIENCE,
+        sent: 0,
+        holds: false,
+        held: 0,
+        dry: 0,
+        pauses: 0,
+    };
+    if !starts(rt, shared, &mut seat, &mut pen, &mut node) {
+        return seat;
+    }
+    for _ in rt.forever() {
+        if !shared.counts.takes_turn()
+            || shared.board.read(&mut note).is_some()
+            || !turn(rt, alloc, shared, &mut seat, &mut pen, &mut node)
+        {
+            break;
+        }
+    }
+    seat
+}
+
+/// A turn: a crash that is due; or else a departure and a Resend that are due, and then the next packet, a ready frame, or a request. So
+/// a node goes on with what came to it however often it has to send again. After a Resend it does nothing while another actor is
+/// behind it. Whether there was memory.
+fn turn<'a, R: Wait + Clock, G: Gate + Sync>(
+    rt: &R,
+    alloc: Global,
+    shared: &Shared<'_, 'a, G>,
+    seat: &mut ActorSeat<'a>,
+    pen: &mut Pen,
+    node: &mut Node,
+) -> bool
+    requires seat { IsSeatIn shared.now.chronicle.now seat.old }
+    requires pen { pen.old.table ≡ shared.now.words.now.table }
+    ensures seat { IsSeatIn shared.entry.now.chronicle.now seat.new }
+    ensures pen { pen.new.table ≡ shared.entry.now.words.now.table }
+{
+    let events = shared.counts.events();
+    if node.plans.crashes(events) && !node.leaves {
+        return crashes(rt, shared, seat, pen, node);
+    }
+    if node.is_over {
+        shared.pace.forgets(node.index());
+        node.rests(rt, shared.config.nodes());
+        return true;
+    }
+    if node.holds && node.is_held(shared.pace.is_behind(shared.chronicle.sent(), node.sent)) {
+        rest(rt, shared.config.nodes(), node.held);
+        return true;
+    }
+    if !node.leaves && node.plans.departs(events) && !departs(rt, shared, seat, node) {
+        return false;
+    }
+    if events >= node.sent.saturating_add(SILENCE) && !sends_again(rt, shared, seat, pen, node) {
+        return false;
+    }
+    if let Some(arrived) = node.inbox.take(rt, alloc, shared.chronicle, seat) {
+        return delivers(rt, alloc, shared, seat, node, &arrived);
+    }
+    if let Some(work) = next_work(rt, alloc, shared, seat, node) {
+        return executes(rt, alloc, shared, seat, node, work);
+    }
+    if !node.has_asked && !node.plans.leaves() {
+        if node.pauses > 0 {
+            node.pauses = node.pauses.saturating_sub(1);
+            pause(rt, shared.config.nodes());
+            return true;
+        }
+        match asks(rt, shared, seat, node) {
+            Some(true) => return true,
+            Some(false) => {}
+            None => return false,
+        }
+    }
+    if node.idle < node.patience {
+        node.idle = node.idle.saturating_add(1);
+        node.rests(rt, shared.config.nodes());
+        return true;
+    }
+    node.patience = node.patience.saturating_mul(2).min(MOST_PATIENCE);
+    sends_again(rt, shared, seat, pen, node)
+}
+
+/// A node starts at the place, with a new start word. Whether there was memory.
+fn starts<'a, R: Wait, G: Gate + Sync>(
+    rt: &R,
+    shared: &Shared<'_, 'a, G>,
+    seat: &mut ActorSeat<'a>,
+    pen: &mut Pen,
+    node: &mut Node,
+) -> bool
+    requires seat { IsSeatIn shared.now.chronicle.now seat.old }
+    requires pen { pen.old.table ≡ shared.now.words.now.table }
+    ensures seat { IsSeatIn shared.entry.now.chronicle.now seat.new }
+    ensures pen { pen.new.table ≡ shared.entry.now.words.now.table }
+{
+    let Ok(word) = pen.draw(shared.words) else {
+        node.is_over = true;
+        return true;
+    };
+    node.word = word;
+    node.inbox.receiver = Receiver::Worker(word);
+    node.members.forget();
+    node.may_be_ready = false;
+    node.has_asked = false;
+    node.rested = 0;
+    node.idle = 0;
+    node.patience = PATIENCE;
+    shared.pace.hears(node.index(), shared.counts.events());
+    let event = Event::Start(node.place, word);
+    commit(rt, shared.chronicle, shared.counts, seat, event, None).is_some()
+}
+
+/// The node of the place loses its memory, and another one starts. Whether there was memory.
+fn crashes<'a, R: Wait, G: Gate + Sync>(
+    rt: &R,
+    shared: &Shared<'_, 'a, G>,
+    seat: &mut ActorSeat<'a>,
+    pen: &mut Pen,
+    node: &mut Node,
+) -> bool
+    requires seat { IsSeatIn shared.now.chronicle.now seat.old }
+    requires pen { pen.old.table ≡ shared.now.words.now.table }
+    ensures seat { IsSeatIn shared.entry.now.chronicle.now seat.new }
+    ensures pen { pen.new.table ≡ shared.entry.now.words.now.table }
+{
+    let event = Event::Crash(node.place);
+    if commit(rt, shared.chronicle, shared.counts, seat, event, None).is_none() {
+        return false;
+    }
+    starts(rt, shared, seat, pen, node)
+}
+
+/// An event of the node is committed, with a turn that was evaluated, if one was. What was told of it; none where there was no memory.
+fn does<'a, R: Wait, G: Gate + Sync>(
+    rt: &R,
+    shared: &Shared<'_, 'a, G>,
+    seat: &mut ActorSeat<'a>,
+    node: &mut Node,
+    event: NodeEvent,
+) -> Option<Told>
+    requires { IsSeatIn shared.now.chronicle.now seat.old }
+    ensures { IsSeatIn shared.entry.now.chronicle.now seat.new }
+{
+    let event = Event::AtNode(node.place, event);
+    let committed = commit(rt, shared.chronicle, shared.counts, seat, event, None)?;
+    node.notes(committed.told);
+    Some(committed.told)
+}
+
+/// The node leaves to the least other live member, if there is one and it may. Whether there was memory.
+fn departs<'a, R: Wait, G: Gate + Sync>(
+    rt: &R,
+    shared: &Shared<'_, 'a, G>,
+    seat: &mut ActorSeat<'a>,
+    node: &mut Node,
+) -> bool
+    requires { IsSeatIn shared.now.chronicle.now seat.old }
+    ensures { IsSeatIn shared.entry.now.chronicle.now seat.new }
+{
+    let Some(heir) = node.members.heir(node.word) else {
+        return true;
+    };
+    match does(rt, shared, seat, node, NodeEvent::Depart(heir)) {
+        Some(Told::Did(_, _)) => {
+            node.leaves = true;
+            true
+        }
+        Some(_) => true,
+        None => false,
+    }
+}
+
+/// The node sends again. One that has ended is over where it left; else it crashes, and another one starts. Whether there was memory.
+fn sends_again<'a, R: Wait, G: Gate + Sync>(
+    rt: &R,
+    shared: &Shared<'_, 'a, G>,
+    seat: &mut ActorSeat<'a>,
+    pen: &mut Pen,
+    node: &mut Node,
+) -> bool
+    requires seat { IsSeatIn shared.now.chronicle.now seat.old }
+    requires pen { pen.old.table ≡ shared.now.words.now.table }
+    ensures seat { IsSeatIn shared.entry.now.chronicle.now seat.new }
+    ensures pen { pen.new.table ≡ shared.entry.now.words.now.table }
+{
+    node.sent = shared.counts.events();
+    node.holds = true;
+    node.held = 0;
+    shared.pace.hears(node.index(), node.sent);
+    let (rested, patience) = (node.rested, node.patience);
+    let Some(told) = does(rt, shared, seat, node, NodeEvent::Resend) else {
+        return false;
+    };
+    (node.rested, node.patience) = (rested, patience);
+    match told {
+        Told::Refused(NodeError::NotJoined) if node.leaves => {
+            node.is_over = true;
+            true
+        }
+        Told::Refused(NodeError::NotJoined) => crashes(rt, shared, seat, pen, node),
+        _ => true,
+    }
+}
+
+/// A packet comes to the node. Whether there was memory.
+fn delivers<'a, R: Wait, G: Gate + Sync>(
+    rt: &R,
+    alloc: Global,
+    shared: &Shared<'_, 'a, G>,
+    seat: &mut ActorSeat<'a>,
+    node: &mut Node,
+    arrived: &Arrived,
+) -> bool
+    requires { IsSeatIn shared.now.chronicle.now seat.old }
+    ensures { IsSeatIn shared.entry.now.chronicle.now seat.new }
+{
+    let Some(told) = does(rt, shared, seat, node, NodeEvent::Deliver(arrived.index)) else {
+        return false;
+    };
+    node.has_asked = false;
+    if let Told::Did(_, _) = told {
+        node.members.take(alloc, &arrived.bytes);
+    }
+    true
+}
+
+/// A ready frame of the node, if it may have one.
+fn next_work<'a, R: Wait, G: Gate + Sync>(
+    rt: &R,
+    alloc: Global,
+    shared: &Shared<'_, 'a, G>,
+    seat: &mut ActorSeat<'a>,
+    node: &mut Node,
+) -> Option<Work>
+    requires { IsSeatIn shared.now.chronicle.now seat.old }
+    ensures same { seat.new ≡ seat.old }
+    ensures fits { IfSome result (λ w. Takes shared.entry.now.chronicle.now.job.program w.thread (length w.numbers)) }
+{
+    if !node.may_be_ready {
+        return None;
+    }
+    let work = shared.chronicle.ready(rt, alloc, seat, node.place, 0);
+    node.may_be_ready = work.is_some();
+    work
+}
+
+/// The body of a ready frame is evaluated, once the gate lets it, and the frame is carried out. Whether there was memory.
+fn executes<'a, R: Wait + Clock, G: Gate + Sync>(
+    rt: &R,
+    alloc: Global,
+    shared: &Shared<'_, 'a, G>,
+    seat: &mut ActorSeat<'a>,
+    node: &mut Node,
+    work: Work,
+) -> bool
+    requires seat { IsSeatIn shared.now.chronicle.now seat.old }
+    requires fits { Takes shared.now.chronicle.now.job.program work.thread (length work.numbers) }
+    ensures { IsSeatIn shared.entry.now.chronicle.now seat.new }
+{
+    if !passes(rt, shared, node) {
+        return true;
+    }
+    let frame = FrameOf {
+        minter: work.grant.minter().word(),
+        number: work.grant.number(),
+        frame: u64::from(work.frame.number()),
+    };
+    let checked = shared.chronicle.job().checked();
+    let Ok(turn) = Done::of(alloc, checked, work.thread, work.numbers.into_vec()) else {
+        shared.counts.ends(End::Memory);
+        return false;
+    };
+    let event = Event::AtNode(node.place, NodeEvent::Exec(frame));
+    match commit(
+        rt,
+        shared.chronicle,
+        shared.counts,
+        seat,
+        event,
+        Some(&turn),
+    ) {
+        Some(committed) => {
+            node.notes(committed.told);
+            node.dry = 0;
+            node.pauses = 0;
+            true
+        }
+        None => false,
+    }
+}
+
+/// Waits until the gate lets the next body be evaluated, and no other node waits for this one meanwhile. Whether it did before the run
+/// ended.
+fn passes<R: Wait, G: Gate + Sync>(rt: &R, shared: &Shared<'_, '_, G>, node: &Node) -> bool {
+    let body = shared.counts.body();
+    shared.gate.begun(body);
+    if shared.gate.may_go(body) {
+        return true;
+    }
+    shared.pace.forgets(node.index());
+    for _ in rt.forever() {
+        if !shared.counts.takes_turn() {
+            return false;
+        }
+        yield_now();
+        if shared.gate.may_go(body) {
+            break;
+        }
+    }
+    shared.pace.hears(node.index(), node.sent);
+    true
+}
+
+/// The node asks for work, where somebody is listed. Whether it did; none where there was no memory.
+fn asks<'a, R: Wait + Clock, G: Gate + Sync>(
+    rt: &R,
+    shared: &Shared<'_, 'a, G>,
+    seat: &mut ActorSeat<'a>,
+    node: &mut Node,
+) -> Option<bool>
+    requires { IsSeatIn shared.now.chronicle.now seat.old }
+    ensures { IsSeatIn shared.entry.now.chronicle.now seat.new }
+{
+    let Some(victim) = node.members.victim(node.word) else {
+        return Some(false);
+    };
+    node.dry = node.dry.saturating_add(1);
+    node.pauses = pauses(node.dry);
+    let told = does(rt, shared, seat, node, NodeEvent::Ask(victim))?;
+    node.has_asked = match told {
+        Told::Did(_, _) | Told::Refused(NodeError::Pending) => true,
+        _ => false,
+    };
+    Some(node.has_asked)
+}
+
+impl Node {
+    /// The number of its place.
+    fn index(&self) -> usize {
+        usize::from(self.place.index())
+    }
+
+    /// Whether it holds in this turn, where another actor is behind or none is.
+    fn is_held(&mut self, behind: bool) -> bool {
+        self.holds = self.holds && behind && self.held < HOLDS;
+        self.held = self.held.saturating_add(1);
+        self.holds
+    }
+
+    /// What was told of an event of the node: where it did something, a frame may be ready, and it is patient again.
+    fn notes(&mut self, told: Told) {
+        if let Told::Did(_, _) = told {
+            self.may_be_ready = true;
+            self.rested = 0;
+            self.idle = 0;
+            self.patience = PATIENCE;
+        }
+    }
+
+    /// It lets others go on, in a run of so many nodes.
+    fn rests(&mut self, rt: &impl Clock, nodes: u8) {
+        self.rested = self.rested.saturating_add(1);
+        rest(rt, nodes, self.rested);
+    }
+}
