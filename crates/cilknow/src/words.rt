@@ -41,9 +41,10 @@ pub struct RunWords<'a> {
 }
 
 impl<'a> RunWords<'a> {
-    /// Whether nothing asks for threads: one node without faults, of which no trace and no log is written.
+    /// Whether nothing asks for threads: one node with one body worker and without faults, of which no trace and no log is written.
     pub fn is_alone(&self) -> bool {
         self.nodes == 1
+            && self.bodies == 1
             && self.faults.lose == 0
             && self.faults.repeat == 0
             && self.faults.crashes == 0
@@ -93,7 +94,12 @@ fn run_words<'a>(alloc: Global) -> Result<Command<'a>, AllocError> {
             "1",
             "So many nodes, 1 to 64, each on a thread",
         ))?
-        .arg(number_word(alloc, "bodies", "1", "So many body workers a node: 1"))?
+        .arg(number_word(
+            alloc,
+            "bodies",
+            "1",
+            "So many body workers a node, 1 to 8, each on a thread",
+        ))?
         .arg(number_word(alloc, "faults", "1", "The word from which faults are drawn"))?
         .arg(number_word(
             alloc,

@@ -1,20 +1,39 @@
--- Which values of a run are shared by its threads.
+-- Which values of a run are shared by its threads, and which go to others.
 use denote.RattleType.{RattleType}
 use denote.Ref.{NamedLft}
-use denote.Param.Send.{IsSync, recorded_sync, sendable, struct_sync}
+use denote.Param.Send.{IsSend, IsSync, recorded_send, recorded_sync, sendable, struct_send, struct_sync}
 use denote.Struct.Declared.{shape}
 use denote.Struct.Tuple.{TupleAt, type_at}
-use denote.Param.SendFields.{declared_sync}
+use denote.Param.SendFields.{declared_send, declared_sync}
 use denote.Struct.Field.{shr_ref_field}
 use denote.Param.{param}
 use Rattle.std.proofs.Common.{[], ◌∷◌}
-use Rattle.std.proofs.Crossing.{crosses, sync as heap}
+use Rattle.std.proofs.Crossing.{Vec-send, crosses, sync as heap}
 use Rattle.std.specs.contracts.alloc.Global as Heap
+use Rattle.std.specs.contracts.vec.Vec as Vec
+use Rattle.std.below.std_heap.specs.contracts.GlobalAllocator.TheImpl.{ghosts}
 use Rattle.board.specs.contracts.posting.Board as Board
 use Rattle.chronicle.proofs.Crossing.{chronicle}
 use Rattle.ids.proofs.outcome.Outcome.TheSendSync as outcome
 use Rattle.once_cell.proofs.race.once_box.OnceBox.TheSendSync as once
 use Rattle.start_words.proofs.table.WordTable.TheSendSync as words
+use Rattle.local_pool.proofs.owner.Owner.TheSendSync as owner
+use Rattle.local_pool.proofs.worker.BodyWorker.TheSendSync as thief
+use Rattle.local_pool.proofs.turns.TurnPass.TheSendSync as pass
+use Rattle.local_pool.proofs.turns.TurnQueue.TheSendSync as queue
+use Rattle.start_words.proofs.pen.Pen.TheSendSync as pen
+use Rattle.node_runner.specs.contracts.crew.NodeContext as NodeContext
+use Rattle.node_runner.specs.contracts.crew.WorkerContext as WorkerContext
+use Rattle.body_eval.specs.contracts.done.Done as Done
+use Rattle.ids.proofs.listed.Listed.TheSendSync as listed
+use Rattle.local_pool.specs.contracts.owner.Owner as Owner
+use Rattle.local_pool.specs.contracts.worker.BodyWorker as BodyWorker
+use Rattle.node_runner.specs.contracts.desk.Desk as Desk
+use Rattle.node_runner.specs.contracts.desk.Out as Out
+use Rattle.node_runner.specs.contracts.desk.Ticket as Ticket
+use Rattle.node_runner.specs.contracts.turn.Evaluated as Evaluated
+use Rattle.node_runner.specs.contracts.turn.Finished as Finished
+use Rattle.node_runner.specs.contracts.line.Line as Line
 use Rattle.node_runner.specs.contracts.pace.Pace as Pace
 use Rattle.node_runner.specs.contracts.shared.Shared as Shared
 use Rattle.node_runner.proofs.counts.Counts.TheSendSync as counts
@@ -58,3 +77,57 @@ captured l m n o p R G r g =
     let two : IsSync (shr_ref_field m Heap.the_row tt).row = search (sendable, heap) depth 12 in
     let three : IsSync (shr_ref_field n (Shared.the_row o p (param 1 G)) tt).row = search (sendable, shared o p (param 1 G) g) depth 12 in
     declared_sync (type_at [] ((shr_ref_field l (param 0 R) tt).row ∷ (shr_ref_field m Heap.the_row tt).row ∷ (shr_ref_field n (Shared.the_row o p (param 1 G)) tt).row ∷ [])) (record { shared = one.shared }, (record { shared = two.shared }, (record { shared = three.shared }, tt)))
+
+-- tickets, and turns that come back; what a node and a body worker begin with
+
+ticket : IsSend Ticket.the_row
+ticket = search (sendable, crosses) depth 25
+
+done : IsSend Done.the_row
+done = search (sendable, listed.the_send, crosses) depth 25
+
+evaluated : IsSend Evaluated.the_row
+evaluated = search (sendable, done) depth 25
+
+finished : IsSend Finished.the_row
+finished = search (sendable, evaluated, crosses) depth 25
+
+line_field : IsSend (Line.the_field).row
+line_field = struct_send (shape Line.the_type) (search (sendable, finished, queue.the_send, queue.the_sync, crosses) depth 25, (search (sendable, finished, pass.the_send) depth 25, tt))
+
+own : IsSend (Owner.the_row Ticket.the_row)
+own = search (sendable, owner.the_send, ticket) depth 25
+
+steals : IsSend (BodyWorker.the_row Ticket.the_row)
+steals = search (sendable, thief.the_send, ticket) depth 25
+
+outs : IsSend (Vec.the_row Out.the_row Heap.the_row ghosts)
+outs = Vec-send Out.the_row (search sendable depth 20)
+
+desk_field : IsSend (Desk.the_field).row
+desk_field = struct_send (shape Desk.the_type) (search (sendable, own) depth 12, (line_field, (search sendable depth 12, (search sendable depth 12, (search (sendable, outs) depth 12, tt)))))
+
+node_field : IsSend (NodeContext.the_field).row
+node_field = struct_send (shape NodeContext.the_type) (search (sendable, pen.the_send) depth 12, (desk_field, tt))
+
+pub node_context : IsSend NodeContext.the_row
+node_context = recorded_send (NodeContext.the_field).row _ _ (NodeContext.the_type).to_one node_field
+
+worker_field : IsSend (WorkerContext.the_field).row
+worker_field = struct_send (shape WorkerContext.the_type) (search (sendable, steals) depth 12, (line_field, tt))
+
+pub worker_context : IsSend WorkerContext.the_row
+worker_context = recorded_send (WorkerContext.the_field).row _ _ (WorkerContext.the_type).to_one worker_field
+
+pub worker_contexts : IsSend (Vec.the_row WorkerContext.the_row Heap.the_row ghosts)
+worker_contexts = Vec-send WorkerContext.the_row worker_context
+
+-- what the closure captures that is all body workers' turns: the same, and their contexts
+pub captured_workers : (l m n o p : NamedLft) (R G : RattleType) → IsSync (param 0 R) → IsSync (param 1 G)
+    → IsSend (TupleAt [] ((shr_ref_field l (param 0 R) tt).row ∷ (shr_ref_field m Heap.the_row tt).row ∷ (shr_ref_field n (Shared.the_row o p (param 1 G)) tt).row ∷ Vec.the_row WorkerContext.the_row Heap.the_row ghosts ∷ []))
+captured_workers l m n o p R G r g =
+    let one : IsSend (shr_ref_field l (param 0 R) tt).row = search (sendable, r) depth 12 in
+    let two : IsSend (shr_ref_field m Heap.the_row tt).row = search (sendable, heap) depth 12 in
+    let three : IsSend (shr_ref_field n (Shared.the_row o p (param 1 G)) tt).row = search (sendable, shared o p (param 1 G) g) depth 12 in
+    declared_send (type_at [] ((shr_ref_field l (param 0 R) tt).row ∷ (shr_ref_field m Heap.the_row tt).row ∷ (shr_ref_field n (Shared.the_row o p (param 1 G)) tt).row ∷ Vec.the_row WorkerContext.the_row Heap.the_row ghosts ∷ []))
+    (record { owned = one.owned; leaving = one.leaving }, (record { owned = two.owned; leaving = two.leaving }, (record { owned = three.owned; leaving = three.leaving }, (record { owned = worker_contexts.owned; leaving = worker_contexts.leaving }, tt))))

@@ -1,3 +1,5 @@
 pub mod Fates
 pub mod Configs
+pub mod Turns
+pub mod Lines
 pub mod Runs

@@ -35,6 +35,7 @@ impl Faults {
 #[derive(Drop)]
 pub struct RunConfig {
     nodes: u8,
+    bodies: u8,
     faults: Faults,
     turns: u64,
 }
@@ -44,24 +45,24 @@ impl Model for RunConfig {
 
     ghost Value = { ConfigOf };
 
-    ghost view = { λ c. record { nodes = c.nodes; faults = c.faults; turns = c.turns } };
+    ghost view = { λ c. record { nodes = c.nodes; bodies = c.bodies; faults = c.faults; turns = c.turns } };
 
-    ghost invariant = { λ c. IsConfig (record { nodes = c.nodes; faults = c.faults; turns = c.turns }) };
+    ghost invariant = { λ c. IsConfig (record { nodes = c.nodes; bodies = c.bodies; faults = c.faults; turns = c.turns }) };
 }
 
 impl RunConfig {
-    /// A run on so many nodes, 1 to 64, each with so many body workers, in at most so many turns of its actors. None for other counts of
-    /// nodes, where as many nodes leave as there are or more, and for another count of body workers than 1: a node's own thread
-    /// evaluates.
+    /// A run on so many nodes, 1 to 64, each with so many body workers, 1 to 8, in at most so many turns of all its threads. None for
+    /// other counts, and where as many nodes leave as there are or more.
     pub fn new(nodes: u64, bodies: u64, faults: Faults, turns: u64) -> Option<RunConfig>
-        ensures some { IfSome result (λ c. c ≡ record { nodes = nodes; faults = faults; turns = turns }) }
-        ensures none { IsSome result ↔ (IsConfig (record { nodes = nodes; faults = faults; turns = turns }) × (bodies ≡ 1)) }
+        ensures some { IfSome result (λ c. c ≡ record { nodes = nodes; bodies = bodies; faults = faults; turns = turns }) }
+        ensures none { IsSome result ↔ IsConfig (record { nodes = nodes; bodies = bodies; faults = faults; turns = turns }) }
     {
-        if nodes < 1 || nodes > 64 || bodies != 1 || faults.departures >= nodes {
+        if nodes < 1 || nodes > 64 || bodies < 1 || bodies > 8 || faults.departures >= nodes {
             return None;
         }
         Some(RunConfig {
             nodes: nodes as u8,
+            bodies: bodies as u8,
             faults,
             turns,
         })
@@ -73,6 +74,14 @@ impl RunConfig {
         ensures within { (1 ≤ result) × (result ≤ 64) }
     {
         self.nodes
+    }
+
+    /// How many body workers a node.
+    pub fn bodies(&self) -> u8
+        ensures same { result ≡ self.now.bodies }
+        ensures within { (1 ≤ result) × (result ≤ 8) }
+    {
+        self.bodies
     }
 
     /// The faults.

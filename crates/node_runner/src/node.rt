@@ -1,8 +1,8 @@
-ghost use Rattle.std.specs.Prelude.{◌≡◌, IfSome, length};
-ghost use Rattle.kind_check.specs.Total.{Takes};
+ghost use Rattle.std.specs.Prelude.{◌≡◌};
 ghost use Rattle.chronicle.specs.Seats.{IsSeatIn};
+ghost use Rattle.node_runner.specs.Lines.{IsLineOf};
 
-use crate::counts::End;
+use crate::desk::{Desk, frame_of};
 use crate::fates::Fates;
 use crate::gate::Gate;
 use crate::inbox::Inbox;
@@ -10,14 +10,13 @@ use crate::members::Members;
 use crate::plans::Plans;
 use crate::resting::{pause, pauses, rest};
 use crate::shared::{Shared, commit};
-use body_eval::Done;
+use crate::turn::Evaluated;
 use chronicle::{ActorSeat, Arrived, Receiver};
-use event_script::{Event, FrameOf, NodeEvent, NodePlace};
-use node_core::{NodeError, Work};
+use event_script::{Event, NodeEvent, NodePlace};
+use node_core::NodeError;
 use start_words::Pen;
 use std::alloc::Global;
 use std::sync::Wait;
-use std::thread::yield_now;
 use std::time::Clock;
 use world_steps::Told;
 
@@ -69,10 +68,12 @@ pub(crate) fn run_node<'a, R: Wait + Clock, G: Gate + Sync>(
     shared: &Shared<'_, 'a, G>,
     mut seat: ActorSeat<'a>,
     mut pen: Pen,
+    mut desk: Desk,
     place: NodePlace,
 ) -> ActorSeat<'a>
     requires seat { IsSeatIn shared.now.chronicle.now seat }
     requires pen { pen.table ≡ shared.now.words.now.table }
+    requires line { IsLineOf shared.now.chronicle.now.job.program desk.line }
     ensures { IsSeatIn shared.entry.now.chronicle.now result }
 {
     let mut note = shared.board.note();
@@ -104,7 +105,7 @@ pub(crate) fn run_node<'a, R: Wait + Clock, G: Gate + Sync>(
     for _ in rt.forever() {
         if !shared.counts.takes_turn()
             || shared.board.read(&mut note).is_some()
-            || !turn(rt, alloc, shared, &mut seat, &mut pen, &mut node)
+            || !turn(rt, alloc, shared, &mut seat, &mut pen, &mut desk, &mut node)
         {
             break;
         }
@@ -112,25 +113,28 @@ pub(crate) fn run_node<'a, R: Wait + Clock, G: Gate + Sync>(
     seat
 }
 
-/// A turn: a crash that is due; or else a departure and a Resend that are due, and then the next packet, a ready frame, or a request. So
-/// a node goes on with what came to it however often it has to send again. After a Resend it does nothing while another actor is
-/// behind it. Whether there was memory.
+/// A turn: a crash that is due; or else a departure and a Resend that are due, and then the next packet, a turn that came back, a ready
+/// frame that is offered to the body workers, or a request. So a node goes on with what came to it however often it has to send again.
+/// After a Resend it does nothing while another actor is behind it. Whether there was memory.
 fn turn<'a, R: Wait + Clock, G: Gate + Sync>(
     rt: &R,
     alloc: Global,
     shared: &Shared<'_, 'a, G>,
     seat: &mut ActorSeat<'a>,
     pen: &mut Pen,
+    desk: &mut Desk,
     node: &mut Node,
 ) -> bool
     requires seat { IsSeatIn shared.now.chronicle.now seat.old }
     requires pen { pen.old.table ≡ shared.now.words.now.table }
+    requires line { IsLineOf shared.now.chronicle.now.job.program desk.old.line }
     ensures seat { IsSeatIn shared.entry.now.chronicle.now seat.new }
     ensures pen { pen.new.table ≡ shared.entry.now.words.now.table }
+    ensures line { IsLineOf shared.entry.now.chronicle.now.job.program desk.new.line }
 {
     let events = shared.counts.events();
     if node.plans.crashes(events) && !node.leaves {
-        return crashes(rt, shared, seat, pen, node);
+        return crashes(rt, shared, seat, pen, desk, node);
     }
     if node.is_over {
         shared.pace.forgets(node.index());
@@ -141,19 +145,24 @@ fn turn<'a, R: Wait + Clock, G: Gate + Sync>(
         rest(rt, shared.config.nodes(), node.held);
         return true;
     }
-    if !node.leaves && node.plans.departs(events) && !departs(rt, shared, seat, node) {
+    if !node.leaves && node.plans.departs(events) && !departs(rt, shared, seat, desk, node) {
         return false;
     }
-    if events >= node.sent.saturating_add(SILENCE) && !sends_again(rt, shared, seat, pen, node) {
+    if events >= node.sent.saturating_add(SILENCE)
+        && !sends_again(rt, shared, seat, pen, desk, node)
+    {
         return false;
     }
     if let Some(arrived) = node.inbox.take(rt, alloc, shared.chronicle, seat) {
         return delivers(rt, alloc, shared, seat, node, &arrived);
     }
-    if let Some(work) = next_work(rt, alloc, shared, seat, node) {
-        return executes(rt, alloc, shared, seat, node, work);
+    if let Some(evaluated) = desk.take(rt, shared.chronicle.job().checked()) {
+        return executes(rt, shared, seat, node, &evaluated);
     }
-    if !node.has_asked && !node.plans.leaves() {
+    if offers(rt, alloc, shared, seat, desk, node) {
+        return true;
+    }
+    if !node.has_asked && !node.plans.leaves() && !desk.is_busy() {
         if node.pauses > 0 {
             node.pauses = node.pauses.saturating_sub(1);
             pause(rt, shared.config.nodes());
@@ -171,7 +180,7 @@ fn turn<'a, R: Wait + Clock, G: Gate + Sync>(
         return true;
     }
     node.patience = node.patience.saturating_mul(2).min(MOST_PATIENCE);
-    sends_again(rt, shared, seat, pen, node)
+    sends_again(rt, shared, seat, pen, desk, node)
 }
 
 /// A node starts at the place, with a new start word. Whether there was memory.
@@ -204,19 +213,22 @@ fn starts<'a, R: Wait, G: Gate + Sync>(
     commit(rt, shared.chronicle, shared.counts, seat, event, None).is_some()
 }
 
-/// The node of the place loses its memory, and another one starts. Whether there was memory.
+/// The node of the place loses its memory, and another one starts. Its tickets are forgotten. Whether there was memory.
 fn crashes<'a, R: Wait, G: Gate + Sync>(
     rt: &R,
     shared: &Shared<'_, 'a, G>,
     seat: &mut ActorSeat<'a>,
     pen: &mut Pen,
+    desk: &mut Desk,
     node: &mut Node,
 ) -> bool
     requires seat { IsSeatIn shared.now.chronicle.now seat.old }
     requires pen { pen.old.table ≡ shared.now.words.now.table }
     ensures seat { IsSeatIn shared.entry.now.chronicle.now seat.new }
     ensures pen { pen.new.table ≡ shared.entry.now.words.now.table }
+    ensures line { desk.new.line ≡ desk.old.line }
 {
+    desk.forgets();
     let event = Event::Crash(node.place);
     if commit(rt, shared.chronicle, shared.counts, seat, event, None).is_none() {
         return false;
@@ -241,19 +253,24 @@ fn does<'a, R: Wait, G: Gate + Sync>(
     Some(committed.told)
 }
 
-/// The node leaves to the least other live member, if there is one and it may. Whether there was memory.
+/// The node leaves to the least other live member, if there is one and it may. It takes its tickets back before, and offers them again
+/// where it may not leave. Whether there was memory.
 fn departs<'a, R: Wait, G: Gate + Sync>(
     rt: &R,
     shared: &Shared<'_, 'a, G>,
     seat: &mut ActorSeat<'a>,
+    desk: &mut Desk,
     node: &mut Node,
 ) -> bool
     requires { IsSeatIn shared.now.chronicle.now seat.old }
-    ensures { IsSeatIn shared.entry.now.chronicle.now seat.new }
+    ensures seat { IsSeatIn shared.entry.now.chronicle.now seat.new }
+    ensures line { desk.new.line ≡ desk.old.line }
 {
     let Some(heir) = node.members.heir(node.word) else {
         return true;
     };
+    desk.takes_back();
+    node.may_be_ready = true;
     match does(rt, shared, seat, node, NodeEvent::Depart(heir)) {
         Some(Told::Did(_, _)) => {
             node.leaves = true;
@@ -270,12 +287,14 @@ fn sends_again<'a, R: Wait, G: Gate + Sync>(
     shared: &Shared<'_, 'a, G>,
     seat: &mut ActorSeat<'a>,
     pen: &mut Pen,
+    desk: &mut Desk,
     node: &mut Node,
 ) -> bool
     requires seat { IsSeatIn shared.now.chronicle.now seat.old }
     requires pen { pen.old.table ≡ shared.now.words.now.table }
     ensures seat { IsSeatIn shared.entry.now.chronicle.now seat.new }
     ensures pen { pen.new.table ≡ shared.entry.now.words.now.table }
+    ensures line { desk.new.line ≡ desk.old.line }
 {
     node.sent = shared.counts.events();
     node.holds = true;
@@ -291,7 +310,7 @@ fn sends_again<'a, R: Wait, G: Gate + Sync>(
             node.is_over = true;
             true
         }
-        Told::Refused(NodeError::NotJoined) => crashes(rt, shared, seat, pen, node),
+        Told::Refused(NodeError::NotJoined) => crashes(rt, shared, seat, pen, desk, node),
         _ => true,
     }
 }
@@ -318,61 +337,49 @@ fn delivers<'a, R: Wait, G: Gate + Sync>(
     true
 }
 
-/// A ready frame of the node, if it may have one.
-fn next_work<'a, R: Wait, G: Gate + Sync>(
+/// A ready frame that isn't out is offered to the body workers, if they take one more. Whether one was.
+fn offers<'a, R: Wait, G: Gate + Sync>(
     rt: &R,
     alloc: Global,
     shared: &Shared<'_, 'a, G>,
     seat: &mut ActorSeat<'a>,
+    desk: &mut Desk,
     node: &mut Node,
-) -> Option<Work>
+) -> bool
     requires { IsSeatIn shared.now.chronicle.now seat.old }
-    ensures same { seat.new ≡ seat.old }
-    ensures fits { IfSome result (λ w. Takes shared.entry.now.chronicle.now.job.program w.thread (length w.numbers)) }
+    ensures seat { seat.new ≡ seat.old }
+    ensures line { desk.new.line ≡ desk.old.line }
 {
-    if !node.may_be_ready {
-        return None;
+    if !node.may_be_ready || desk.is_full() {
+        return false;
     }
-    let work = shared.chronicle.ready(rt, alloc, seat, node.place, 0);
-    node.may_be_ready = work.is_some();
-    work
+    for index in 0..=desk.out() {
+        let Some(work) = shared.chronicle.ready(rt, alloc, seat, node.place, index) else {
+            node.may_be_ready = false;
+            return false;
+        };
+        if !desk.has(frame_of(&work)) {
+            return desk.offer(work);
+        }
+    }
+    false
 }
 
-/// The body of a ready frame is evaluated, once the gate lets it, and the frame is carried out. Whether there was memory.
-fn executes<'a, R: Wait + Clock, G: Gate + Sync>(
+/// A frame of the node is carried out by the turn that a body worker evaluated. Whether there was memory.
+fn executes<'a, R: Wait, G: Gate + Sync>(
     rt: &R,
-    alloc: Global,
     shared: &Shared<'_, 'a, G>,
     seat: &mut ActorSeat<'a>,
     node: &mut Node,
-    work: Work,
+    evaluated: &Evaluated,
 ) -> bool
     requires seat { IsSeatIn shared.now.chronicle.now seat.old }
-    requires fits { Takes shared.now.chronicle.now.job.program work.thread (length work.numbers) }
+    requires own { evaluated.now.turn.program ≡ shared.now.chronicle.now.job.program }
     ensures { IsSeatIn shared.entry.now.chronicle.now seat.new }
 {
-    if !passes(rt, shared, node) {
-        return true;
-    }
-    let frame = FrameOf {
-        minter: work.grant.minter().word(),
-        number: work.grant.number(),
-        frame: u64::from(work.frame.number()),
-    };
-    let checked = shared.chronicle.job().checked();
-    let Ok(turn) = Done::of(alloc, checked, work.thread, work.numbers.into_vec()) else {
-        shared.counts.ends(End::Memory);
-        return false;
-    };
-    let event = Event::AtNode(node.place, NodeEvent::Exec(frame));
-    match commit(
-        rt,
-        shared.chronicle,
-        shared.counts,
-        seat,
-        event,
-        Some(&turn),
-    ) {
+    let event = Event::AtNode(node.place, NodeEvent::Exec(evaluated.frame));
+    let turn = Some(&evaluated.turn);
+    match commit(rt, shared.chronicle, shared.counts, seat, event, turn) {
         Some(committed) => {
             node.notes(committed.told);
             node.dry = 0;
@@ -381,28 +388,6 @@ fn executes<'a, R: Wait + Clock, G: Gate + Sync>(
         }
         None => false,
     }
-}
-
-/// Waits until the gate lets the next body be evaluated, and no other node waits for this one meanwhile. Whether it did before the run
-/// ended.
-fn passes<R: Wait, G: Gate + Sync>(rt: &R, shared: &Shared<'_, '_, G>, node: &Node) -> bool {
-    let body = shared.counts.body();
-    shared.gate.begun(body);
-    if shared.gate.may_go(body) {
-        return true;
-    }
-    shared.pace.forgets(node.index());
-    for _ in rt.forever() {
-        if !shared.counts.takes_turn() {
-            return false;
-        }
-        yield_now();
-        if shared.gate.may_go(body) {
-            break;
-        }
-    }
-    shared.pace.hears(node.index(), node.sent);
-    true
 }
 
 /// The node asks for work, where somebody is listed. Whether it did; none where there was no memory.

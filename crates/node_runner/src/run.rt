@@ -3,25 +3,27 @@ ghost use Rattle.serial_meaning.specs.Job.{meaning_of};
 ghost use Rattle.chronicle.specs.History.{IsSafeHistory};
 ghost use Rattle.chronicle.specs.Seats.{ChronicleOf, IsSeatIn};
 ghost use Rattle.start_words.specs.Words.{IsPenOf, TableOf};
-ghost use Rattle.node_runner.specs.Runs.{IsContextIn, IsRanOf};
+ghost use Rattle.node_runner.specs.Runs.{IsContextIn, IsRanOf, IsWorkerOf};
 
 use crate::config::RunConfig;
 use crate::counts::{Counts, End};
+use crate::crew::{ActorContext, WorkerContext, contexts};
 use crate::error::RunError;
 use crate::gate::Gate;
 use crate::house::run_house;
 use crate::node::run_node;
 use crate::pace::Pace;
 use crate::shared::Shared;
+use crate::worker::run_worker;
 use board::Board;
 use chronicle::{ActorSeat, Chronicle, Trace};
 use event_script::NodePlace;
 use ids::Outcome;
 use serial_meaning::Job;
-use start_words::{Pen, WordTable};
+use start_words::WordTable;
 use std::alloc::{AllocError, Global};
 use std::sync::Wait;
-use std::thread::{Threads, map_vec};
+use std::thread::{Threads, join, map_vec};
 use std::time::Clock;
 
 /// A run that ended with an outcome.
@@ -31,15 +33,8 @@ pub struct Ran {
     pub trace: Trace,
 }
 
-/// What an actor's thread begins with: its seat, and the pen of a node's place.
-#[derive(Drop)]
-pub(crate) struct ActorContext<'a> {
-    pub(crate) seat: ActorSeat<'a>,
-    pub(crate) pen: Option<Pen>,
-}
-
-/// Runs a job on as many nodes as the configuration says, each on a thread of its own, with a clearinghouse on another one, under the
-/// faults that it says. The outcome is the job's meaning; the trace is a safe history of the job, and tells this outcome first.
+/// Runs a job on as many nodes as the configuration says, each on a thread of its own and with as many body workers as it says, each on
+/// another, with a clearinghouse on one more, under the faults that it says. The outcome is the job's meaning; the trace is a safe history of the job, and tells this outcome first.
 ///
 /// Refused as `TurnsSpent` (E95) where all turns were taken before there was an outcome, as `Memory` (E96) where there is no memory, and as
 /// `Disk` (E97) where the clearinghouse can't go on. Each loop turn of an actor counts as one, and so does each question to the gate that
@@ -83,7 +78,7 @@ fn traced<'a, R: Threads + Wait + Clock + Sync, G: Gate + Sync>(
     let Ok((words, pens)) = WordTable::new(alloc, usize::from(nodes)) else {
         return Err(RunError::Memory);
     };
-    let Ok(contexts) = contexts(alloc, seats, pens) else {
+    let Ok((contexts, workers)) = contexts(rt, alloc, job, config.bodies(), seats, pens) else {
         return Err(RunError::Memory);
     };
     let Ok(pace) = Pace::new(alloc, config) else {
@@ -99,22 +94,90 @@ fn traced<'a, R: Threads + Wait + Clock + Sync, G: Gate + Sync>(
         config,
         gate,
     };
-    let shown = &shared;
-    let Ok(seats) = map_vec(
-        rt,
-        contexts,
-        &|context: ActorContext| -> ActorSeat
-            requires context { IsContextIn shown.now.chronicle.now shown.now.words.now context }
-            requires tie { shown.now.board.now.outcome ≡ meaning_of shown.now.chronicle.now.job }
-            ensures { IsSeatIn shown.entry.now.chronicle.now result }
-        { act(rt, alloc, shown, context) },
-    ) else {
+    let Ok(seats) = all_turns(rt, alloc, &shared, contexts, workers) else {
         return Err(RunError::Memory);
     };
     match chronicle.finish(seats) {
         Some(trace) => Ok(trace),
         None => unreachable!(),
     }
+}
+
+/// The turns of all actors and body workers, each on a thread of its own.
+fn all_turns<'a, R: Threads + Wait + Clock + Sync, G: Gate + Sync>(
+    rt: &R,
+    alloc: Global,
+    shared: &Shared<'_, 'a, G>,
+    contexts: Vec<ActorContext<'a>>,
+    workers: Vec<WorkerContext>,
+) -> Result<Vec<ActorSeat<'a>>, AllocError>
+    requires contexts { All (IsContextIn shared.now.chronicle.now shared.now.words.now) contexts.items }
+    requires workers { All (IsWorkerOf shared.now.chronicle.now.job) workers.items }
+    requires tie { shared.now.board.now.outcome ≡ meaning_of shared.now.chronicle.now.job }
+    ensures seats { IfOk result (λ seats. All (IsSeatIn shared.entry.now.chronicle.now) seats.items) }
+    ensures count { IfOk result (λ seats. vec_len seats ≡ vec_len contexts.entry) }
+{
+    let (_, seats) = join(
+        rt,
+        || -> ()
+            requires { All (IsWorkerOf shared.now.chronicle.now.job) workers.items }
+        { all_work(rt, alloc, shared, workers) },
+        || -> Result<Vec<ActorSeat>, AllocError>
+            requires contexts { All (IsContextIn shared.now.chronicle.now shared.now.words.now) contexts.items }
+            requires tie { shared.now.board.now.outcome ≡ meaning_of shared.now.chronicle.now.job }
+            ensures seats { IfOk result (λ seats. All (IsSeatIn shared.entry.now.chronicle.now) seats.items) }
+            ensures count { IfOk result (λ seats. vec_len seats ≡ vec_len contexts.entry) }
+        { all_act(rt, alloc, shared, contexts) },
+    );
+    seats
+}
+
+/// The turns of all body workers, each on a thread of its own.
+fn all_work<R: Threads + Wait + Clock + Sync, G: Gate + Sync>(
+    rt: &R,
+    alloc: Global,
+    shared: &Shared<'_, '_, G>,
+    workers: Vec<WorkerContext>,
+)
+    requires { All (IsWorkerOf shared.now.chronicle.now.job) workers.items }
+{
+    let ended = map_vec(
+        rt,
+        workers,
+        &|context: WorkerContext| -> ()
+            requires { IsWorkerOf shared.now.chronicle.now.job context }
+        { run_worker(rt, alloc, shared, context) },
+    );
+    if ended.is_err() {
+        shared.counts.ends(End::Memory);
+    }
+}
+
+/// The turns of all actors, each on a thread of its own.
+fn all_act<'a, R: Threads + Wait + Clock + Sync, G: Gate + Sync>(
+    rt: &R,
+    alloc: Global,
+    shared: &Shared<'_, 'a, G>,
+    contexts: Vec<ActorContext<'a>>,
+) -> Result<Vec<ActorSeat<'a>>, AllocError>
+    requires contexts { All (IsContextIn shared.now.chronicle.now shared.now.words.now) contexts.items }
+    requires tie { shared.now.board.now.outcome ≡ meaning_of shared.now.chronicle.now.job }
+    ensures seats { IfOk result (λ seats. All (IsSeatIn shared.entry.now.chronicle.now) seats.items) }
+    ensures count { IfOk result (λ seats. vec_len seats ≡ vec_len contexts.entry) }
+{
+    let seats = map_vec(
+        rt,
+        contexts,
+        &|context: ActorContext| -> ActorSeat
+            requires context { IsContextIn shared.now.chronicle.now shared.now.words.now context }
+            requires tie { shared.now.board.now.outcome ≡ meaning_of shared.now.chronicle.now.job }
+            ensures { IsSeatIn shared.entry.now.chronicle.now result }
+        { act(rt, alloc, shared, context) },
+    );
+    if seats.is_err() {
+        shared.counts.ends(End::Memory);
+    }
+    seats
 }
 
 /// The turns of an actor.
@@ -128,36 +191,13 @@ fn act<'a, R: Wait + Clock, G: Gate + Sync>(
     requires tie { shared.now.board.now.outcome ≡ meaning_of shared.now.chronicle.now.job }
     ensures { IsSeatIn shared.entry.now.chronicle.now result }
 {
-    let ActorContext { seat, pen } = context;
+    let ActorContext { seat, node } = context;
     let number = seat.actor();
     if number == 0 {
         return run_house(rt, alloc, shared, seat);
     }
-    match (NodePlace::of(number - 1), pen) {
-        (Some(place), Some(pen)) => run_node(rt, alloc, shared, seat, pen, place),
+    match (NodePlace::of(number - 1), node) {
+        (Some(place), Some(node)) => run_node(rt, alloc, shared, seat, node.pen, node.desk, place),
         _ => seat,
     }
-}
-
-/// The actors' contexts: a seat each, and a pen for each node.
-fn contexts<'a>(
-    alloc: Global,
-    mut seats: Vec<ActorSeat<'a>>,
-    mut pens: Vec<Pen>,
-) -> Result<Vec<ActorContext<'a>>, AllocError>
-    ensures { (c : ChronicleOf) (w : TableOf) → All (IsSeatIn c) seats.entry.items → All (IsPenOf w) pens.items → IfOk result (λ contexts. All (IsContextIn c w) contexts.items × (vec_len contexts ≡ vec_len seats.entry)) }
-{
-    let mut contexts = Vec::with_capacity(alloc, seats.len())?;
-    while let Some(seat) = seats.pop() {
-        let pen = pen_of(&seat, &mut pens);
-        contexts.push(ActorContext { seat, pen })?;
-    }
-    Ok(contexts)
-}
-
-/// A pen for an actor that is a node.
-fn pen_of(seat: &ActorSeat, pens: &mut Vec<Pen>) -> Option<Pen>
-    ensures { (w : TableOf) → All (IsPenOf w) pens.old.items → IfSome result (IsPenOf w) × All (IsPenOf w) pens.new.items }
-{
-    if seat.actor() == 0 { None } else { pens.pop() }
 }

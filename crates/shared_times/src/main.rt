@@ -1,11 +1,15 @@
 //! What threads share without waiting, again and again, for `bench/shared`, which takes the time:
 //! `shared_times draws|adds|tickets|reads|loads THREADS ROUNDS` prints how often it was done in all. At most 64 threads do it.
+//! `shared_times held NODES BODIES` runs a job under a gate that holds a body, for `examples/run_nodes`.
 #![tactic(auto)]
+
+mod held;
 
 ghost use Rattle.std.specs.Prelude.{◌≡◌, ◌≤◌};
 
 use anyhow::{Context, Result, bail};
 use board::Board;
+use held::run_held;
 use kind_check::check;
 use local_pool::{BodyWorker, LocalPool, Owner};
 use serial_meaning::{Job, serial};
@@ -13,9 +17,11 @@ use start_words::{Pen, WordTable};
 use std::alloc::Global;
 use std::env;
 use std::rt::Env;
+use std::sync::Wait;
 use std::sync::atomic::AtomicU64;
 use std::sync::atomic::Ordering::SeqCst;
 use std::thread::{Threads, join, map_indices, map_vec, yield_now};
+use std::time::Clock;
 use task_syntax::parse;
 
 /// Draws so many numbers.
@@ -185,18 +191,22 @@ fn work<R: Threads + Sync>(
         "tickets" => tickets(rt, alloc, threads, rounds),
         "reads" => reads(rt, alloc, threads, rounds),
         "loads" => loads(rt, alloc, threads, rounds),
-        _ => bail!("draws, adds, tickets, reads or loads is wanted"),
+        _ => bail!("draws, adds, tickets, reads, loads or held is wanted"),
     }
 }
 
-fn run<R: Env + Threads + AllocGlobal + Sync>(rt: &R) -> Result<u64> {
-    let words: Vec<String> = env::args(rt)?.collect(rt.alloc())?;
+fn run<R: Env + Threads + Wait + Clock + AllocGlobal + Sync>(rt: &R) -> Result<String> {
+    let alloc = rt.alloc();
+    let words: Vec<String> = env::args(rt)?.collect(alloc)?;
     let [_, what, threads, rounds] = words.as_slice() else {
         bail!("what to do, a number of threads and a number of rounds are wanted");
     };
-    let threads = number(threads)?.min(64) as usize;
-    let rounds = number(rounds)?;
-    work(rt, rt.alloc(), what.as_str(), threads, rounds)
+    let (threads, rounds) = (number(threads)?, number(rounds)?);
+    if what.as_str() == "held" {
+        return run_held(rt, alloc, threads, rounds);
+    }
+    let done = work(rt, alloc, what.as_str(), threads.min(64) as usize, rounds)?;
+    Ok(format!(in alloc; "{done}")?)
 }
 
 fn main(rt: HostRuntime) -> Result<()> {

@@ -1,0 +1,163 @@
+ghost use Rattle.std.specs.Prelude.{◌≡◌, length, true};
+ghost use Rattle.kind_check.specs.Total.{Takes};
+ghost use Rattle.node_runner.specs.Lines.{IsLineOf};
+
+use crate::counts::End;
+use crate::crew::WorkerContext;
+use crate::desk::{Ticket, frame_of};
+use crate::gate::Gate;
+use crate::line::Line;
+use crate::resting::rest;
+use crate::shared::Shared;
+use crate::turn::{Evaluated, Finished};
+use board::Note;
+use body_eval::Done;
+use kind_check::Checked;
+use node_core::Work;
+use std::alloc::Global;
+use std::sync::Wait;
+use std::time::Clock;
+
+/// A body worker's turns, until the run ends: it steals a ticket of its node, evaluates the body once the gate lets it, and gives the turn
+/// back.
+pub(crate) fn run_worker<R: Wait + Clock, G: Gate + Sync>(
+    rt: &R,
+    alloc: Global,
+    shared: &Shared<'_, '_, G>,
+    context: WorkerContext,
+)
+    requires { IsLineOf shared.now.chronicle.now.job.program context.line }
+{
+    let WorkerContext {
+        mut worker,
+        mut line,
+    } = context;
+    let mut note = shared.board.note();
+    let mut idle: u64 = 0;
+    for _ in rt.forever() {
+        if !goes_on(shared, &mut note) {
+            break;
+        }
+        if let Some(ticket) = worker.steal() {
+            idle = 0;
+            if !works(rt, alloc, shared, &mut line, &mut note, ticket) {
+                break;
+            }
+        } else {
+            idle = idle.saturating_add(1);
+            rest(rt, shared.config.nodes(), idle);
+        }
+    }
+}
+
+/// Takes a turn. Whether there was one, and the run goes on.
+fn goes_on<G: Gate + Sync>(shared: &Shared<'_, '_, G>, note: &mut Note) -> bool
+    requires { note.old.board ≡ shared.now.board.now.board }
+    ensures { note.new.board ≡ note.old.board }
+{
+    shared.counts.takes_turn() && shared.board.read(note).is_none()
+}
+
+/// The body of a ticket is evaluated, and the turn goes back. Whether the run goes on, and there was memory.
+fn works<R: Wait + Clock, G: Gate + Sync>(
+    rt: &R,
+    alloc: Global,
+    shared: &Shared<'_, '_, G>,
+    line: &mut Line,
+    note: &mut Note,
+    ticket: Ticket,
+) -> bool
+    requires line { IsLineOf shared.now.chronicle.now.job.program line.old }
+    requires note { note.old.board ≡ shared.now.board.now.board }
+    ensures line { IsLineOf shared.entry.now.chronicle.now.job.program line.new }
+    ensures note { note.new.board ≡ note.old.board }
+{
+    let Ticket { number, work } = ticket;
+    let checked = shared.chronicle.job().checked();
+    if !takes_its_numbers(checked, &work) {
+        return true;
+    }
+    if !passes(rt, shared, note) {
+        return false;
+    }
+    let frame = frame_of(&work);
+    let Ok(turn) = Done::of(alloc, checked, work.thread, work.numbers.into_vec()) else {
+        shared.counts.ends(End::Memory);
+        return false;
+    };
+    let evaluated = Evaluated {
+        ticket: number,
+        frame,
+        turn,
+    };
+    returns(rt, shared, line, note, Finished::of(checked, evaluated))
+}
+
+/// Whether the thread of a frame is there and takes its numbers, as it does of each frame that a node has.
+fn takes_its_numbers(checked: &Checked, work: &Work) -> bool
+    ensures { result ≡ true → Takes checked.now work.now.thread (length work.now.numbers) }
+{
+    if usize::from(work.thread) >= checked.threads() {
+        return false;
+    }
+    checked.program().thread(work.thread).numbers.len() == work.numbers.len()
+}
+
+/// Numbers a body, and waits until the gate lets it be evaluated. Whether it did before the run ended.
+fn passes<R: Wait + Clock, G: Gate + Sync>(
+    rt: &R,
+    shared: &Shared<'_, '_, G>,
+    note: &mut Note,
+) -> bool
+    requires { note.old.board ≡ shared.now.board.now.board }
+    ensures { note.new.board ≡ note.old.board }
+{
+    let body = shared.counts.body();
+    shared.gate.begun(body);
+    if shared.gate.may_go(body) {
+        return true;
+    }
+    let mut waited: u64 = 0;
+    for _ in rt.forever() {
+        if !goes_on(shared, note) {
+            return false;
+        }
+        if shared.gate.may_go(body) {
+            return true;
+        }
+        waited = waited.saturating_add(1);
+        rest(rt, shared.config.nodes(), waited);
+    }
+    false
+}
+
+/// A turn goes back, as soon as there is room for it. Whether it did before the run ended.
+fn returns<R: Wait + Clock, G: Gate + Sync>(
+    rt: &R,
+    shared: &Shared<'_, '_, G>,
+    line: &mut Line,
+    note: &mut Note,
+    finished: Finished,
+) -> bool
+    requires line { IsLineOf shared.now.chronicle.now.job.program line.old }
+    requires note { note.old.board ≡ shared.now.board.now.board }
+    requires own { finished.program ≡ shared.now.chronicle.now.job.program }
+    ensures line { IsLineOf shared.entry.now.chronicle.now.job.program line.new }
+    ensures note { note.new.board ≡ note.old.board }
+{
+    let checked = shared.chronicle.job().checked();
+    let mut finished = finished;
+    let mut waited: u64 = 0;
+    for _ in rt.forever() {
+        match line.put(rt, checked, finished) {
+            Ok(()) => return true,
+            Err(back) => finished = back,
+        }
+        if !goes_on(shared, note) {
+            return false;
+        }
+        waited = waited.saturating_add(1);
+        rest(rt, shared.config.nodes(), waited);
+    }
+    false
+}

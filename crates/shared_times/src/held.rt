@@ -1,0 +1,72 @@
+use anyhow::{Result, bail};
+use kind_check::check;
+use node_runner::{Faults, Gate, RunConfig, run_job};
+use serial_meaning::{Job, Outcome};
+use std::alloc::Global;
+use std::str::from_utf8;
+use std::sync::Wait;
+use std::sync::atomic::AtomicU64;
+use std::sync::atomic::Ordering::SeqCst;
+use std::thread::Threads;
+use std::time::Clock;
+use task_syntax::parse;
+
+/// The Fibonacci numbers.
+const FIB: &[u8] =
+    b"thread main(k, n) { if n < 2 { send_argument(k, n); } else { spawn_next sum(k, ?x, ?y); spawn main(x, n - 1); spawn main(y, n - 2); } } thread sum(k, x, y) { send_argument(k, x + y); }";
+
+/// The body that is held, and the one that has to begin before.
+const HELD: u64 = 2;
+
+const BEFORE: u64 = 3;
+
+/// How many turns may be taken.
+const TURNS: u64 = 200_000_000;
+
+/// The gate that holds one body until another one has begun. It counts those that began.
+#[derive(Drop)]
+struct Held {
+    begun: AtomicU64,
+    goes: AtomicU64,
+}
+
+impl Gate for Held {
+    fn begun(&self, body: u64) {
+        let _ = self.begun.fetch_add(1, SeqCst);
+        if body == BEFORE {
+            self.goes.store(1, SeqCst);
+        }
+    }
+
+    fn may_go(&self, body: u64) -> bool {
+        body != HELD || self.goes.load(SeqCst) == 1
+    }
+}
+
+/// Runs the third Fibonacci number on so many nodes with so many body workers each, under the gate. The script of the run, and behind it
+/// how many bodies began, and the value.
+pub fn run_held<R: Threads + Wait + Clock + Sync>(
+    rt: &R,
+    alloc: Global,
+    nodes: u64,
+    bodies: u64,
+) -> Result<String> {
+    let mut input = Vec::new(alloc);
+    input.push(3i64)?;
+    let job = Job::new(check(alloc, parse(alloc, FIB)?)?, input, 1)?;
+    let Some(config) = RunConfig::new(nodes, bodies, Faults::none(), TURNS) else {
+        bail!("no such run");
+    };
+    let gate = Held {
+        begun: AtomicU64::new(0),
+        goes: AtomicU64::new(0),
+    };
+    let ran = run_job(rt, alloc, &job, &config, &gate)?;
+    let Outcome::Value(value) = ran.outcome else {
+        bail!("too deep");
+    };
+    let text = ran.trace.script(alloc)?;
+    let script = from_utf8(text.as_slice())?;
+    let begun = gate.begun.load(SeqCst);
+    Ok(format!(in alloc; "{script}# bodies {begun}\n# value {value}")?)
+}
