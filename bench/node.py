@@ -141,4 +141,5 @@ def main():
     table(program, RECORD_KINDS, RECORDS, "records, by four times the members")
 
 
-main()
+if __name__ == "__main__":
+    main()

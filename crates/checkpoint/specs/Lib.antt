@@ -6,3 +6,4 @@ pub mod Found
 pub mod Moments
 pub mod Pair
 pub mod Store
+pub mod Info

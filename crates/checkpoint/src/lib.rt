@@ -6,6 +6,7 @@
 
 mod blank;
 mod body;
+mod info;
 mod laws;
 mod look;
 mod publish;
@@ -14,6 +15,7 @@ mod reopen;
 mod store;
 
 pub use blank::format;
+pub use info::{Info, inspect};
 pub use laws::a_commit_at_any_moment;
 pub use record::{LastEpoch, Record, StoreError};
 pub use reopen::commit_and_reopen;

@@ -1,3 +1,4 @@
 pub mod Outcome
+pub mod Form
 pub mod Status
 pub mod Faults

@@ -10,6 +10,7 @@ use Rattle.replaying.specs.declared.words.WordsFault.TheVariants as words
 use Rattle.cilknow.specs.declared.command.CommandFault.{CommandFault}
 use Rattle.cilknow.specs.declared.command.CommandFault.TheVariants as command
 use Rattle.cilknow.specs.Faults as run
+use Rattle.cilknow.specs.Form.{status_of_form}
 use Rattle.cilknow.specs.declared.fault.SoloFault.{SoloFault}
 use Rattle.cilknow.specs.declared.fault.SoloFault.TheVariants as solo
 
@@ -28,6 +29,7 @@ status_of command.File = 4
 status_of (command.Run fault) = status_of_run fault
 status_of command.TurnsSpent = 3
 status_of (command.Nodes error) = 3
+status_of (command.Form fault) = status_of_form fault
 status_of (command.Replay fault) = replays.status_of fault
 
 -- a file that isn't read

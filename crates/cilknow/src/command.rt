@@ -1,16 +1,22 @@
 ghost use Rattle.std.specs.Prelude.{◌≡◌};
 ghost use Rattle.cilknow.specs.Status.{of_file, of_job, of_words, status_of};
 
+use crate::explain::{Named, explain};
 use crate::fault::SoloFault;
+use crate::form::{FormFault, form_of};
 use crate::logged::log_text;
 use crate::solo::solo;
-use crate::words::{JobWords, Request, RunWords, read_words};
+use crate::stored::{info_in, store_in};
+use crate::words::{JobWords, Request, RunWords, Words, read_words};
+use checkpoint::Info;
+use chronicle::Trace;
 use jobs::{FileFault, JobFault, job_of, program_of, text_bytes};
-use node_runner::{Open, RunError, run_job};
+use node_runner::{Open, RunConfig, RunError, Stored, run_job, run_stored};
 use replaying::{ReplayFault, ReplayWords, WordsFault, help_of, replay_files, write_replayed};
-use serial_meaning::{Outcome, SerialError, serial};
+use serial_meaning::{Job, Outcome, SerialError, serial};
 use std::alloc::Global;
 use std::convert::AsStr;
+use std::fs::File;
 use std::io::{self, Write};
 use std::rt::Files;
 use std::sync::Wait;
@@ -37,6 +43,9 @@ pub enum CommandFault {
     /// A run on nodes ends without an outcome.
     #[error(transparent)]
     Nodes(RunError),
+    /// A text isn't printed in its one form.
+    #[error(transparent)]
+    Form(FormFault),
     /// A script isn't replayed.
     #[error(transparent)]
     Replay(ReplayFault),
@@ -55,6 +64,7 @@ impl CommandFault {
             CommandFault::Run(SoloFault::Job(fault)) => fault.status(),
             CommandFault::Usage => 2,
             CommandFault::File => 4,
+            CommandFault::Form(fault) => fault.status(),
             CommandFault::Replay(fault) => fault.status(),
         }
     }
@@ -112,6 +122,29 @@ fn write_outcome<O: Write>(out: &mut O, outcome: Outcome) -> io::Result<()> {
     out.flush()
 }
 
+/// Writes what a store keeps, a line each.
+fn write_info<O: Write>(out: &mut O, info: Info) -> io::Result<()> {
+    let Info {
+        job,
+        epoch,
+        outcome,
+    } = info;
+    writeln!(out, "job {job}")?;
+    writeln!(out, "epoch {epoch}")?;
+    match outcome {
+        Some(outcome) => {
+            write!(out, "outcome ")?;
+            write_outcome(out, outcome)
+        }
+        None => write_line(out, "outcome none"),
+    }
+}
+
+fn write_bytes<O: Write>(out: &mut O, bytes: &[u8]) -> io::Result<()> {
+    out.write_all(bytes)?;
+    out.flush()
+}
+
 fn write_line<O: Write>(out: &mut O, text: impl fmt::Display + Drop) -> io::Result<()> {
     writeln!(out, "{text}")?;
     out.flush()
@@ -130,7 +163,7 @@ fn answer_replay<R: Files + AllocGlobal, O: Write>(
 }
 
 /// What a run comes to: by one evaluator where nothing asks for threads, else by nodes on threads.
-fn answer_run<R: Files + AllocGlobal + Threads + Wait + Clock + Sync, O: Write>(
+fn answer_run<R: Files<File = File> + AllocGlobal + Threads + Wait + Clock + Sync, O: Write>(
     rt: &R,
     words: RunWords<'_>,
     out: &mut O,
@@ -146,25 +179,69 @@ fn answer_run<R: Files + AllocGlobal + Threads + Wait + Clock + Sync, O: Write>(
         input,
     } = words.job;
     let text = text_bytes(rt, file)?;
-    if is_alone {
-        let outcome = solo(alloc, text.as_slice(), input, job, turns).map_err(CommandFault::Run)?;
-        return write_outcome(out, outcome).map_err(|_| CommandFault::File);
-    }
-    let job = job_of(alloc, text.as_slice(), input, job)?;
-    let ran = run_job(rt, alloc, &job, &config, &Open).map_err(CommandFault::Nodes)?;
-    if let Some(path) = words.trace {
-        let Ok(script) = ran.trace.script(alloc) else {
-            return Err(CommandFault::Nodes(RunError::Memory));
-        };
-        fs::write(rt, path, script).map_err(|_| CommandFault::File)?;
-    }
-    if let Some(path) = words.log {
-        fs::write(rt, path, log_text(alloc, &ran.trace)).map_err(|_| CommandFault::File)?;
-    }
-    write_outcome(out, ran.outcome).map_err(|_| CommandFault::File)
+    let outcome = if is_alone {
+        solo(alloc, text.as_slice(), input, job, turns).map_err(CommandFault::Run)?
+    } else {
+        let job = job_of(alloc, text.as_slice(), input, job)?;
+        let ran = ran_on_nodes(rt, &job, &config, words.store)?;
+        write_trace(rt, words.trace, &ran.trace)?;
+        write_log(rt, words.log, &ran.trace)?;
+        ran.outcome
+    };
+    write_outcome(out, outcome).map_err(|_| CommandFault::File)
 }
 
-fn answer<R: Files + AllocGlobal + Threads + Wait + Clock + Sync, O: Write>(
+/// A job is run by nodes on threads, over the store in a file where one is named.
+fn ran_on_nodes<R: Files<File = File> + AllocGlobal + Threads + Wait + Clock + Sync>(
+    rt: &R,
+    job: &Job,
+    config: &RunConfig,
+    store: Option<&str>,
+) -> Result<Stored, CommandFault> {
+    let alloc = rt.alloc();
+    let Some(path) = store else {
+        let ran = run_job(rt, alloc, job, config, &Open).map_err(CommandFault::Nodes)?;
+        return Ok(Stored {
+            outcome: ran.outcome,
+            trace: Some(ran.trace),
+        });
+    };
+    let mut store = store_in(rt, path, job.number())?;
+    run_stored(rt, alloc, job, &mut store, config, &Open).map_err(CommandFault::Nodes)
+}
+
+/// Writes the script of a run's trace to a file, where one is named.
+fn write_trace<R: Files + AllocGlobal>(
+    rt: &R,
+    path: Option<&str>,
+    trace: &Option<Trace>,
+) -> Result<(), CommandFault> {
+    let (Some(path), Some(trace)) = (path, trace) else {
+        return Ok(());
+    };
+    let Ok(script) = trace.script(rt.alloc()) else {
+        return Err(CommandFault::Nodes(RunError::Memory));
+    };
+    fs::write(rt, path, script).map_err(|_| CommandFault::File)
+}
+
+/// Writes the log of a run to a file, where one is named. It has no line where the outcome was kept before.
+fn write_log<R: Files + AllocGlobal>(
+    rt: &R,
+    path: Option<&str>,
+    trace: &Option<Trace>,
+) -> Result<(), CommandFault> {
+    let Some(path) = path else {
+        return Ok(());
+    };
+    let text = match trace {
+        Some(trace) => log_text(rt.alloc(), trace),
+        None => Vec::new(rt.alloc()),
+    };
+    fs::write(rt, path, text).map_err(|_| CommandFault::File)
+}
+
+fn answer<R: Files<File = File> + AllocGlobal + Threads + Wait + Clock + Sync, O: Write>(
     rt: &R,
     request: Request<'_>,
     out: &mut O,
@@ -176,12 +253,18 @@ fn answer<R: Files + AllocGlobal + Threads + Wait + Clock + Sync, O: Write>(
             let threads = program_of(alloc, text.as_slice())?.threads();
             write_line(out, format_args!("ok {threads} threads"))
         }
+        Request::Print(file) => {
+            let text = text_bytes(rt, file)?;
+            let form = form_of(alloc, text.as_slice()).map_err(CommandFault::Form)?;
+            write_bytes(out, form.as_slice())
+        }
         Request::Serial(words) => {
             let text = text_bytes(rt, words.file)?;
             write_outcome(out, serial_outcome(alloc, text.as_slice(), words)?)
         }
         Request::Run(words) => return answer_run(rt, words, out),
         Request::Replay(words) => return answer_replay(rt, words, out),
+        Request::Store(path) => write_info(out, info_in(rt, path)?),
     };
     written.map_err(|_| CommandFault::File)
 }
@@ -197,22 +280,71 @@ fn shown<O: Write>(error: clap::Error, out: &mut O) -> Result<(), CommandFault> 
 }
 
 /// Carries out a command line, the program's own name its first word: answers go to `out`, and a fault goes to `err` as one
-/// line. The status to end with is 0 where all was done, and else that of the fault.
+/// line, behind which it is explained where the words ask for that. The status to end with is 0 where all was done, and else that of
+/// the fault.
 pub fn command<
-    R: Files + AllocGlobal + Threads + Wait + Clock + Sync,
+    R: Files<File = File> + AllocGlobal + Threads + Wait + Clock + Sync,
     S: AsStr,
     O: Write,
     E: Write,
 >(rt: &R, words: &[S], out: &mut O, err: &mut E) -> u8 {
-    let done = match read_words(rt.alloc(), words) {
-        Ok(Some(request)) => answer(rt, request, out),
-        Ok(None) => Err(CommandFault::Usage),
-        Err(error) => shown(error, out),
-    };
-    match done {
+    match read_words(rt.alloc(), words) {
+        Ok(Some(line)) => carried_out(rt, line, out, err),
+        Ok(None) => refused(CommandFault::Usage, err),
+        Err(error) => {
+            let usage = usage_text(rt.alloc(), words, &error);
+            match shown(error, out) {
+                Ok(()) => 0,
+                Err(fault) => misused(fault, usage, err),
+            }
+        }
+    }
+}
+
+/// Carries out what a command line asks for; the status to end with.
+fn carried_out<
+    R: Files<File = File> + AllocGlobal + Threads + Wait + Clock + Sync,
+    O: Write,
+    E: Write,
+>(rt: &R, line: Words<'_>, out: &mut O, err: &mut E) -> u8 {
+    let Words { request, explain } = line;
+    let named = Named::by(&request);
+    match answer(rt, request, out) {
         Ok(()) => 0,
+        Err(fault) if explain => explained(rt, fault, &named, err),
         Err(fault) => refused(fault, err),
     }
+}
+
+/// Writes a fault of a command line that names these files to `err`, and explains it; the status to end with.
+fn explained<R: Files<File = File> + AllocGlobal, E: Write>(
+    rt: &R,
+    fault: CommandFault,
+    named: &Named<'_>,
+    err: &mut E,
+) -> u8 {
+    let _ = write_line(err, format_args!("cilknow: {fault}"));
+    let _ = explain(rt, err, &fault, named);
+    fault.status()
+}
+
+/// Writes a fault of usage to `err`, and what is wrong, if it is asked for; the status to end with.
+fn misused<E: Write>(fault: CommandFault, usage: Option<String>, err: &mut E) -> u8 {
+    let status = refused(fault, err);
+    if let Some(text) = usage {
+        let _ = write!(err, "{text}");
+    }
+    status
+}
+
+/// What is wrong with words that aren't understood, where one of them asks for that.
+fn usage_text<S: AsStr>(alloc: Global, words: &[S], error: &clap::Error) -> Option<String> {
+    for word in words {
+        if word.as_str() == "--explain" {
+            return String::format(alloc, format_args!("{error}")).ok();
+        }
+    }
+    None
 }
 
 /// Writes a fault to `err` as one line; the status to end with.

@@ -2,17 +2,22 @@
 #![tactic(auto)]
 
 mod command;
+mod explain;
 mod fault;
+mod form;
 mod logged;
 mod solo;
+mod stored;
 mod words;
 
 pub use command::{CommandFault, command, refused};
 pub use fault::SoloFault;
+pub use form::{FormFault, form_of};
 pub use logged::log_text;
 use replaying::own_words;
 pub use solo::solo;
 use std::process::ExitCode;
+pub use stored::{info_in, store_in};
 
 fn main(rt: HostRuntime) -> ExitCode {
     let (mut out, mut err) = (rt.stdout(), rt.stderr());

@@ -1,22 +1,34 @@
 use clap::{Arg, ArgAction, ArgMatches, Command, Error};
 use node_runner::{Faults, RunConfig};
 use replaying::{
-    ReplayWords, file_word, input_of, input_word, number_word, replay_words_of, with_replay_words,
+    ReplayWords, explain_word, file_word, input_of, input_word, number_word, replay_words_of,
+    with_replay_words,
 };
 use std::alloc::{AllocError, Global};
 use std::convert::AsStr;
+
+/// A command line: what it asks for, and whether a fault is to be explained.
+#[derive(Drop)]
+pub struct Words<'a> {
+    pub request: Request<'a>,
+    pub explain: bool,
+}
 
 /// What the words of a command line ask for.
 #[derive(Drop)]
 pub enum Request<'a> {
     /// Whether the program of a file is accepted.
     Check(&'a str),
+    /// The one form of the text of a file.
+    Print(&'a str),
     /// The serial meaning of a job.
     Serial(JobWords<'a>),
     /// A run of a job.
     Run(RunWords<'a>),
     /// A replay of a script on a job.
     Replay(ReplayWords<'a>),
+    /// What the store in a file keeps.
+    Store(&'a str),
 }
 
 /// The job of a request, and the turns that it may take.
@@ -28,26 +40,29 @@ pub struct JobWords<'a> {
     pub input: Vec<i64>,
 }
 
-/// A run: its job, how many nodes and how many body workers each, the faults, and the files to which its trace and its log are written,
-/// where they are named.
+/// A run: its job, how many nodes and how many body workers each, the faults, the file of a store that keeps its outcome, and the files to
+/// which its trace and its log are written, where they are named.
 #[derive(Drop)]
 pub struct RunWords<'a> {
     pub job: JobWords<'a>,
     pub nodes: u64,
     pub bodies: u64,
     pub faults: Faults,
+    pub store: Option<&'a str>,
     pub trace: Option<&'a str>,
     pub log: Option<&'a str>,
 }
 
 impl<'a> RunWords<'a> {
-    /// Whether nothing asks for threads: one node with one body worker and without faults, of which no trace and no log is written.
+    /// Whether nothing asks for threads: one node with one body worker and without faults, of which no outcome is kept, and no trace and no
+    /// log is written.
     pub fn is_alone(&self) -> bool {
         self.nodes == 1
             && self.bodies == 1
             && self.faults.lose == 0
             && self.faults.repeat == 0
             && self.faults.crashes == 0
+            && self.store.is_none()
             && self.trace.is_none()
             && self.log.is_none()
     }
@@ -62,11 +77,15 @@ const ABOUT: &str = "Runs functional Cilk programs, and tells what they mean.";
 
 const CHECK: &str = "Reads a program and checks its kinds";
 
+const PRINT: &str = "Prints a program's text in its one form";
+
 const SERIAL: &str = "Prints the outcome of a program, evaluated serially";
 
 const RUN: &str = "Runs a program and prints its outcome";
 
 const REPLAY: &str = "Replays a script of events on a program and prints what it came to";
+
+const STORE: &str = "Prints what a store keeps: its job, the last epoch, and the outcome";
 
 const AFTER: &str =
     "A program's text is a file of task threads, and a script a file of events, one a line. An input is a signed 64-bit \
@@ -80,6 +99,7 @@ fn job_words<'a>(alloc: Global, name: &'a str, about: &'a str) -> Result<Command
     Command::new(alloc, name)
         .about(about)
         .arg(file_word(alloc))?
+        .arg(explain_word(alloc))?
         .arg(number_word(alloc, "turns", TURNS, "At most so many turns"))?
         .arg(number_word(alloc, "job", "1", "The job's number"))?
         .arg(input_word(alloc))
@@ -121,6 +141,14 @@ fn run_words<'a>(alloc: Global) -> Result<Command<'a>, AllocError> {
             "So many nodes leave, fewer than there are",
         ))?
         .arg(
+            Arg::new(alloc, "store")
+                .long("store")
+                .action(ArgAction::Set)
+                .help(
+                    "The file that keeps the outcome, made where it is missing; not with `--trace`",
+                ),
+        )?
+        .arg(
             Arg::new(alloc, "trace")
                 .long("trace")
                 .action(ArgAction::Set)
@@ -134,7 +162,15 @@ fn run_words<'a>(alloc: Global) -> Result<Command<'a>, AllocError> {
         )
 }
 
-/// The words of a run; none where they don't have what `run_words` asks for.
+/// The word that names the file of a store.
+fn store_word<'a>(alloc: Global) -> Arg<'a> {
+    Arg::new(alloc, "PATH")
+        .required(true)
+        .action(ArgAction::Set)
+        .help("The file of the store")
+}
+
+/// The words of a run; none where they don't have what `run_words` asks for, or ask for a store and a trace.
 fn run_of<'a>(alloc: Global, matches: &ArgMatches<'a>) -> Result<Option<RunWords<'a>>, AllocError> {
     let Some(job) = job_of(alloc, matches)? else {
         return Ok(None);
@@ -145,12 +181,17 @@ fn run_of<'a>(alloc: Global, matches: &ArgMatches<'a>) -> Result<Option<RunWords
     let Some(faults) = faults_of(matches) else {
         return Ok(None);
     };
+    let (store, trace) = (matches.get_str("store"), matches.get_str("trace"));
+    if store.is_some() && trace.is_some() {
+        return Ok(None);
+    }
     Ok(Some(RunWords {
         job,
         nodes,
         bodies,
         faults,
-        trace: matches.get_str("trace"),
+        store,
+        trace,
         log: matches.get_str("log"),
     }))
 }
@@ -175,11 +216,26 @@ fn all_words<'a>(alloc: Global) -> Result<Command<'a>, AllocError> {
         .subcommand(
             Command::new(alloc, "check")
                 .about(CHECK)
-                .arg(file_word(alloc))?,
+                .arg(file_word(alloc))?
+                .arg(explain_word(alloc))?,
+        )?
+        .subcommand(
+            Command::new(alloc, "print")
+                .about(PRINT)
+                .arg(file_word(alloc))?
+                .arg(explain_word(alloc))?,
         )?
         .subcommand(job_words(alloc, "serial", SERIAL)?)?
         .subcommand(run_words(alloc)?)?
-        .subcommand(with_replay_words(alloc, Command::new(alloc, "replay").about(REPLAY))?)
+        .subcommand(with_replay_words(alloc, Command::new(alloc, "replay").about(REPLAY))?.arg(
+            explain_word(alloc),
+        )?)?
+        .subcommand(
+            Command::new(alloc, "store")
+                .about(STORE)
+                .arg(store_word(alloc))?
+                .arg(explain_word(alloc))?,
+        )
 }
 
 /// The words of a job; none where they don't have what `job_words` asks for.
@@ -204,16 +260,31 @@ fn job_of<'a>(alloc: Global, matches: &ArgMatches<'a>) -> Result<Option<JobWords
 
 /// What the words ask for, the program's own name first; none where they ask for nothing that is there. The `Err` is a
 /// fault of usage, want of memory, or the text of the help or the version where they ask for that.
-pub fn read_words<'a, S: AsStr>(
-    alloc: Global,
-    words: &'a [S],
-) -> Result<Option<Request<'a>>, Error> {
+pub fn read_words<'a, S: AsStr>(alloc: Global, words: &'a [S]) -> Result<Option<Words<'a>>, Error> {
     let matches = all_words(alloc)?.try_get_matches_from(words)?;
-    match matches.subcommand() {
-        Some(("check", inner)) => Ok(inner.get_str("FILE").map(Request::Check)),
-        Some(("serial", inner)) => Ok(job_of(alloc, inner)?.map(Request::Serial)),
-        Some(("run", inner)) => Ok(run_of(alloc, inner)?.map(Request::Run)),
-        Some(("replay", inner)) => Ok(replay_words_of(alloc, inner)?.map(Request::Replay)),
+    let Some((command, inner)) = matches.subcommand() else {
+        return Ok(None);
+    };
+    let explain = inner.get_flag("explain");
+    match request_of(alloc, command, inner)? {
+        Some(request) => Ok(Some(Words { request, explain })),
+        None => Ok(None),
+    }
+}
+
+/// What a subcommand asks for; none where there is none of that name, or its words aren't all there.
+fn request_of<'a>(
+    alloc: Global,
+    command: &str,
+    inner: &ArgMatches<'a>,
+) -> Result<Option<Request<'a>>, AllocError> {
+    match command {
+        "check" => Ok(inner.get_str("FILE").map(Request::Check)),
+        "print" => Ok(inner.get_str("FILE").map(Request::Print)),
+        "serial" => Ok(job_of(alloc, inner)?.map(Request::Serial)),
+        "run" => Ok(run_of(alloc, inner)?.map(Request::Run)),
+        "replay" => Ok(replay_words_of(alloc, inner)?.map(Request::Replay)),
+        "store" => Ok(inner.get_str("PATH").map(Request::Store)),
         _ => Ok(None),
     }
 }

@@ -1,5 +1,5 @@
 -- Ready frames by rising level, in each level the newest last, and which of them is taken.
-use Rattle.std.specs.Prelude.{ℕ, ◌&&◌, Bool, nat_lt, nat_eq, not, if◌then◌else◌, List, [], ◌∷◌, Option, None, Some, reverse}
+use Rattle.std.specs.Prelude.{ℕ, ◌&&◌, ◌||◌, Bool, false, nat_lt, nat_eq, not, if◌then◌else◌, List, [], ◌∷◌, Option, None, Some, reverse}
 use Rattle.std.specs.List.{filter}
 use Rattle.ids.specs.Names.{Grant}
 use Rattle.level_deques.specs.declared.posts.Post.{Post}
@@ -51,6 +51,20 @@ is_post_of g frame p = nat_eq p.grant.minter g.minter && (nat_eq p.grant.number 
 -- without the posts of a frame
 abbrev pub withdrawn : Grant → ℕ → List Post → List Post
 withdrawn g frame posts = filter (λ p. not (is_post_of g frame p)) posts
+
+-- whether two posts are the same
+abbrev pub is_post : Post → Post → Bool
+is_post p q = nat_eq q.level p.level && is_post_of p.grant p.frame q
+
+-- whether one of some posts is this one
+abbrev pub is_posted : Post → List Post → Bool
+is_posted p [] = false
+is_posted p (q ∷ qs) = is_post p q || is_posted p qs
+
+-- without the newest of those posts that are this one
+abbrev pub without_post : Post → List Post → List Post
+without_post p [] = []
+without_post p (q ∷ qs) = if is_posted p qs then q ∷ without_post p qs else if is_post p q then qs else q ∷ qs
 
 -- without the posts of the frame that a post names, if there is one
 abbrev pub taken : Option Post → List Post → List Post

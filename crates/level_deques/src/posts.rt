@@ -1,8 +1,9 @@
-ghost use Rattle.std.specs.Prelude.{◌≡◌, OnOk, OnErr, length, slice_get, []};
-ghost use Rattle.level_deques.specs.Posts.{shallowest, deepest, is_post_of, withdrawn, taken, pick, goes_above, goes_below, posted, by_depth};
-ghost use Rattle.level_deques.specs.Levels.{IsByLevel};
+ghost use Rattle.std.specs.Prelude.{◌≡◌, ◌<◌, ◌+◌, ◌^◌, if◌then◌else◌, OnOk, OnErr, length, slice_get, []};
+ghost use Rattle.level_deques.specs.Posts.{shallowest, deepest, is_post_of, withdrawn, without_post, taken, posted, by_depth};
+ghost use Rattle.level_deques.specs.Levels.{AreLevels, AreRising, IsByLevel, IsParted, StandByLevel, all_posts};
 ghost use Rattle.std.specs.List.{filter};
 
+use crate::level::Level;
 use ids::{FrameNo, GrantId};
 use std::alloc::{AllocError, Global};
 use std::marker::Model;
@@ -27,23 +28,25 @@ pub trait PostTest {
         ensures { result ≡ stays self.now post.now };
 }
 
-/// The ready frames of a node. Contracts see for each level, from the least on, its posts, the newest last: one list of
-/// them all.
+/// The ready frames of a node, those of each level in a deque. Contracts see for each level, from the least on, its posts, the
+/// newest last: one list of them all.
 #[derive(Drop)]
 pub struct Posts {
-    posts: Vec<Post>,
+    alloc: Global,
+    levels: Vec<Level>,
+    count: usize,
 }
 
 impl Model for Posts {
-    ghost use Rattle.std.specs.Prelude.{List};
+    ghost use Rattle.std.specs.Prelude.{◌≡◌, List, length};
     ghost use Rattle.level_deques.specs.declared.posts.Post.{Post};
-    ghost use Rattle.level_deques.specs.Levels.{IsByLevel};
+    ghost use Rattle.level_deques.specs.Levels.{AreLevels, all_posts};
 
     ghost Value = { List Post };
 
-    ghost view = { λ p. p.posts.items };
+    ghost view = { λ p. all_posts p.levels.items };
 
-    ghost invariant = { λ p. IsByLevel p.posts.items };
+    ghost invariant = { λ p. AreLevels p.levels.items × (p.count ≡ length (all_posts p.levels.items)) };
 }
 
 impl Posts {
@@ -52,7 +55,9 @@ impl Posts {
         ensures { result ≡ [] }
     {
         Posts {
-            posts: Vec::new(alloc),
+            alloc,
+            levels: Vec::new(alloc),
+            count: 0,
         }
     }
 
@@ -60,14 +65,14 @@ impl Posts {
     pub fn len(&self) -> usize
         ensures { result ≡ length self.now }
     {
-        self.posts.len()
+        self.count
     }
 
     /// The posts stand by rising level.
     pub fn stand_by_level(&self)
         ensures { IsByLevel self.now }
     {
-        let _ = &self.posts;
+        let _ = &self.levels;
     }
 
     /// Adds a post, the newest of its level; refused for want of memory alone, which changes nothing.
@@ -75,7 +80,11 @@ impl Posts {
         ensures ok { OnOk result (self.new ≡ posted post self.old) }
         ensures err { OnErr result (self.new ≡ self.old) }
     {
-        insert(&mut self.posts, post)?;
+        let Some(count) = self.count.checked_add(1) else {
+            return Err(AllocError);
+        };
+        put(self.alloc, &mut self.levels, post)?;
+        self.count = count;
         Ok(())
     }
 
@@ -84,21 +93,21 @@ impl Posts {
     pub fn at(&self, index: usize) -> Option<Post>
         ensures { result ≡ slice_get (by_depth self.now) index }
     {
-        self.posts.iter().rev().nth(index).copied()
+        at(&self.levels, index)
     }
 
     /// The newest post of the greatest level. Takes no memory.
     pub fn deepest(&self) -> Option<Post>
         ensures { result ≡ deepest self.now }
     {
-        deepest(&self.posts)
+        self.levels.last()?.newest()
     }
 
     /// The newest post of the least level. Takes no memory.
     pub fn shallowest(&self) -> Option<Post>
         ensures { result ≡ shallowest self.now }
     {
-        shallowest(&self.posts)
+        self.levels.first()?.newest()
     }
 
     /// Takes the newest post of the greatest level away. Takes no memory.
@@ -121,100 +130,142 @@ impl Posts {
         Some(post)
     }
 
+    /// Takes the newest of those posts away that are this one, found by its level. Takes no memory.
+    pub fn take(&mut self, post: &Post)
+        ensures { self.new ≡ without_post post.now self.old }
+    {
+        if take(&mut self.levels, post) {
+            self.count -= 1;
+        }
+    }
+
     /// Takes the posts away that don't stay by a test. Takes no memory.
     pub fn retain<S: PostTest>(&mut self, test: &S)
         ensures { self.new ≡ filter (S.stays test.now) self.old }
     {
-        retain(&mut self.posts, test);
+        self.count = retain(&mut self.levels, test);
+        self.levels.retain(|level| 0 < level.len());
     }
 
     /// Takes the posts of a frame away. Takes no memory.
     pub fn withdraw(&mut self, grant: GrantId, frame: FrameNo)
         ensures { self.new ≡ withdrawn grant frame self.old }
     {
-        withdraw(&mut self.posts, grant, frame);
+        self.retain(&OfOthers { grant, frame });
     }
 }
 
+/// The copy is equal.
 impl Clone for Posts {
     ghost is_clone = { λ source copy. copy ≡ source };
 
     fn clone(&self) -> Result<Posts, AllocError> {
         Ok(Posts {
-            posts: self.posts.clone()?,
+            alloc: self.alloc,
+            levels: self.levels.clone()?,
+            count: self.count,
         })
     }
 }
 
-/// Puts a post before the first of a greater level.
-fn insert(posts: &mut Vec<Post>, post: Post) -> Result<(), AllocError>
-    ensures ok { OnOk result (posts.new.items ≡ posted post posts.old.items) }
-    ensures err { OnErr result (posts.new.items ≡ posts.old.items) }
+/// How many levels are less than this one, looked for from the greatest on.
+fn levels_below(levels: &[Level], level: u16) -> usize
+    requires { AreRising levels.now }
+    ensures { IsParted level levels.now result }
 {
-    for (i, kept) in posts.iter().enumerate() {
-        if post.level < kept.level {
-            posts.insert(i, post)?;
-            return Ok(());
-        }
+    let mut count = levels.len();
+    while 0 < count && level <= levels[count - 1].level() {
+        count -= 1;
     }
-    posts.push(post)?;
+    count
+}
+
+/// Puts a post behind those of its level; refused for want of memory alone, which changes nothing.
+fn put(alloc: Global, levels: &mut Vec<Level>, post: Post) -> Result<(), AllocError>
+    requires { AreLevels levels.old.items }
+    ensures ok { OnOk result (all_posts levels.new.items ≡ posted post (all_posts levels.old.items)) }
+    ensures levels { AreLevels levels.new.items }
+    ensures err { OnErr result (levels.new.items ≡ levels.old.items) }
+{
+    let below = levels_below(levels, post.level);
+    if below < levels.len() && levels[below].level() == post.level {
+        levels[below].post(post)?;
+    } else {
+        levels.insert(below, Level::of(alloc, post)?)?;
+    }
     Ok(())
 }
 
-/// The newest post of the greatest level.
-fn deepest(posts: &[Post]) -> Option<Post>
-    ensures { result ≡ deepest posts.now }
+/// Takes the newest of those posts away that are this one, and says whether there was one.
+fn take(levels: &mut Vec<Level>, post: &Post) -> bool
+    requires { AreLevels levels.old.items }
+    ensures taken { all_posts levels.new.items ≡ without_post post.now (all_posts levels.old.items) }
+    ensures levels { AreLevels levels.new.items }
+    ensures count { length (all_posts levels.old.items) ≡ length (all_posts levels.new.items) + (if result then 1 else 0) }
 {
-    let mut best: Option<Post> = None;
-    for post in posts {
-        best = Some(deeper(best, *post));
+    let below = levels_below(levels, post.level);
+    if below == levels.len() || levels[below].level() != post.level {
+        return false;
     }
-    best
-}
-
-/// The newest post of the least level.
-fn shallowest(posts: &[Post]) -> Option<Post>
-    ensures { result ≡ shallowest posts.now }
-{
-    let mut best: Option<Post> = None;
-    for post in posts {
-        best = Some(shallower(best, *post));
+    let before = levels[below].len();
+    levels[below].take(post);
+    let left = levels[below].len();
+    if left == 0 {
+        levels.remove(below);
     }
-    best
+    left < before
 }
 
-/// Of two posts the deeper one, and of one level the newer.
-fn deeper(best: Option<Post>, newer: Post) -> Post
-    ensures { result ≡ pick goes_below best newer }
+/// The post that comes after so many others, from the greatest level on and in a level the newest first.
+fn at(levels: &[Level], index: usize) -> Option<Post>
+    ensures { result ≡ slice_get (by_depth (all_posts levels.now)) index }
 {
-    match best {
-        Some(post) if newer.level < post.level => post,
-        _ => newer,
+    let mut index = index;
+    let mut count = levels.len();
+    while 0 < count {
+        count -= 1;
+        let level = &levels[count];
+        let len = level.len();
+        if index < len {
+            return level.at(len - 1 - index);
+        }
+        index -= len;
     }
+    None
 }
 
-/// Of two posts the shallower one, and of one level the newer.
-fn shallower(best: Option<Post>, newer: Post) -> Post
-    ensures { result ≡ pick goes_above best newer }
+/// Takes the posts away that don't stay by a test, and counts those that do.
+fn retain<S: PostTest>(levels: &mut Vec<Level>, test: &S) -> usize
+    requires counted { length (all_posts levels.old.items) < 2 ^ 64 }
+    requires stand { StandByLevel levels.old.items }
+    ensures stand { StandByLevel levels.new.items }
+    ensures posts { all_posts levels.new.items ≡ filter (S.stays test.now) (all_posts levels.old.items) }
+    ensures count { result ≡ length (all_posts levels.new.items) }
 {
-    match best {
-        Some(post) if post.level < newer.level => post,
-        _ => newer,
+    let mut count = 0;
+    for at in 0..levels.len() {
+        levels[at].retain(test);
+        count += levels[at].len();
     }
+    count
 }
 
-/// Takes the posts away that don't stay by a test.
-fn retain<S: PostTest>(posts: &mut Vec<Post>, test: &S)
-    ensures { posts.new.items ≡ filter (S.stays test.now) posts.old.items }
-{
-    posts.retain(|post| test.stays(post));
+/// The test of a post: it isn't that of a frame.
+#[derive(Drop)]
+struct OfOthers {
+    grant: GrantId,
+    frame: FrameNo,
 }
 
-/// Takes the posts of a frame away.
-fn withdraw(posts: &mut Vec<Post>, grant: GrantId, frame: FrameNo)
-    ensures { posts.new.items ≡ withdrawn grant frame posts.old.items }
-{
-    posts.retain(|post| !is_post_of(post, grant, frame));
+impl PostTest for OfOthers {
+    ghost use Rattle.std.specs.Prelude.{not};
+    ghost use Rattle.level_deques.specs.Posts.{is_post_of};
+
+    ghost stays = { λ t p. not (is_post_of t.grant t.frame p) };
+
+    fn stays(&self, post: &Post) -> bool {
+        !is_post_of(post, self.grant, self.frame)
+    }
 }
 
 /// Whether a post is that of a frame.

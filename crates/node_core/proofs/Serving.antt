@@ -12,8 +12,7 @@ use Rattle.steal_protocol.specs.declared.replies.Reply.{Reply}
 use Rattle.sub_rules.specs.Changes.{given_away, granted_out}
 use Rattle.sub_rules.specs.Content.{Ready, ready_in, task_of}
 use Rattle.subcomputation.specs.Subs.{SubOf, sub_in, with_content}
-use Rattle.subcomputation.specs.Told.{given_by}
-use Rattle.subcomputation.specs.declared.sub.Given.{Given}
+use Rattle.subcomputation.specs.Told.{Given, given_by}
 use Rattle.node_state.specs.Node.{NodeOf}
 use Rattle.node_state.specs.Parts.{IsMember}
 use Rattle.node_state.specs.Posts.{ReadyFrame, ready_of_sub}

@@ -1,9 +1,11 @@
 //! Grants: what a victim gives away, and what a thief takes.
-ghost use Rattle.std.specs.Prelude.{◌≡◌, ◌<◌, ◌≤◌, ◌+◌, ◌^◌, nat_lt, if◌then◌else◌, length, Ok, Some, None, [], ◌∷◌, IsTrue, IsSome};
+ghost use Rattle.std.specs.Prelude.{◌≡◌, ◌≤◌, ◌<◌, ◌+◌, ◌^◌, nat_lt, if◌then◌else◌, length, Ok, Some, None, [], ◌∷◌, IsTrue, IsSome};
 ghost use Rattle.codec.specs.declared.body.Body.TheVariants as body;
-ghost use Rattle.node_state.specs.Parts.{IsJoined, IsMember, IsNext, HasNoNewRecord};
+ghost use Rattle.node_state.specs.Parts.{IsJoined, IsMember, MayOpenIn};
 ghost use Rattle.subcomputation.specs.Fitting.{Fits, task_fits};
-ghost use Rattle.subcomputation.specs.Subs.{sub_in};
+ghost use Rattle.sub_rules.specs.Updates.{opened_in};
+ghost use Rattle.subcomputation.specs.Subs.{SubOf, sub_in};
+ghost use Rattle.subcomputation.specs.Told.{given_of};
 ghost use Rattle.node_core.specs.Cases as cases;
 ghost use Rattle.node_core.specs.Choosing.{own_choice};
 ghost use Rattle.node_core.specs.Meeting.{Meets, gives};
@@ -22,8 +24,8 @@ use ids::{Actor, FrameNo, GrantId, Hop, Task};
 use node_state::State;
 use std::alloc::Global;
 use steal_protocol::{Heard, Reply};
-use sub_rules::Readied;
-use subcomputation::{Given, Sub};
+use sub_rules::{Opening, Readied};
+use subcomputation::Sub;
 
 impl<'a> Node<'a> {
     /// A thief asks for work: one that isn't shown live, or asks again what it asked before its last request, is ignored, and
@@ -66,8 +68,8 @@ impl<'a> Node<'a> {
         let Some(name) = self.next_grant() else {
             return Err(NodeError::Spent);
         };
-        match sub.grant_out(alloc, post.frame, name, steal.from)? {
-            Some(given) => self.give(alloc, steal, name, given),
+        match sub.prepare_grant_out(alloc, post.frame, name, steal.from)? {
+            Some(opening) => self.give(alloc, steal, name, post.grant, opening),
             None => self.refuse(alloc, steal),
         }
     }
@@ -87,31 +89,32 @@ impl<'a> Node<'a> {
         Ok(sends(alloc, sent))
     }
 
-    /// A frame that was given away is granted, under the next number.
+    /// A ready frame of the subcomputation of a grant is given away, and granted under the next number, which is this name.
     fn give(
         &mut self,
         alloc: Global,
         steal: Steal,
         name: GrantId,
-        given: Given,
+        host: GrantId,
+        opening: Opening,
     ) -> Result<Step, NodeError>
-        requires next { IsNext self.old.node given.after [] }
-        requires counted { self.old.node.minted + 1 < 2 ^ 64 }
-        requires records { HasNoNewRecord (record self.old.node { minted = self.old.node.minted + 1 }) given.after }
-        requires fits { Fits self.old.job.program given.after.content }
-        requires task { IsTrue (task_fits self.old.job.program given.task) }
-        ensures { Meets (Does (gives self.old.job steal name given self.old.node)) result self.old self.new }
+        requires may { MayOpenIn self.old.node host opening.opened }
+        requires fits { (s : SubOf) → sub_in host self.old.node.subs ≡ Some s → Fits self.old.job.program (opened_in opening.opened s.content) }
+        requires task { IsTrue (task_fits self.old.job.program opening.task) }
+        ensures { (s : SubOf) → sub_in host self.old.node.subs ≡ Some s → Meets (Does (gives self.old.job steal name (given_of s opening) self.old.node)) result self.old self.new }
     {
-        self.fitting_task_is_few(&given.task);
+        self.fitting_task_is_few(&opening.task);
+        let Opening { opened, task } = opening;
         let grant = Grant {
             seq: steal.seq,
             grant: name,
-            task: given.task,
+            task,
         };
         let packet = Packet::grant(self.job.number(), steal.from, grant);
         let sent = alone(alloc, &packet)?;
         self.parts.give(
-            given.after,
+            host,
+            opened,
             Reply {
                 thief: steal.from,
                 seq: steal.seq,

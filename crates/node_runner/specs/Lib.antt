@@ -3,3 +3,4 @@ pub mod Configs
 pub mod Turns
 pub mod Lines
 pub mod Runs
+pub mod Stored

@@ -16,11 +16,15 @@
 //! Crash i comes once 50 i events were committed, on the place i modulo the count of nodes; departure i once 50 i + 25 were, on the i-th
 //! place from the end.
 //!
-//! **Proved**: an outcome that `run_job` answers is the job's meaning, and its trace is a safe history of the job which tells it first,
-//! whatever threads do; packets have the fates that the generator gives.
+//! **A store** keeps a job's outcome over runs: `run_stored` answers the one that is kept there; else it runs the job, and keeps its outcome
+//! before it answers it.
 //!
-//! **Not proved**: that an outcome comes, which of its refusals comes when, that the nodes share the work, and that the crashes and
-//! departures come that are asked for.
+//! **Proved**: an outcome that `run_job` answers is the job's meaning, and its trace is a safe history of the job which tells it first,
+//! whatever threads do; what `run_stored` answers was kept, or is so; a store of the job without outcome or with the job's meaning stays one
+//! at each end; packets have the fates that the generator gives.
+//!
+//! **Not proved**: that an outcome comes, which of its refusals comes when, that the nodes share the work, that each ready frame is offered
+//! and body workers evaluate it, and that the crashes and departures come that are asked for.
 #![tactic(auto)]
 
 mod config;
@@ -40,6 +44,7 @@ mod plans;
 mod resting;
 mod run;
 mod shared;
+mod stored;
 mod turn;
 mod worker;
 
@@ -48,3 +53,4 @@ pub use error::RunError;
 pub use fates::{Fate, Fates};
 pub use gate::{Gate, Open};
 pub use run::{Ran, run_job};
+pub use stored::{Stored, run_stored};

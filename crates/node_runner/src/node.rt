@@ -113,9 +113,9 @@ pub(crate) fn run_node<'a, R: Wait + Clock, G: Gate + Sync>(
     seat
 }
 
-/// A turn: a crash that is due; or else a departure and a Resend that are due, and then the next packet, a turn that came back, a ready
-/// frame that is offered to the body workers, or a request. So a node goes on with what came to it however often it has to send again.
-/// After a Resend it does nothing while another actor is behind it. Whether there was memory.
+/// A turn: a crash that is due; or else a departure and a Resend that are due, and then what there is to do. So a node goes on with what
+/// came to it however often it has to send again. After a Resend it does nothing while another actor is behind it. Whether there was
+/// memory.
 fn turn<'a, R: Wait + Clock, G: Gate + Sync>(
     rt: &R,
     alloc: Global,
@@ -153,6 +153,27 @@ fn turn<'a, R: Wait + Clock, G: Gate + Sync>(
     {
         return false;
     }
+    goes_on(rt, alloc, shared, seat, pen, desk, node)
+}
+
+/// What there is to do in a turn: the next packet, a turn that came back, a ready frame that is offered to the body workers, or a request.
+/// Where there is nothing, the node rests, and sends again where it rested long. Whether there was memory.
+fn goes_on<'a, R: Wait + Clock, G: Gate + Sync>(
+    rt: &R,
+    alloc: Global,
+    shared: &Shared<'_, 'a, G>,
+    seat: &mut ActorSeat<'a>,
+    pen: &mut Pen,
+    desk: &mut Desk,
+    node: &mut Node,
+) -> bool
+    requires seat { IsSeatIn shared.now.chronicle.now seat.old }
+    requires pen { pen.old.table ≡ shared.now.words.now.table }
+    requires line { IsLineOf shared.now.chronicle.now.job.program desk.old.line }
+    ensures seat { IsSeatIn shared.entry.now.chronicle.now seat.new }
+    ensures pen { pen.new.table ≡ shared.entry.now.words.now.table }
+    ensures line { IsLineOf shared.entry.now.chronicle.now.job.program desk.new.line }
+{
     if let Some(arrived) = node.inbox.take(rt, alloc, shared.chronicle, seat) {
         return delivers(rt, alloc, shared, seat, node, &arrived);
     }

@@ -4,6 +4,7 @@ use Rattle.std.specs.List.{filter}
 use Rattle.ids.specs.Names.{Grant}
 use Rattle.ids.specs.Named.{changed_in, changed_of, item_in, without_in}
 use Rattle.ids.specs.Naming.{name_of_frame, name_of_grant}
+use Rattle.ids.specs.declared.work.Record.{Record}
 use Rattle.ids.specs.Ordered.{AreInOrder}
 use Rattle.ids.specs.Slots.{numbers_in}
 use Rattle.ids.specs.declared.work.Frame.{Frame}
@@ -22,9 +23,10 @@ use Rattle.sub_rules.proofs.Contents.{ready_test}
 use Rattle.sub_rules.proofs.Listings.{listed_each}
 use Rattle.sub_rules.proofs.Slots.{apart, full_numbers, numbers_full}
 use Rattle.steal_protocol.specs.Requests.{AskerOf}
+use Rattle.steal_protocol.specs.Replies.{name_of_reply, put_reply, reply_in, without_reply}
 use Rattle.steal_protocol.specs.declared.replies.Reply.{Reply}
 use Rattle.subcomputation.specs.Subs.{SubOf, name_of_sub, put_sub, ready_frames, sub_in, without_sub}
-use Rattle.subcomputation.specs.Told.{updated_sub}
+use Rattle.subcomputation.specs.Told.{opened_sub, updated_sub}
 use Rattle.subcomputation.specs.declared.sub.ReadyIn.{ReadyIn}
 use Rattle.subcomputation.proofs.Others.{put_goes, put_other, without_itself, without_other}
 use Rattle.node_state.specs.Node.{NodeOf, by_state, ended, holding, hop_in, name_of_seen, put_seen, starting}
@@ -381,6 +383,14 @@ never_seen g seen none = by_item (item_in name_of_seen (name_of_grant g) seen) r
 
 pub seen_again : (g : Grant) (hop : ℕ) (seen : List Seen) → hop_in g seen ≡ None → without_in name_of_seen (name_of_grant g) (put_seen g hop seen) ≡ seen
 seen_again g hop seen none = put_goes name_of_seen (record { grant = g; hop = hop }) seen (never_seen g seen none)
+
+-- an answer that is forgotten again, to a thief that had none
+pub answered_again : (r : Reply) (replies : List Reply) → reply_in r.thief replies ≡ None → without_reply r.thief (put_reply r replies) ≡ replies
+answered_again r replies none = put_goes name_of_reply r replies none
+
+-- a record that is opened where a subcomputation stands puts it in its place
+pub opened_put : (x : Record) (g : Grant) (s : SubOf) (subs new : List SubOf) → sub_in g subs ≡ Some s → new ≡ changed_in name_of_sub (opened_sub x) (name_of_grant g) subs → new ≡ put_sub (opened_sub x s) subs
+opened_put x g s subs new there is = is ∙ ap (changed_of name_of_sub (opened_sub x) subs) there
 
 -- what is still to be minted after one more was still to be minted before
 pub more_minted : (n : NodeOf) (h : Grant) → h.minter ≡ n.incarnation → n.minted + 1 < h.number → IsFresh n h

@@ -152,14 +152,14 @@ same_post q = rw (itself q.grant) (rw (eq-eqb q.frame q.frame refl) (rw (eq-eqb 
     itself : (g : Grant) → same_grant g g ≡ true
     itself g = grant_itself g
 
-all_stay : (test : Post → Bool) (posts : List Post) → ((p : Post) → (times_posted p posts ≡ 0 → ⊥) → test p ≡ true) → filter test posts ≡ posts
+pub all_stay : (test : Post → Bool) (posts : List Post) → ((p : Post) → (times_posted p posts ≡ 0 → ⊥) → test p ≡ true) → filter test posts ≡ posts
 all_stay test [] h = refl
 all_stay test (q ∷ qs) h =
     let here : test q ≡ true = h q (λ none. let one = same_post q in let sum = sum_by-cons (is_same_post q) q qs in omega arith) in
     let rest = all_stay test qs (λ p some. h p (λ none. some (let sum = sum_by-cons (is_same_post p) q qs in omega arith))) in
     ap (λ b. cond b (q ∷ filter test qs) (filter test qs)) here ∙ ap (λ xs. q ∷ xs) rest
 
-is_there : (p : Post) (o : Option ReadyFrame) → (is_post_at p o ≡ 0 → ⊥) → is_some o ≡ true
+pub is_there : (p : Post) (o : Option ReadyFrame) → (is_post_at p o ≡ 0 → ⊥) → is_some o ≡ true
 is_there p None some = absurd (some refl)
 is_there p (Some f) some = refl
 

@@ -4,3 +4,4 @@ pub mod Leaves
 pub mod Keeping
 pub mod Recovers
 pub mod Accepts
+pub mod Standing

@@ -1,3 +1,4 @@
 pub mod Node
 pub mod Posts
 pub mod Parts
+pub mod Stale

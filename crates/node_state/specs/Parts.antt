@@ -1,7 +1,8 @@
 -- A node and its posts, and what holds of them between its calls.
-use Rattle.std.specs.Prelude.{◌≡◌, ◌<◌, ℕ, ◌&&◌, Bool, nat_eq, List, [], Option, None, Some, IsSome, map, sum_by}
+use Rattle.std.specs.Prelude.{◌≡◌, ◌+◌, ◌<◌, ◌^◌, ℕ, ◌&&◌, Bool, nat_eq, List, [], Option, None, Some, IsSome, map, sum_by}
 use Rattle.ids.specs.Names.{Grant}
 use Rattle.ids.specs.Place.{level_of}
+use Rattle.ids.specs.declared.work.Record.{Record}
 use Rattle.level_deques.specs.declared.posts.Post.{Post}
 use Rattle.victim_records.specs.Records.{record_in}
 use Rattle.sub_rules.specs.Debts.{one_if}
@@ -9,9 +10,9 @@ use Rattle.sub_rules.specs.Readiness.{TellsReady}
 use Rattle.sub_rules.specs.declared.change.Readied.{Readied}
 use Rattle.steal_protocol.specs.Requests.{AskerOf}
 use Rattle.sub_rules.specs.declared.updates.Update.{Update}
-use Rattle.sub_rules.specs.Updates.{updated, MayUpdate}
+use Rattle.sub_rules.specs.Updates.{opened_in, updated, MayUpdate}
 use Rattle.subcomputation.specs.Subs.{IsBegun, SubOf, put_sub, sub_in}
-use Rattle.subcomputation.specs.Told.{updated_sub}
+use Rattle.subcomputation.specs.Told.{opened_sub, updated_sub}
 use Rattle.subcomputation.specs.declared.sub.ReadyIn.{ReadyIn}
 use Rattle.recovery.specs.Told.{ComesTold}
 use Rattle.node_state.specs.Node.{NodeOf, hop_in}
@@ -124,6 +125,17 @@ pub record MayUpdateIn (n : NodeOf) (g : Grant) (u : Update) (told : List Readie
   pub begun : IsBegun (updated u sub.content)
   pub next : IsNext n (updated_sub u sub) told
   pub records : HasNoNewRecord n (updated_sub u sub)
+
+-- a record may be opened of the subcomputation of a grant, in the place of its frame: nothing else becomes ready, and it has no record of
+-- a grant of which it had none but the next one
+pub record MayOpenIn (n : NodeOf) (g : Grant) (x : Record) : Type 0 where
+  pub sub : SubOf
+  pub there : sub_in g n.subs ≡ Some sub
+  pub named : sub.grant ≡ g
+  pub begun : IsBegun (opened_in x sub.content)
+  pub next : IsNext n (opened_sub x sub) []
+  pub counted : n.minted + 1 < 2 ^ 64
+  pub records : HasNoNewRecord (record n { minted = n.minted + 1 }) (opened_sub x sub)
 
 -- what comes of an Offer of a grant, which a recovery may have dropped: a subcomputation of that grant, with no record of a
 -- grant that is still to be minted here

@@ -1,36 +1,42 @@
-ghost use Rattle.std.specs.Prelude.{◌≡◌, ◌<◌, ◌+◌, ◌^◌, ℕ, OnOk, OnErr, IfOk, IfSome, IsSome, None, Some, option_copied, is_some, [], refl};
+ghost use Rattle.std.specs.Prelude.{◌≡◌, ◌<◌, ◌+◌, ◌^◌, ℕ, List, OnOk, OnErr, IfOk, IfSome, IsSome, IsSomeAnd, None, Some, option_copied, is_some, [], refl};
 ghost use Rattle.std.specs.List.{filter};
 ghost use Rattle.ids.specs.declared.member.Status as declared;
 ghost use Rattle.sub_rules.specs.declared.change.Readied as readied;
-ghost use Rattle.subcomputation.specs.Subs.{sub_in, host_in, put_sub, without_sub, ready_frames, grants_of};
+ghost use Rattle.subcomputation.specs.Subs.{sub_in, host_in, name_of_sub, put_sub, without_sub, ready_frames, grants_of};
 ghost use Rattle.steal_protocol.specs.Requests.{asked, IsAsked, without_request, settled};
 ghost use Rattle.steal_protocol.specs.Replies.{put_reply};
 ghost use Rattle.node_state.specs.Node.{starting, ended, is_confirmed, hop_in, holding, name_of_confirmed, put_confirmed, put_seen, name_of_seen};
-ghost use Rattle.node_state.specs.Posts.{posted_all, posts_after, ready_of_sub};
+ghost use Rattle.level_deques.specs.Levels.{IsByLevel};
+ghost use Rattle.level_deques.specs.declared.posts.Post.{Post};
+ghost use Rattle.node_state.specs.Posts.{post_of, posted_all, posts_after, ready_of_sub};
+ghost use Rattle.node_state.specs.Stale.{Covers, stale_by, stale_in};
 ghost use Rattle.sub_rules.specs.Changes.{readied_in};
 ghost use Rattle.ids.specs.Naming.{name_of_frame, name_of_grant};
 ghost use Rattle.ids.specs.Names.{Grant};
 ghost use Rattle.ids.specs.Ordered.{AreInOrder};
+ghost use Rattle.ids.specs.Named.{changed_in};
 ghost use Rattle.subcomputation.specs.Subs.{IsBegun, SubOf};
-ghost use Rattle.subcomputation.specs.Told.{updated_sub};
-ghost use Rattle.sub_rules.specs.Updates.{updated, MayUpdate};
+ghost use Rattle.subcomputation.specs.Told.{opened_sub, updated_sub};
+ghost use Rattle.sub_rules.specs.Updates.{opened_in, updated, MayUpdate};
 ghost use Rattle.node_state.specs.declared.parts.State.TheVariants.{Member, Leaving};
-ghost use Rattle.node_state.specs.Parts.{ArePosts, MayBeMember, MayCome, IsJoined, IsLeaving, IsMember, IsNext, HasNoNewRecord, IsFresh, MayUpdateIn, put_some, ready_of, with_posts};
+ghost use Rattle.node_state.specs.Parts.{ArePosts, MayBeMember, MayCome, IsJoined, IsLeaving, IsMember, IsNext, HasNoNewRecord, IsFresh, MayOpenIn, MayUpdateIn, put_some, ready_of, with_posts};
 ghost use Rattle.recovery.specs.Plans.{IsPlan};
 ghost use Rattle.recovery.specs.Told.{AreWhole, IsWhole};
 ghost use Rattle.subcomputation.specs.Recovering.{recovered};
 ghost use Rattle.subcomputation.specs.Fitting.{Fits};
 ghost use Rattle.task_tree.specs.declared.tree.Program.{Program};
 
-use crate::parts::{Confirmed, Seen, State};
+use crate::parts::{Confirmed, Seen, Stale, State};
 use codec::Roster;
-use ids::{Actor, GrantId, Hop, Incarnation, Named, Status, Store, TryChange, Values};
+use ids::{
+    Actor, FrameNo, GrantId, Hop, Incarnation, Named, Record, Status, Store, TryChange, Values,
+};
 use level_deques::{Post, PostTest, Posts};
 use recovery::Plan;
 use std::alloc::{AllocError, Global};
 use std::marker::Model;
 use steal_protocol::{AskError, Asker, Replies, Reply, Request};
-use sub_rules::{Readied, Update};
+use sub_rules::{Leaver, Readied, Update, Work};
 use subcomputation::{ReadyIn, Sub};
 
 /// The name under which what a grant names is kept.
@@ -352,34 +358,36 @@ impl Parts {
         ensures ok { (s : SubOf) → sub_in grant self.old.node.subs ≡ Some s → OnOk result (self.new ≡ with_posts (record self.old.node { subs = put_sub (updated_sub update s) self.old.node.subs }) (ready_of grant ready.now) self.old.posts) }
         ensures err { OnErr result (self.new ≡ self.old) }
     {
-        let posts = posted(&self.posts, grant, ready)?;
+        let stale = stale_by(&self.subs, grant, &update);
+        self.posts.stand_by_level();
+        post_ready(&mut self.posts, grant, ready)?;
         frames_stand_in_order(&self.subs, grant);
         let change = InPlace {
             alloc: self.alloc,
             update,
         };
-        self.subs.try_change(name_of(grant), change)?;
+        if let Err(refused) = self.subs.try_change(name_of(grant), change) {
+            take_back(&mut self.posts, grant, ready);
+            return Err(refused);
+        }
         frames_stand_in_order(&self.subs, grant);
-        self.posts = posts;
-        withdraw_stale(&mut self.posts, &self.subs);
+        withdraw(&mut self.posts, &self.subs, stale);
         Ok(())
     }
 
-    /// Puts a subcomputation in the place of the one that a member holds under its grant, after a frame of it was given away
-    /// under the next number, and keeps the answer to the thief; refused for want of memory alone, which changes nothing.
-    pub fn give(&mut self, after: Sub, reply: Reply) -> Result<(), AllocError>
-        requires next { IsNext self.old.node after [] }
-        requires counted { self.old.node.minted + 1 < 2 ^ 64 }
-        requires records { HasNoNewRecord (record self.old.node { minted = self.old.node.minted + 1 }) after }
-        ensures ok { OnOk result (self.new ≡ with_posts (record self.old.node { minted = self.old.node.minted + 1; subs = put_sub after self.old.node.subs; replies = put_reply reply self.old.node.replies }) [] self.old.posts) }
+    /// Gives a ready frame away of the subcomputation that a member holds under a grant, where it stands, under the next number: its
+    /// record stands in its place. Keeps the answer to the thief. Refused for want of memory alone, which changes nothing.
+    pub fn give(&mut self, grant: GrantId, opened: Record, reply: Reply) -> Result<(), AllocError>
+        requires { MayOpenIn self.old.node grant opened }
+        ensures ok { (s : SubOf) → sub_in grant self.old.node.subs ≡ Some s → OnOk result (self.new ≡ with_posts (record self.old.node { minted = self.old.node.minted + 1; subs = put_sub (opened_sub opened s) self.old.node.subs; replies = put_reply reply self.old.node.replies }) [] self.old.posts) }
         ensures err { OnErr result (self.new ≡ self.old) }
     {
-        self.replies.keep(reply)?;
-        frames_stand_in_order(&self.subs, after.grant());
-        stands_in_order(&after);
+        let stale = stale_in(&self.subs, grant, opened.frame);
+        frames_stand_in_order(&self.subs, grant);
+        open_and_answer(&mut self.subs, &mut self.replies, grant, opened, reply)?;
+        frames_stand_in_order(&self.subs, grant);
         self.minted += 1;
-        self.subs.replace(after);
-        withdraw_stale(&mut self.posts, &self.subs);
+        withdraw(&mut self.posts, &self.subs, stale);
         Ok(())
     }
 
@@ -489,6 +497,85 @@ fn is_whole(sub: &Sub)
     content.records.stand_in_order();
 }
 
+/// The post of a ready frame of a grant's subcomputation.
+fn post_in(grant: GrantId, ready: Readied) -> Post
+    ensures { result ≡ post_of (record { grant = grant; frame = ready }) }
+{
+    Post {
+        level: ready.level,
+        grant,
+        frame: ready.frame,
+    }
+}
+
+/// Posts frames of a grant's subcomputation that became ready, behind the others; refused for want of memory alone, which changes
+/// nothing.
+fn post_ready(posts: &mut Posts, grant: GrantId, ready: &[Readied]) -> Result<(), AllocError>
+    requires { IsByLevel posts.old }
+    ensures ok { OnOk result (posts.new ≡ posted_all (ready_of grant ready.now) posts.old) }
+    ensures err { OnErr result (posts.new ≡ posts.old) }
+{
+    for (count, frame) in ready.iter().enumerate() {
+        if let Err(refused) = posts.post(post_in(grant, *frame)) {
+            take_back(posts, grant, &ready[..count]);
+            return Err(refused);
+        }
+    }
+    Ok(())
+}
+
+/// Takes posts back that were the last to come. Takes no memory.
+fn take_back(posts: &mut Posts, grant: GrantId, ready: &[Readied])
+    ensures { (before : List Post) → IsByLevel before → posts.old ≡ posted_all (ready_of grant ready.now) before → posts.new ≡ before }
+{
+    let mut count = ready.len();
+    while 0 < count {
+        count -= 1;
+        posts.take(&post_in(grant, ready[count]));
+    }
+}
+
+/// What an update of the subcomputation of a grant takes of the posts: all of its frames may go where it ends, and else the post
+/// of the frame that leaves does.
+fn stale_by(subs: &Store<Sub>, grant: GrantId, update: &Update) -> Stale
+    ensures { result ≡ stale_by grant update.now (sub_in grant subs.now) }
+{
+    match (&update.work, update.leaver) {
+        (Work::Ends(_), _) => Stale::Any,
+        (_, Leaver::RecordOf(_)) => Stale::Nothing,
+        (_, Leaver::FrameOf(number)) => stale_in(subs, grant, number),
+    }
+}
+
+/// What a frame that leaves the subcomputation of a grant takes of the posts: its own, if it is there.
+fn stale_in(subs: &Store<Sub>, grant: GrantId, number: FrameNo) -> Stale
+    ensures { result ≡ stale_in grant number (sub_in grant subs.now) }
+{
+    let Some(sub) = subs.get(name_of(grant)) else {
+        return Stale::Nothing;
+    };
+    match sub.content().frames.get(number) {
+        Some(frame) => Stale::One(Post {
+            level: frame.place.level(),
+            grant,
+            frame: number,
+        }),
+        None => Stale::Nothing,
+    }
+}
+
+/// Takes the posts away of what isn't ready any more, where it is known which of them that may be.
+fn withdraw(posts: &mut Posts, subs: &Store<Sub>, stale: Stale)
+    requires { Covers subs.now posts.old stale }
+    ensures { posts.new ≡ filter (λ p. is_some (ready_of_sub p.frame (sub_in p.grant subs.now))) posts.old }
+{
+    match stale {
+        Stale::Nothing => {}
+        Stale::One(post) => posts.take(&post),
+        Stale::Any => withdraw_stale(posts, subs),
+    }
+}
+
 /// Takes the posts away of what isn't ready any more.
 fn withdraw_stale(posts: &mut Posts, subs: &Store<Sub>)
     ensures { posts.new ≡ filter (λ p. is_some (ready_of_sub p.frame (sub_in p.grant subs.now))) posts.old }
@@ -538,6 +625,53 @@ fn note(
         return Err(refused);
     }
     Ok(())
+}
+
+/// Opens a record in the subcomputation of a grant, in the place of its frame, and keeps the answer to a thief; want of memory changes
+/// neither. Where the thief has an answer, its place takes no memory; else the answer is forgotten again.
+fn open_and_answer(
+    subs: &mut Store<Sub>,
+    replies: &mut Replies,
+    grant: GrantId,
+    opened: Record,
+    reply: Reply,
+) -> Result<(), AllocError>
+    requires { IsSomeAnd (sub_in grant subs.old) (λ s. IsBegun (opened_in opened s.content)) }
+    ensures subs { OnOk result (subs.new ≡ changed_in name_of_sub (opened_sub opened) (name_of_grant grant) subs.old) }
+    ensures replies { OnOk result (replies.new ≡ put_reply reply replies.old) }
+    ensures err { OnErr result ((subs.new ≡ subs.old) × (replies.new ≡ replies.old)) }
+{
+    let change = Opens { opened };
+    if replies.get(reply.thief).is_some() {
+        subs.try_change(name_of(grant), change)?;
+        replies.replace(reply);
+        return Ok(());
+    }
+    let thief = reply.thief;
+    replies.keep(reply)?;
+    if let Err(refused) = subs.try_change(name_of(grant), change) {
+        replies.forget(thief);
+        return Err(refused);
+    }
+    Ok(())
+}
+
+/// The opening of a record in the place of its frame.
+#[derive(Drop)]
+struct Opens {
+    opened: Record,
+}
+
+impl TryChange<Sub> for Opens {
+    ghost fits = { λ change sub. IsBegun (opened_in change.opened sub.content) };
+
+    ghost changed = { λ change sub. opened_sub change.opened sub };
+
+    ghost keeps_name = { λ change sub. refl };
+
+    fn try_apply(self, sub: &mut Sub) -> Result<(), AllocError> {
+        sub.open(self.opened)
+    }
 }
 
 /// A change of a subcomputation that was prepared.

@@ -1,5 +1,6 @@
 use codec::Roster;
 use ids::{GrantId, Hop, Incarnation};
+use level_deques::Post;
 
 /// Where a node stands. It is joining until a roster lists it. A node that leaves to an heir has frozen all that it holds,
 /// for that heir. An ended one holds nothing, ignores packets and refuses calls.
@@ -23,4 +24,12 @@ pub struct Seen {
 pub struct Confirmed {
     pub thief: Incarnation,
     pub grant: GrantId,
+}
+
+/// Which posts may be of frames that aren't ready any more after a change: none, one, or any.
+#[derive(Clone, Copy, PartialEq, Eq, Debug)]
+pub enum Stale {
+    Nothing,
+    One(Post),
+    Any,
 }

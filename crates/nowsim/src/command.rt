@@ -1,7 +1,8 @@
 ghost use Rattle.std.specs.Prelude.{◌≡◌};
 ghost use Rattle.nowsim.specs.Status.{of_words, status_of};
 
-use crate::words::read_words;
+use crate::words::{Words, read_words};
+use explaining::explain_replay;
 use replaying::{ReplayFault, ReplayWords, WordsFault, help_of, replay_files, write_replayed};
 use std::convert::AsStr;
 use std::fmt;
@@ -71,22 +72,65 @@ fn write_help<O: Write>(out: &mut O, help: &clap::Error) -> io::Result<()> {
 }
 
 /// Carries out a command line, the program's own name its first word: what a run came to goes to `out`, and a fault goes to
-/// `err` as one line. The status to end with is 0 where all was done, and else that of the fault.
+/// `err` as one line, behind which it is explained where the words ask for that. The status to end with is 0 where all was done, and
+/// else that of the fault.
 pub fn command<R: Files + AllocGlobal, S: AsStr, O: Write, E: Write>(
     rt: &R,
     words: &[S],
     out: &mut O,
     err: &mut E,
 ) -> u8 {
-    let done = match read_words(rt.alloc(), words) {
-        Ok(Some(words)) => answer(rt, words, out),
-        Ok(None) => Err(SimFault::Usage),
-        Err(error) => shown(error, out),
-    };
-    match done {
+    match read_words(rt.alloc(), words) {
+        Ok(Some(line)) => carried_out(rt, line, out, err),
+        Ok(None) => refused(SimFault::Usage, err),
+        Err(error) => match shown(error, out) {
+            Ok(()) => 0,
+            Err(fault) => refused(fault, err),
+        },
+    }
+}
+
+/// Carries out a replay; the status to end with.
+fn carried_out<R: Files + AllocGlobal, O: Write, E: Write>(
+    rt: &R,
+    line: Words<'_>,
+    out: &mut O,
+    err: &mut E,
+) -> u8 {
+    let Words { replay, explain } = line;
+    let (file, script) = (replay.file, replay.script);
+    match answer(rt, replay, out) {
         Ok(()) => 0,
+        Err(fault) if explain => explained(rt, fault, file, script, err),
         Err(fault) => refused(fault, err),
     }
+}
+
+/// Explains a fault of a replay of two files.
+fn explain<R: Files + AllocGlobal, E: Write>(
+    rt: &R,
+    fault: &SimFault,
+    file: &str,
+    script: &str,
+    err: &mut E,
+) -> io::Result<()> {
+    match fault {
+        SimFault::Usage => Ok(()),
+        SimFault::Replay(replay) => explain_replay(rt, err, *replay, file, script),
+    }
+}
+
+/// Writes a fault of a replay of two files to `err`, and explains it; the status to end with.
+fn explained<R: Files + AllocGlobal, E: Write>(
+    rt: &R,
+    fault: SimFault,
+    file: &str,
+    script: &str,
+    err: &mut E,
+) -> u8 {
+    let _ = write_line(err, format_args!("nowsim: {fault}"));
+    let _ = explain(rt, &fault, file, script, err);
+    fault.status()
 }
 
 /// Writes a fault to `err` as one line; the status to end with.

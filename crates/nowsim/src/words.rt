@@ -1,5 +1,5 @@
 use clap::{Command, Error};
-use replaying::{ReplayWords, replay_words_of, with_replay_words};
+use replaying::{ReplayWords, explain_word, replay_words_of, with_replay_words};
 use std::alloc::{AllocError, Global};
 use std::convert::AsStr;
 
@@ -16,15 +16,23 @@ fn all_words<'a>(alloc: Global) -> Result<Command<'a>, AllocError> {
         .version("0.1.0")
         .about(ABOUT)
         .after_help(AFTER);
-    with_replay_words(alloc, command)
+    with_replay_words(alloc, command)?.arg(explain_word(alloc))
+}
+
+/// A command line: the replay that it asks for, and whether a fault is to be explained.
+#[derive(Drop)]
+pub struct Words<'a> {
+    pub replay: ReplayWords<'a>,
+    pub explain: bool,
 }
 
 /// What the words ask for, the program's own name first; none where they ask for nothing that is there. The `Err` is a
 /// fault of usage, want of memory, or the text of the help or the version where they ask for that.
-pub fn read_words<'a, S: AsStr>(
-    alloc: Global,
-    words: &'a [S],
-) -> Result<Option<ReplayWords<'a>>, Error> {
+pub fn read_words<'a, S: AsStr>(alloc: Global, words: &'a [S]) -> Result<Option<Words<'a>>, Error> {
     let matches = all_words(alloc)?.try_get_matches_from(words)?;
-    Ok(replay_words_of(alloc, &matches)?)
+    let explain = matches.get_flag("explain");
+    match replay_words_of(alloc, &matches)? {
+        Some(replay) => Ok(Some(Words { replay, explain })),
+        None => Ok(None),
+    }
 }

@@ -3,3 +3,4 @@ pub mod Turning
 pub mod Keeping
 pub mod Beginning
 pub mod Ending
+pub mod Taking

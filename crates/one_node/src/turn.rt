@@ -4,7 +4,7 @@ ghost use Rattle.sub_rules.specs.Debts.{IsSound};
 ghost use Rattle.one_node.specs.Runs.{one_turn, posted_all, run_of};
 ghost use Rattle.one_node.specs.Holding.{Follows, Holds, IsCarried, IsFrame, IsTurnOf, TurnFails};
 
-use crate::begin::{Run, own_grant, post_of};
+use crate::begin::{Run, post_of};
 use crate::fault::RunFault;
 use agreement::turn_keeps_agreement;
 use body_eval::Done;
@@ -23,13 +23,14 @@ pub fn turn(alloc: Global, job: &Job, run: Run) -> Result<Run, RunFault>
 {
     let Run { content, posts } = run;
     content.frames.stand_in_order();
-    let frame = posts.deepest().unwrap().frame;
+    let newest = posts.deepest().unwrap();
+    let frame = newest.frame;
     let done = evaluated(alloc, job, &content, frame)?;
     let Change { after, ready, .. } = carried(alloc, content, frame, &done)?;
     after.frames.stand_in_order();
     turn_keeps_agreement();
     let mut posts = posts;
-    posts.withdraw(own_grant(), frame);
+    posts.take(&newest);
     post_all(&mut posts, ready.as_slice())?;
     Ok(Run {
         content: after,

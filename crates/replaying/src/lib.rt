@@ -10,6 +10,6 @@ pub use fault::ReplayFault;
 pub use files::replay_files;
 pub use replayed::{Replayed, replay_script, write_replayed};
 pub use words::{
-    ReplayWords, WordsFault, file_word, help_of, input_of, input_word, number_word, own_words,
-    replay_words_of, with_replay_words,
+    ReplayWords, WordsFault, explain_word, file_word, help_of, input_of, input_word, number_word,
+    own_words, replay_words_of, with_replay_words,
 };

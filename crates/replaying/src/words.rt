@@ -53,6 +53,14 @@ pub fn file_word<'a>(alloc: Global) -> Arg<'a> {
         .help("The file of the program's text")
 }
 
+/// The option that asks for more of a fault than its line.
+pub fn explain_word<'a>(alloc: Global) -> Arg<'a> {
+    Arg::new(alloc, "explain")
+        .long("explain")
+        .action(ArgAction::SetTrue)
+        .help("Explains a fault, behind its line")
+}
+
 /// An option whose word is a number from 0 on, with the one that is meant where it isn't given.
 pub fn number_word<'a>(alloc: Global, name: &'a str, usual: &'a str, help: &'a str) -> Arg<'a> {
     Arg::new(alloc, name)

@@ -15,25 +15,57 @@ use task_syntax::parse;
 const FIB: &[u8] =
     b"thread main(k, n) { if n < 2 { send_argument(k, n); } else { spawn_next sum(k, ?x, ?y); spawn main(x, n - 1); spawn main(y, n - 2); } } thread sum(k, x, y) { send_argument(k, x + y); }";
 
-/// The body that is held, and the one that has to begin before.
+/// The body that is held.
 const HELD: u64 = 2;
-
-const BEFORE: u64 = 3;
 
 /// How many turns may be taken.
 const TURNS: u64 = 200_000_000;
 
-/// The gate that holds one body until another one has begun. It counts those that began.
+/// What is run under the gate: which Fibonacci number, under which faults, and which body has to begin before the one that is held goes on.
 #[derive(Drop)]
-struct Held {
-    begun: AtomicU64,
-    goes: AtomicU64,
+pub struct Held {
+    input: i64,
+    faults: Faults,
+    before: u64,
 }
 
-impl Gate for Held {
+impl Held {
+    /// The third number, without faults. The third body has to begin.
+    pub fn alone() -> Held {
+        Held {
+            input: 3,
+            faults: Faults::none(),
+            before: 3,
+        }
+    }
+
+    /// The twelfth number, on so many nodes, each of which crashes once or leaves, and one leaves where there are more. The body that has
+    /// to begin does so after all that.
+    pub fn faulty(nodes: u64) -> Held {
+        Held {
+            input: 12,
+            faults: Faults {
+                crashes: nodes,
+                departures: if nodes > 1 { 1 } else { 0 },
+                ..Faults::none()
+            },
+            before: 400,
+        }
+    }
+}
+
+/// The gate that holds one body until another one has begun. It counts those that began.
+#[derive(Drop)]
+struct Holding {
+    begun: AtomicU64,
+    goes: AtomicU64,
+    before: u64,
+}
+
+impl Gate for Holding {
     fn begun(&self, body: u64) {
         let _ = self.begun.fetch_add(1, SeqCst);
-        if body == BEFORE {
+        if body == self.before {
             self.goes.store(1, SeqCst);
         }
     }
@@ -43,23 +75,25 @@ impl Gate for Held {
     }
 }
 
-/// Runs the third Fibonacci number on so many nodes with so many body workers each, under the gate. The script of the run, and behind it
-/// how many bodies began, and the value.
+/// Runs a Fibonacci number on so many nodes with so many body workers each, under the gate. The script of the run, and behind it how many
+/// bodies began, and the value.
 pub fn run_held<R: Threads + Wait + Clock + Sync>(
     rt: &R,
     alloc: Global,
     nodes: u64,
     bodies: u64,
+    held: &Held,
 ) -> Result<String> {
     let mut input = Vec::new(alloc);
-    input.push(3i64)?;
+    input.push(held.input)?;
     let job = Job::new(check(alloc, parse(alloc, FIB)?)?, input, 1)?;
-    let Some(config) = RunConfig::new(nodes, bodies, Faults::none(), TURNS) else {
+    let Some(config) = RunConfig::new(nodes, bodies, held.faults, TURNS) else {
         bail!("no such run");
     };
-    let gate = Held {
+    let gate = Holding {
         begun: AtomicU64::new(0),
         goes: AtomicU64::new(0),
+        before: held.before,
     };
     let ran = run_job(rt, alloc, &job, &config, &gate)?;
     let Outcome::Value(value) = ran.outcome else {

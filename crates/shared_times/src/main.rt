@@ -1,6 +1,6 @@
 //! What threads share without waiting, again and again, for `bench/shared`, which takes the time:
 //! `shared_times draws|adds|tickets|reads|loads THREADS ROUNDS` prints how often it was done in all. At most 64 threads do it.
-//! `shared_times held NODES BODIES` runs a job under a gate that holds a body, for `examples/run_nodes`.
+//! `shared_times held|faulty NODES BODIES` runs a job under a gate that holds a body, for `examples/run_nodes`.
 #![tactic(auto)]
 
 mod held;
@@ -9,7 +9,7 @@ ghost use Rattle.std.specs.Prelude.{◌≡◌, ◌≤◌};
 
 use anyhow::{Context, Result, bail};
 use board::Board;
-use held::run_held;
+use held::{Held, run_held};
 use kind_check::check;
 use local_pool::{BodyWorker, LocalPool, Owner};
 use serial_meaning::{Job, serial};
@@ -191,7 +191,7 @@ fn work<R: Threads + Sync>(
         "tickets" => tickets(rt, alloc, threads, rounds),
         "reads" => reads(rt, alloc, threads, rounds),
         "loads" => loads(rt, alloc, threads, rounds),
-        _ => bail!("draws, adds, tickets, reads, loads or held is wanted"),
+        _ => bail!("draws, adds, tickets, reads, loads, held or faulty is wanted"),
     }
 }
 
@@ -202,8 +202,10 @@ fn run<R: Env + Threads + Wait + Clock + AllocGlobal + Sync>(rt: &R) -> Result<S
         bail!("what to do, a number of threads and a number of rounds are wanted");
     };
     let (threads, rounds) = (number(threads)?, number(rounds)?);
-    if what.as_str() == "held" {
-        return run_held(rt, alloc, threads, rounds);
+    match what.as_str() {
+        "held" => return run_held(rt, alloc, threads, rounds, &Held::alone()),
+        "faulty" => return run_held(rt, alloc, threads, rounds, &Held::faulty(threads)),
+        _ => {}
     }
     let done = work(rt, alloc, what.as_str(), threads.min(64) as usize, rounds)?;
     Ok(format!(in alloc; "{done}")?)

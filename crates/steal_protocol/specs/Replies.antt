@@ -3,7 +3,7 @@ use Rattle.std.specs.Prelude.{ℕ, List, Option, None, Some}
 use Rattle.std.specs.Ordering.{nat_cmp}
 use Rattle.std.specs.declared.cmp.Ordering.{Ordering}
 use Rattle.std.specs.declared.cmp.Ordering.TheVariants.{Less, Equal, Greater}
-use Rattle.ids.specs.Named.{Name, item_in, put_in}
+use Rattle.ids.specs.Named.{Name, item_in, put_in, without_in}
 use Rattle.codec.specs.Table.{PacketOf}
 use Rattle.steal_protocol.specs.declared.replies.Heard.{Heard as HeardBy}
 use Rattle.steal_protocol.specs.declared.replies.Heard.TheVariants as by
@@ -19,6 +19,10 @@ reply_in thief replies = item_in name_of_reply (thief, 0) replies
 -- with an answer in the place of the last one
 abbrev pub put_reply : Reply → List Reply → List Reply
 put_reply r replies = put_in name_of_reply r replies
+
+-- without the last answer to a thief
+abbrev pub without_reply : ℕ → List Reply → List Reply
+without_reply thief replies = without_in name_of_reply (thief, 0) replies
 
 -- by the order of two numbers
 unfoldable pub by_order : {B : Type 0} → Ordering → (below same above : B) → B

@@ -1,5 +1,5 @@
-ghost use Rattle.std.specs.Prelude.{◌≡◌, OnOk, OnErr, option_copied, length, []};
-ghost use Rattle.steal_protocol.specs.Replies.{reply_in, put_reply, heard, told, name_of_reply};
+ghost use Rattle.std.specs.Prelude.{◌≡◌, IsSome, OnOk, OnErr, option_copied, length, []};
+ghost use Rattle.steal_protocol.specs.Replies.{reply_in, put_reply, without_reply, heard, told, name_of_reply};
 
 use codec::Packet;
 use ids::{Count, Incarnation, Named, Store, Values};
@@ -100,5 +100,20 @@ impl Replies {
         ensures err { OnErr result (self.new ≡ self.old) }
     {
         self.replies.put(reply)
+    }
+
+    /// Keeps an answer in the place of the last one to its thief, which there is; takes no memory.
+    pub fn replace(&mut self, reply: Reply)
+        requires { IsSome (reply_in reply.thief self.old) }
+        ensures { self.new ≡ put_reply reply self.old }
+    {
+        self.replies.replace(reply);
+    }
+
+    /// Forgets the last answer to a thief; takes no memory.
+    pub fn forget(&mut self, thief: Incarnation)
+        ensures { self.new ≡ without_reply thief self.old }
+    {
+        self.replies.take((thief.word(), 0));
     }
 }

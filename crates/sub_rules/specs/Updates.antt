@@ -1,9 +1,11 @@
 -- A change of a content in two parts: first all is made ready that takes memory, and then the content changes where it stands.
 use Rattle.std.specs.Prelude.{◌≡◌, ◌<◌, ℕ, IsTrue, List, [], ◌++◌, Option, None, Some, Result, Ok, Err}
+use Rattle.ids.specs.Names.{Grant}
 use Rattle.ids.specs.declared.work.Record.{Record}
 use Rattle.frames.specs.Frames.{frame_in, without_frame, fill_of, is_empty_of, AreBelow, AreNumbered}
-use Rattle.victim_records.specs.Records.{without_record}
+use Rattle.victim_records.specs.Records.{put_record, without_record}
 use Rattle.sub_rules.specs.declared.change.Change.{Change}
+use Rattle.sub_rules.specs.declared.change.Opening.{Opening}
 use Rattle.sub_rules.specs.declared.change.SubError.{SubError}
 use Rattle.sub_rules.specs.declared.change.SubError.TheVariants.{Stale, Spent, Memory}
 use Rattle.sub_rules.specs.declared.content.Content.{Content}
@@ -13,7 +15,8 @@ use Rattle.sub_rules.specs.declared.updates.Work.{Work}
 use Rattle.sub_rules.specs.declared.updates.Work.TheVariants.{Ends, Fills, Adds}
 use Rattle.sub_rules.specs.declared.updates.Update.{Update}
 use Rattle.sub_rules.specs.declared.updates.Prepared.{Prepared}
-use Rattle.sub_rules.specs.Changes.{ends}
+use Rattle.sub_rules.specs.Content.{Ready, task_of}
+use Rattle.sub_rules.specs.Changes.{ends, record_of}
 use Rattle.sub_rules.specs.Debts.{IsSound}
 
 -- a content that a frame or a record left
@@ -75,3 +78,12 @@ IsPreparedIn c None None = Unit {0}
 IsPreparedIn c None (Some p) = ⊥
 IsPreparedIn c (Some change) None = ⊥
 IsPreparedIn c (Some change) (Some p) = Leads c p change
+
+-- a record stands in the place of its frame
+abbrev pub opened_in : Record → Content → Content
+opened_in x c = record c { frames = without_frame x.frame c.frames; records = put_record x c.records }
+
+-- a ready frame as it is to be given away
+abbrev pub opening_of : Grant → ℕ → Option Ready → Option Opening
+opening_of g thief None = None
+opening_of g thief (Some r) = Some (record { opened = record_of g thief r; task = task_of r })

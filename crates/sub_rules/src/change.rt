@@ -1,7 +1,7 @@
 ghost use Rattle.std.specs.Prelude.{◌≡◌};
 
 use crate::content::Content;
-use ids::{FrameNo, Listed, Place, Task};
+use ids::{FrameNo, Listed, Place, Record, Task};
 use std::alloc::AllocError;
 use thiserror::Error;
 use victim_records::Records;
@@ -73,6 +73,13 @@ pub struct Change {
 #[derive(Drop)]
 pub struct GivenAway {
     pub after: Content,
+    pub task: Task,
+}
+
+/// A ready frame that is to be given away: the record that is to stand in its place, and the task that the thief gets.
+#[derive(Drop)]
+pub struct Opening {
+    pub opened: Record,
     pub task: Task,
 }
 

@@ -4,14 +4,14 @@ ghost use Rattle.victim_records.specs.Records.{record_in};
 ghost use Rattle.sub_rules.specs.Content.{first_frame, granted_content, ready_in};
 ghost use Rattle.sub_rules.specs.Changes.{closed_in, given_away, done_again, frame_of};
 ghost use Rattle.sub_rules.specs.Debts.{IsSound};
-ghost use Rattle.sub_rules.specs.Updates.{IsPreparedIn};
+ghost use Rattle.sub_rules.specs.Updates.{IsPreparedIn, opened_in, opening_of};
 
 use crate::arriving::{prepare_arrival, prepare_end};
-use crate::change::{Change, DoneAgain, GivenAway, Readied};
+use crate::change::{Change, DoneAgain, GivenAway, Opening, Readied};
 use crate::content::Content;
 use crate::executing::carried_out;
 use crate::joining::all_given;
-use crate::leaving::{LeftFrame, LeftRecord, take_ready, take_record};
+use crate::leaving::{LeftRecord, take_record};
 use crate::updates::{Leaver, Prepared};
 use frames::Frames;
 use ids::{
@@ -63,14 +63,38 @@ pub fn grant_out(
     ensures given { IfOk result (λ o. o ≡ given_away grant thief content (ready_in number content)) }
     ensures sound { record_in grant content.records ≡ None → IfOk result (λ o. IfSome o (λ g. IsSound g.after)) }
 {
-    let Some(LeftFrame { frame, content }) = take_ready(content, number) else {
+    match prepare_grant_out(alloc, &content, number, grant, thief)? {
+        Some(Opening { opened, task }) => {
+            let mut after = content;
+            after.open(opened)?;
+            Ok(Some(GivenAway { after, task }))
+        }
+        None => Ok(None),
+    }
+}
+
+/// Prepares what `grant_out` does, with the record and the task that it takes, and changes nothing. None where no frame is ready
+/// under that number; refused for want of memory alone.
+pub fn prepare_grant_out(
+    alloc: Global,
+    content: &Content,
+    number: FrameNo,
+    grant: GrantId,
+    thief: Incarnation,
+) -> Result<Option<Opening>, AllocError>
+    requires sound { IsSound content.now }
+    ensures opening { IfOk result (λ o. o ≡ opening_of grant thief (ready_in number content.now)) }
+    ensures sound { record_in grant content.now.records ≡ None → IfOk result (λ o. IfSome o (λ p. IsSound (opened_in p.opened content.now))) }
+{
+    content.frames.stand_in_order();
+    let Some(frame) = content.frames.get(number) else {
         return Ok(None);
     };
     let Some(numbers) = numbers_in(alloc, frame.slots.as_slice())? else {
         return Ok(None);
     };
     let task = Task {
-        place: frame.place,
+        place: frame.place.clone()?,
         thread: frame.thread,
         numbers,
     };
@@ -81,9 +105,7 @@ pub fn grant_out(
         task: task.clone()?,
         returns: frame.returns,
     };
-    let mut after = content;
-    after.records.open(opened)?;
-    Ok(Some(GivenAway { after, task }))
+    Ok(Some(Opening { opened, task }))
 }
 
 /// Takes the outcome of a grant: its record is closed, a value goes where it is awaited, and too deep is the outcome of the

@@ -12,10 +12,10 @@ mod leaving;
 mod readiness;
 mod updates;
 
-pub use change::{Change, DoneAgain, Filling, GivenAway, Readied, SubError};
+pub use change::{Change, DoneAgain, Filling, GivenAway, Opening, Readied, SubError};
 pub use content::Content;
 pub use executing::{exec, is_stale, prepare_exec};
-pub use granting::{close, grant_out, granted, numbers_in, prepare_close, redo};
+pub use granting::{close, grant_out, granted, numbers_in, prepare_close, prepare_grant_out, redo};
 pub use laws::{
     contents_without_records_have_a_ready_frame, granted_contents_are_sound,
     ready_frames_await_nothing, renaming_keeps_sound,

@@ -1,10 +1,10 @@
 ghost use Rattle.std.specs.Prelude.{◌≡◌, OnOk, OnErr, IfOk};
-ghost use Rattle.sub_rules.specs.Updates.{left_by, dropped_by, updated, MayUpdate};
+ghost use Rattle.sub_rules.specs.Updates.{left_by, dropped_by, opened_in, updated, MayUpdate};
 
 use crate::change::{Filling, Readied};
 use crate::content::Content;
 use frames::Frames;
-use ids::{Frame, FrameNo, GrantId, Listed, Outcome, Progress};
+use ids::{Frame, FrameNo, GrantId, Listed, Outcome, Progress, Record};
 use std::alloc::{AllocError, Global};
 use std::mem::replace;
 use victim_records::Records;
@@ -70,6 +70,18 @@ impl Content {
                 Ok(Records::new(alloc))
             }
         }
+    }
+
+    /// Gives a frame away where the content stands: its record stands in its place. Only room for the record takes memory; refused
+    /// for want of it, which changes nothing.
+    pub fn open(&mut self, opened: Record) -> Result<(), AllocError>
+        ensures ok { OnOk result (self.new ≡ opened_in opened self.old) }
+        ensures err { OnErr result (self.new ≡ self.old) }
+    {
+        let number = opened.frame;
+        self.records.open(opened)?;
+        self.frames.remove(number);
+        Ok(())
     }
 
     /// A frame or a record leaves. Takes no memory.

@@ -1,4 +1,5 @@
 -- What a call of a subcomputation tells of its ready frames and its records.
+use Rattle.sub_rules.specs.Updates.{opened_in, opening_of}
 use Rattle.std.proofs.Common.{◌≡◌, ℕ, ℤ, ◌^◌, ◌&&◌, zero, suc, Bool, true, false, nat_eq, nat_lt, List, [], ◌∷◌, cond, length, Option, Some, None, Result, Ok, Err, refl, ap, ◌∙◌}
 use Rattle.ids.specs.Names.{Grant}
 use Rattle.ids.specs.Naming.{name_of_frame, name_of_grant, name_of_record}
@@ -16,12 +17,13 @@ use Rattle.frames.specs.Frames.{frame_in, missing_in, without_frame}
 use Rattle.victim_records.specs.Records.{record_in, without_record}
 use Rattle.sub_rules.specs.Carrying.{exec, executed, holds_numbers, is_turn_of, within_numbers}
 use Rattle.sub_rules.specs.Changes.{arrives, closed, closed_in, done_again, ends, filled_in, frame_of, given_away, granted_out, joined, readied, record_of, redone, replaced, turned}
-use Rattle.sub_rules.specs.Content.{Ready, ready_in}
+use Rattle.sub_rules.specs.Content.{Ready, ready_in, task_of}
 use Rattle.sub_rules.specs.Debts.{IsSound}
 use Rattle.sub_rules.specs.Readiness.{TellsReady}
 use Rattle.sub_rules.specs.declared.change.Change.{Change}
 use Rattle.sub_rules.specs.declared.change.DoneAgain.{DoneAgain}
 use Rattle.sub_rules.specs.declared.change.GivenAway.{GivenAway}
+use Rattle.sub_rules.specs.declared.change.Opening.{Opening}
 use Rattle.sub_rules.specs.declared.change.SubError.{SubError}
 use Rattle.sub_rules.specs.declared.change.SubError.TheVariants.{Stale, Spent}
 use Rattle.sub_rules.specs.declared.content.Content.{Content}
@@ -137,6 +139,16 @@ grant_tells c x g thief n given same frames is = by_ready (ready_in n c) (rw sam
     by_ready (Some r) at =
         let equal : granted_out g thief r c ≡ given.after = cc in
         rw (← equal) (record { ready = granted_tells c g thief r frames; records = granted_less g thief r c })
+
+-- what is prepared of a frame gives it away
+pub opening_gives : (c x : Content) (g : Grant) (thief n : ℕ) (p : Opening) → x ≡ c → Some p ≡ opening_of g thief (ready_in n x) → Some (record { after = opened_in p.opened c; task = p.task }) ≡ given_away g thief c (ready_in n c)
+opening_gives c x g thief n p same is = by_ready (ready_in n c) (rw same at is)
+  where
+    by_ready : (r : Option Ready) → Some p ≡ opening_of g thief r → Some (record { after = opened_in p.opened c; task = p.task }) ≡ given_away g thief c r
+    by_ready None at = cc
+    by_ready (Some r) at =
+        let equal : record { opened = record_of g thief r; task = task_of r } ≡ p = cc in
+        rw (← equal) refl
 
 pub record Repeats (c : Content) (again : DoneAgain) : Type 0 where
   pub ready : TellsReady c again.after (again.ready ∷ [])

@@ -3,19 +3,20 @@ use Rattle.std.specs.Prelude.{◌≡◌, List, Option, None, Some, Result, Ok, E
 use Rattle.ids.specs.Names.{Grant}
 use Rattle.ids.specs.declared.outcome.Progress.TheVariants.{Active}
 use Rattle.ids.specs.declared.work.Record.{Record}
+use Rattle.ids.specs.declared.work.Task.{Task}
 use Rattle.victim_records.specs.Records.{record_in}
 use Rattle.sub_rules.specs.declared.change.Change.{Change}
 use Rattle.sub_rules.specs.declared.change.DoneAgain.{DoneAgain}
 use Rattle.sub_rules.specs.declared.change.Filling.{Filling}
 use Rattle.sub_rules.specs.declared.change.GivenAway.{GivenAway}
+use Rattle.sub_rules.specs.declared.change.Opening.{Opening}
 use Rattle.sub_rules.specs.declared.change.Readied.{Readied}
 use Rattle.sub_rules.specs.declared.change.SubError.{SubError}
 use Rattle.sub_rules.specs.declared.change.SubError.TheVariants.{Stale, Spent, Memory}
 use Rattle.subcomputation.specs.declared.sub.Again.{Again}
-use Rattle.subcomputation.specs.declared.sub.Given.{Given}
 use Rattle.sub_rules.specs.declared.updates.Prepared.{Prepared}
 use Rattle.sub_rules.specs.declared.updates.Update.{Update}
-use Rattle.sub_rules.specs.Updates.{change_by, updated, MayUpdate}
+use Rattle.sub_rules.specs.Updates.{change_by, opened_in, updated, MayUpdate}
 use Rattle.subcomputation.specs.Subs.{IsBegun, SubOf, with_content}
 
 -- what a change leads to: the subcomputation after it, the value that it put into a slot, the frames that became ready, in the
@@ -32,6 +33,11 @@ changed s c = record { after = with_content s c.after; fill = c.fill; ready = c.
 abbrev pub changed_by : SubOf → Option Change → Option Changed
 changed_by s None = None
 changed_by s (Some c) = Some (changed s c)
+
+-- a frame that is given away: the subcomputation after it, and the task that the thief gets
+pub record Given : Type 0 where
+  pub after : SubOf
+  pub task : Task
 
 abbrev pub given_by : SubOf → Option GivenAway → Option Given
 given_by s None = None
@@ -52,6 +58,18 @@ changed_of s p = changed s (change_by p s.content)
 abbrev pub changed_of_some : SubOf → Option Prepared → Option Changed
 changed_of_some s None = None
 changed_of_some s (Some p) = Some (changed_of s p)
+
+-- a subcomputation in which a record stands in the place of its frame
+abbrev pub opened_sub : Record → SubOf → SubOf
+opened_sub x s = with_content s (opened_in x s.content)
+
+-- what is prepared of a frame that is to be given away, as that
+abbrev pub given_of : SubOf → Opening → Given
+given_of s p = record { after = opened_sub p.opened s; task = p.task }
+
+abbrev pub given_of_some : SubOf → Option Opening → Option Given
+given_of_some s None = None
+given_of_some s (Some p) = Some (given_of s p)
 
 -- a subcomputation after an update of its content
 abbrev pub updated_sub : Update → SubOf → SubOf

@@ -12,18 +12,18 @@ ghost use Rattle.sub_rules.specs.Debts.{IsSound};
 ghost use Rattle.subcomputation.specs.Subs.{IsBegun, granted_sub, name_of_sub, with_content};
 ghost use Rattle.subcomputation.specs.Fitting.{Fits, task_fits};
 ghost use Rattle.sub_rules.specs.Readiness.{TellsReady};
-ghost use Rattle.sub_rules.specs.Updates.{updated, MayUpdate};
-ghost use Rattle.subcomputation.specs.Told.{HasNoOthers, HasNoOthersBut, IsPreparedAs, MayChange, changed_by, changed_of, changed_of_some, given_by, again_by};
+ghost use Rattle.sub_rules.specs.Updates.{opened_in, updated, MayUpdate};
+ghost use Rattle.subcomputation.specs.Told.{HasNoOthers, HasNoOthersBut, IsPreparedAs, MayChange, changed_by, changed_of, changed_of_some, given_by, given_of_some, again_by, opened_sub};
 
 use body_eval::Done;
 use frames::Frames;
 use ids::{
     Actor, Exact, Frame, FrameNo, GrantId, Hop, Incarnation, Listed, Named, Outcome, Progress,
-    Return, Task,
+    Record, Return, Task,
 };
 use std::alloc::{AllocError, Global};
 use std::marker::Model;
-use sub_rules::{Content, Prepared, Readied, SubError, Update};
+use sub_rules::{Content, Opening, Prepared, Readied, SubError, Update};
 use victim_records::Records;
 
 /// A subcomputation: the grant under which its task came, how often it had moved when it came here, and its content, in
@@ -73,13 +73,6 @@ impl Exact for Sub {
 pub struct ReadyIn {
     pub grant: GrantId,
     pub frame: Readied,
-}
-
-/// A frame that was given away: the subcomputation after it, and the task that the thief gets.
-#[derive(Drop)]
-pub struct Given {
-    pub after: Sub,
-    pub task: Task,
 }
 
 /// A frame that is to be done again: the subcomputation after it, and the frame, which is ready.
@@ -207,31 +200,40 @@ impl Sub {
         Ok(())
     }
 
-    /// Gives a ready frame away under a grant that no record has, beside this subcomputation: a record that the thief holds
-    /// stands in the frame's place. None where no frame is ready under that number; refused for want of memory alone.
-    pub fn grant_out(
+    /// Prepares that a ready frame is given away under a grant that no record has: the record that is to stand in the frame's place,
+    /// and the task that the thief gets. None where no frame is ready under that number; refused for want of memory alone.
+    pub fn prepare_grant_out(
         &self,
         alloc: Global,
         number: FrameNo,
         grant: GrantId,
         thief: Incarnation,
-    ) -> Result<Option<Given>, AllocError>
+    ) -> Result<Option<Opening>, AllocError>
         requires { record_in grant self.now.content.records ≡ None }
-        ensures given { IfOk result (λ o. o ≡ given_by self.now (given_away grant thief self.now.content (ready_in number self.now.content))) }
-        ensures ready { IfOk result (λ o. IfSome o (λ g. TellsReady self.now.content g.after.content [])) }
-        ensures records { IfOk result (λ o. IfSome o (λ g. HasNoOthersBut grant self.now.content.records g.after.content.records)) }
-        ensures fits { (p : Program) → Fits p self.now.content → IfOk result (λ o. IfSome o (λ g. Fits p g.after.content)) }
-        ensures task { (p : Program) → Fits p self.now.content → IfOk result (λ o. IfSome o (λ g. IsTrue (task_fits p g.task))) }
+        ensures given { IfOk result (λ o. given_of_some self.now o ≡ given_by self.now (given_away grant thief self.now.content (ready_in number self.now.content))) }
+        ensures begun { IfOk result (λ o. IfSome o (λ p. IsBegun (opened_in p.opened self.now.content))) }
+        ensures ready { IfOk result (λ o. IfSome o (λ p. TellsReady self.now.content (opened_in p.opened self.now.content) [])) }
+        ensures records { IfOk result (λ o. IfSome o (λ p. HasNoOthersBut grant self.now.content.records (opened_in p.opened self.now.content).records)) }
+        ensures fits { (p : Program) → Fits p self.now.content → IfOk result (λ o. IfSome o (λ q. Fits p (opened_in q.opened self.now.content))) }
+        ensures task { (p : Program) → Fits p self.now.content → IfOk result (λ o. IfSome o (λ q. IsTrue (task_fits p q.task))) }
     {
         sub_rules::grants_tell_what_is_ready();
         self.content.frames.stand_in_order();
-        match sub_rules::grant_out(alloc, self.content.clone()?, number, grant, thief)? {
-            Some(given) => Ok(Some(Given {
-                after: self.with_content(given.after),
-                task: given.task,
-            })),
+        match sub_rules::prepare_grant_out(alloc, &self.content, number, grant, thief)? {
+            Some(opening) => Ok(Some(opening)),
             None => Ok(None),
         }
+    }
+
+    /// Gives away the frame of a record that was prepared of this subcomputation: the record stands in the frame's place. Refused for
+    /// want of memory alone, which changes nothing.
+    pub fn open(&mut self, opened: Record) -> Result<(), AllocError>
+        requires { IsBegun (opened_in opened self.old.content) }
+        ensures ok { OnOk result (self.new ≡ opened_sub opened self.old) }
+        ensures err { OnErr result (self.new ≡ self.old) }
+    {
+        self.content.open(opened)?;
+        Ok(())
     }
 
     /// Closes a record without an outcome, beside this subcomputation: its frame is ready again, under its old number. None

@@ -1,14 +1,15 @@
 -- The deepest post is that of the frame that runs, and its turn is a turn of the run.
-use Rattle.std.proofs.Common.{◌≡◌, Some, ◌∙◌, rules}
+use Rattle.std.proofs.Common.{◌≡◌, Some, ap, ◌∙◌, rules}
 use Rattle.std.proofs.lemmas.Result.{err_from_is_err_and}
-use Rattle.level_deques.specs.Posts.{deepest, withdrawn}
-use Rattle.one_node.specs.Runs.{own_grant, posted_all, run_of}
+use Rattle.level_deques.specs.Posts.{deepest, without_post}
+use Rattle.one_node.specs.Runs.{posted_all, run_of}
 use Rattle.one_node.proofs.Turning.{next_frame}
 use Rattle.one_node.proofs.Keeping.{turn_fails, turn_follows, turn_taken}
+use Rattle.one_node.proofs.Taking.{taken_is}
 use Rattle.one_node.proofs.turn.turn.Goals as goal
 
-pub unwrap-frame-requires : goal.unwrap-frame-requires
-unwrap-frame-requires c =
+pub unwrap-newest-requires : goal.unwrap-newest-requires
+unwrap-newest-requires c =
     let n = next_frame c.args.job.now (run_of c.args.run) c.requires in
     let is : c.deepest.result ≡ Some n.post = c.deepest.ensures ∙ n.first in
     rw is (search rules)
@@ -16,23 +17,26 @@ unwrap-frame-requires c =
 pub evaluated-requires : goal.evaluated-requires
 evaluated-requires c =
     let n = next_frame c.args.job.now (run_of c.args.run) c.requires in
-    let same : n.post ≡ c.unwrap-frame.result = cc (n.first, c.deepest.ensures, c.unwrap-frame.ensures) in
+    let same : n.post ≡ c.unwrap-newest.result = cc (n.first, c.deepest.ensures, c.unwrap-newest.ensures) in
     rw same at n.frame
 
 pub returns-in_err-after-clause-fails : goal.returns-in_err-after-clause-fails
 returns-in_err-after-clause-fails c =
-    let first : deepest c.args.run.posts ≡ Some c.unwrap-frame.result = cc (c.deepest.ensures, c.unwrap-frame.ensures) in
-    let fails = turn_fails c.args.job.now (run_of c.args.run) c.unwrap-frame.result c.in_ok-done.done c.in_ok-done.ensures.turn c.in_err-after.field-0.0 first c.in_ok-done.ensures.program c.in_err-after.ensures.answer in
+    let first : deepest c.args.run.posts ≡ Some c.unwrap-newest.result = cc (c.deepest.ensures, c.unwrap-newest.ensures) in
+    let fails = turn_fails c.args.job.now (run_of c.args.run) c.unwrap-newest.result c.in_ok-done.done c.in_ok-done.ensures.turn c.in_err-after.field-0.0 first c.in_ok-done.ensures.program c.in_err-after.ensures.answer in
     let p = err_from_is_err_and c.from_residual-in_err-after.result c.from_residual-in_err-after.ensures.1 in
     rw (p.1, p.2) fails
 
 pub returns-clause-next : goal.returns-clause-next
 returns-clause-next c =
-    let first : deepest c.args.run.posts ≡ Some c.unwrap-frame.result = cc (c.deepest.ensures, c.unwrap-frame.ensures) in
-    let posts : c.post_all.new.posts ≡ posted_all c.in_ok-after.field-0.ready (withdrawn own_grant c.unwrap-frame.result.frame c.args.run.posts) = search rules in
-    rw posts (turn_taken c.args.job.now (run_of c.args.run) c.unwrap-frame.result c.in_ok-done.done c.in_ok-done.ensures.turn c.in_ok-after.field-0 first c.in_ok-done.ensures.program c.in_ok-after.ensures.answer)
+    let first : deepest c.args.run.posts ≡ Some c.unwrap-newest.result = cc (c.deepest.ensures, c.unwrap-newest.ensures) in
+    let taken : c.post_all.new.posts ≡ posted_all c.in_ok-after.field-0.ready (without_post c.unwrap-newest.result c.args.run.posts) = search rules in
+    let posts = taken ∙ ap (posted_all c.in_ok-after.field-0.ready) (taken_is c.args.run.content.frames c.args.run.posts c.unwrap-newest.result c.requires.order c.requires.posted first) in
+    rw posts (turn_taken c.args.job.now (run_of c.args.run) c.unwrap-newest.result c.in_ok-done.done c.in_ok-done.ensures.turn c.in_ok-after.field-0 first c.in_ok-done.ensures.program c.in_ok-after.ensures.answer)
 
 pub returns-clause-follows : goal.returns-clause-follows
 returns-clause-follows c =
-    let posts : c.post_all.new.posts ≡ posted_all c.in_ok-after.field-0.ready (withdrawn own_grant c.unwrap-frame.result.frame c.args.run.posts) = search rules in
-    rw posts (turn_follows c.args.job.now (run_of c.args.run) c.unwrap-frame.result c.in_ok-done.done c.in_ok-done.ensures.turn c.in_ok-after.field-0 (c.turn_keeps_agreement.ensures.content c.args.job.now) c.requires c.in_ok-done.ensures.program c.in_ok-after.ensures.answer c.in_ok-after.ensures.sound c.stand_in_order-2.ensures)
+    let first : deepest c.args.run.posts ≡ Some c.unwrap-newest.result = cc (c.deepest.ensures, c.unwrap-newest.ensures) in
+    let taken : c.post_all.new.posts ≡ posted_all c.in_ok-after.field-0.ready (without_post c.unwrap-newest.result c.args.run.posts) = search rules in
+    let posts = taken ∙ ap (posted_all c.in_ok-after.field-0.ready) (taken_is c.args.run.content.frames c.args.run.posts c.unwrap-newest.result c.requires.order c.requires.posted first) in
+    rw posts (turn_follows c.args.job.now (run_of c.args.run) c.unwrap-newest.result c.in_ok-done.done c.in_ok-done.ensures.turn c.in_ok-after.field-0 (c.turn_keeps_agreement.ensures.content c.args.job.now) c.requires c.in_ok-done.ensures.program c.in_ok-after.ensures.answer c.in_ok-after.ensures.sound c.stand_in_order-2.ensures)

@@ -1,8 +1,11 @@
-use Rattle.std.proofs.Common.{◌≡◌, ◌∙◌, Some, None, true, false, refl, sym, rules}
+use Rattle.std.proofs.Common.{◌≡◌, ◌∙◌, ◌<◌, Some, None, true, false, refl, sym, ap, rules}
 use Rattle.std.specs.Prelude.{is_some, nat_lt, ◌+◌, ◌^◌}
 use Rattle.level_deques.specs.Posts.{shallowest}
+use Rattle.ids.specs.Names.{Grant}
 use Rattle.sub_rules.specs.Content.{ready_in}
+use Rattle.sub_rules.specs.Updates.{opened_in}
 use Rattle.subcomputation.specs.Subs.{sub_in}
+use Rattle.subcomputation.specs.Told.{given_of}
 use Rattle.node_state.specs.Parts.{HasNoNewRecord}
 use Rattle.node_core.specs.Meeting.{IsNode}
 use Rattle.node_core.proofs.Returning.{fresh_after}
@@ -30,28 +33,44 @@ returns-in_default-next_grant c =
     let last : nat_lt (c.args.self.now.node.minted + 1) (2 ^ 64) ≡ false = search rules in
     (spent c.args.self.now.job c.args.steal c.args.self.now.node c.args.self.now.posts c.in-Some.post c.requires first c.in-Some-sub.sub.now there ready last, refl)
 
-pub give-requires-clause-records : goal.give-requires-clause-records
-give-requires-clause-records c =
-    let named : c.in-Some-next_grant.name ≡ record { minter = c.args.self.now.node.incarnation; number = c.args.self.now.node.minted + 1 } = search rules in
-    let none : HasNoNewRecord c.args.self.now.node c.in-Some-sub.sub.now = search rules in
-    fresh_after c.args.self.now.node c.in-Some-next_grant.name c.in-Some-sub.sub.now.content.records c.in-Some-2.given.after.content.records named none (rw c.in-Some-2.is at c.in_ok-given.ensures.records)
+pub give-requires-clause-may : goal.give-requires-clause-may
+give-requires-clause-may c =
+    let n = c.args.self.now.node in
+    let sub = c.in-Some-sub.sub.now in
+    let there : sub_in c.in-Some.post.grant n.subs ≡ Some sub = search rules in
+    let named : sub.grant ≡ c.in-Some.post.grant = search rules in
+    let name : c.in-Some-next_grant.name ≡ record { minter = n.incarnation; number = n.minted + 1 } = search rules in
+    let none : HasNoNewRecord n sub = search rules in
+    let counted : n.minted + 1 < 2 ^ 64 = search rules in
+    record {
+      sub = sub;
+      there = there;
+      named = named;
+      begun = rw c.in-Some-2.is at c.in_ok-opening.ensures.begun;
+      next = record { member = c.requires; before = sub; there = ap (λ (g : Grant). sub_in g n.subs) named ∙ there; ready = rw c.in-Some-2.is at c.in_ok-opening.ensures.ready };
+      counted = counted;
+      records = fresh_after n c.in-Some-next_grant.name sub.content.records (opened_in c.in-Some-2.opening.opened sub.content).records name none (rw c.in-Some-2.is at c.in_ok-opening.ensures.records);
+    }
 
 pub give-requires-clause-fits : goal.give-requires-clause-fits
-give-requires-clause-fits c =
-    let there : sub_in c.in-Some.post.grant c.args.self.now.node.subs ≡ Some c.in-Some-sub.sub.now = search rules in
+give-requires-clause-fits c = λ s at.
+    let sub = c.in-Some-sub.sub.now in
+    let there : sub_in c.in-Some.post.grant c.args.self.now.node.subs ≡ Some sub = search rules in
+    let same : sub ≡ s = cc in
     let is : IsNode c.args.self.now = rw (← c.self.view_is) c.self.invariant in
-    rw c.in-Some-2.is at (c.in_ok-given.ensures.fits c.args.self.now.job.program (is.fits c.in-Some.post.grant c.in-Some-sub.sub.now there))
+    rw (← same) (rw c.in-Some-2.is at (c.in_ok-opening.ensures.fits c.args.self.now.job.program (is.fits c.in-Some.post.grant sub there)))
 
 pub give-requires-clause-task : goal.give-requires-clause-task
 give-requires-clause-task c =
     let there : sub_in c.in-Some.post.grant c.args.self.now.node.subs ≡ Some c.in-Some-sub.sub.now = search rules in
     let is : IsNode c.args.self.now = rw (← c.self.view_is) c.self.invariant in
-    rw c.in-Some-2.is at (c.in_ok-given.ensures.task c.args.self.now.job.program (is.fits c.in-Some.post.grant c.in-Some-sub.sub.now there))
+    rw c.in-Some-2.is at (c.in_ok-opening.ensures.task c.args.self.now.job.program (is.fits c.in-Some.post.grant c.in-Some-sub.sub.now there))
 
 pub returns-in-Some-2 : goal.returns-in-Some-2
 returns-in-Some-2 c =
+    let sub = c.in-Some-sub.sub.now in
     let first : shallowest c.args.self.now.posts ≡ Some c.in-Some.post = search rules in
-    let there : sub_in c.in-Some.post.grant c.args.self.now.node.subs ≡ Some c.in-Some-sub.sub.now = search rules in
+    let there : sub_in c.in-Some.post.grant c.args.self.now.node.subs ≡ Some sub = search rules in
     let more : nat_lt (c.args.self.now.node.minted + 1) (2 ^ 64) ≡ true = search rules in
     let named : c.in-Some-next_grant.name ≡ record { minter = c.args.self.now.node.incarnation; number = c.args.self.now.node.minted + 1 } = search rules in
-    rw (given c.args.self.now.job c.args.steal c.args.self.now.node c.args.self.now.posts c.in-Some.post c.requires first c.in-Some-sub.sub.now c.in-Some-next_grant.name c.in-Some-2.given there more named (sym c.in-Some-2.is ∙ c.in_ok-given.ensures.given)) c.give.ensures
+    rw (given c.args.self.now.job c.args.steal c.args.self.now.node c.args.self.now.posts c.in-Some.post c.requires first sub c.in-Some-next_grant.name (given_of sub c.in-Some-2.opening) there more named (rw c.in-Some-2.is at c.in_ok-opening.ensures.given)) (c.give.ensures sub there)

@@ -1,0 +1,116 @@
+ghost use Rattle.std.specs.Prelude.{◌≡◌, OnOk, OnErr, IfOk, length, slice_get, [], ◌∷◌, ◌++◌};
+ghost use Rattle.std.specs.List.{filter};
+ghost use Rattle.level_deques.specs.Levels.{newest};
+ghost use Rattle.level_deques.specs.Posts.{is_post, without_post};
+
+use crate::posts::{Post, PostTest};
+use std::alloc::{AllocError, Global};
+use std::collections::VecDeque;
+use std::marker::Model;
+
+/// The posts of one level. Contracts see the level and its posts, the newest last.
+#[derive(Drop)]
+pub struct Level {
+    level: u16,
+    posts: VecDeque<Post>,
+}
+
+impl Model for Level {
+    ghost use Rattle.level_deques.specs.Levels.{LevelOf};
+
+    ghost Value = { LevelOf };
+
+    ghost view = { λ l. record { level = l.level; posts = l.posts.items } };
+}
+
+impl Level {
+    /// One post, and its level; refused for want of memory alone.
+    pub fn of(alloc: Global, post: Post) -> Result<Level, AllocError>
+        ensures { IfOk result (λ l. l ≡ record { level = post.level; posts = post ∷ [] }) }
+    {
+        let level = post.level;
+        let mut posts = VecDeque::new(alloc);
+        posts.push_back(post)?;
+        Ok(Level { level, posts })
+    }
+
+    /// The level.
+    pub fn level(&self) -> u16
+        ensures { result ≡ self.now.level }
+    {
+        self.level
+    }
+
+    /// How many posts it has.
+    pub fn len(&self) -> usize
+        ensures { result ≡ length self.now.posts }
+    {
+        self.posts.len()
+    }
+
+    /// The newest post.
+    pub fn newest(&self) -> Option<Post>
+        ensures { result ≡ newest self.now.posts }
+    {
+        self.posts.back().copied()
+    }
+
+    /// The post of an index, counted from the oldest on.
+    pub fn at(&self, index: usize) -> Option<Post>
+        ensures { result ≡ slice_get self.now.posts index }
+    {
+        self.posts.get(index).copied()
+    }
+
+    /// Adds a post, the newest; refused for want of memory alone, which changes nothing.
+    pub fn post(&mut self, post: Post) -> Result<(), AllocError>
+        ensures ok { OnOk result (self.new ≡ record self.old { posts = self.old.posts ++ post ∷ [] }) }
+        ensures err { OnErr result (self.new ≡ self.old) }
+    {
+        self.posts.push_back(post)?;
+        Ok(())
+    }
+
+    /// Takes the newest of those posts away that are this one. Takes no memory.
+    pub fn take(&mut self, post: &Post)
+        ensures { self.new ≡ record self.old { posts = without_post post.now self.old.posts } }
+    {
+        let mut left = self.posts.len();
+        while 0 < left {
+            left -= 1;
+            if is_post(post, &self.posts[left]) {
+                self.posts.remove(left);
+                return;
+            }
+        }
+    }
+
+    /// Takes the posts away that don't stay by a test. Takes no memory.
+    pub fn retain<S: PostTest>(&mut self, test: &S)
+        ensures { self.new ≡ record self.old { posts = filter (S.stays test.now) self.old.posts } }
+    {
+        self.posts.retain(|post| test.stays(post));
+    }
+}
+
+/// The copy is equal.
+impl Clone for Level {
+    ghost is_clone = { λ source copy. copy ≡ source };
+
+    fn clone(&self) -> Result<Level, AllocError> {
+        Ok(Level {
+            level: self.level,
+            posts: self.posts.clone()?,
+        })
+    }
+}
+
+/// Whether two posts are the same.
+fn is_post(post: &Post, other: &Post) -> bool
+    ensures { result ≡ is_post post.now other.now }
+{
+    other.level == post.level
+        && other.grant.minter().word() == post.grant.minter().word()
+        && other.grant.number() == post.grant.number()
+        && other.frame.number() == post.frame.number()
+}
