@@ -66,11 +66,14 @@ int main(int count, char **words) {
 
 
 def program_of(operations):
-    """The text of a tree of leaves with so many operations each."""
-    steps = "+3^n-5*n"
-    leaf = "n" + steps * (operations // 4)
+    """The text of a tree of leaves with about so many operations each: `let`s, each of a chain that is as deep as a text may have it."""
+    lets, last = [], "n"
+    for number in range(max(1, operations // 60)):
+        chain = "+3*n-5" * min(20, max(1, operations // 3))
+        lets.append(f"let a{number}={last}{chain};")
+        last = f"a{number}"
     return (
-        f"thread main(k,n){{if n<2{{send_argument(k,({leaf})&1);}}else{{spawn_next sum(k,?x,?y);spawn main(x,n/2);spawn main(y,n-n/2);}}}}"
+        f"thread main(k,n){{if n<2{{{''.join(lets)}send_argument(k,{last});}}else{{spawn_next sum(k,?x,?y);spawn main(x,n/2);spawn main(y,n-n/2);}}}}"
         "thread sum(k,x,y){send_argument(k,x+y);}"
     )
 
