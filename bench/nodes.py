@@ -28,6 +28,29 @@ def timed(*words):
     return best
 
 
+def chain(operations):
+    """A program of which one frame is ready at a time: each body has about so many operations, and goes on."""
+    lets, last = [], "n"
+    for number in range(operations // 60):
+        lets.append(f"let a{number}={last}{'+3*n-5' * 20};")
+        last = f"a{number}"
+    return f"thread main(k,n){{if n<1{{send_argument(k,0);}}else{{{''.join(lets)}spawn_next main(k,n-1+0*{last});}}}}"
+
+
+def idle(folder):
+    """How many processors are busy while one frame is ready at a time."""
+    print("\n| one frame is ready at a time | bodies | microseconds a turn | processors busy |\n|---|---|---|---|")
+    for operations, turns in (0, 20_000), (2_000, 10_000), (12_000, 4_000):
+        text = f"{folder}/chain"
+        with open(text, "w", encoding="utf-8") as out:
+            out.write(chain(operations))
+        few, many = (timed(PROGRAM, "serial", text, str(it * turns)) for it in (1, 5))
+        body = (many[1] - few[1]) / (4 * turns)
+        for name, words in (("8 nodes", ["--nodes", "8"]), ("8 body workers of one node", ["--bodies", "8"]), ("one node", [])):
+            took = timed(PROGRAM, "run", text, *words, "--trace", os.devnull, str(turns))
+            print(f"| {name} | {body * 1e6:.1f} us | {took[0] / turns * 1e6:.1f} | {took[1] / took[0]:.2f} |")
+
+
 def events(trace):
     with open(trace, "rb") as it:
         return it.read().count(b"\n") - 1
@@ -47,3 +70,4 @@ with tempfile.TemporaryDirectory() as folder:
                 continue
             many = events(trace)
             print(f"| {n} | {nodes} | {took[0] * 1e3:.0f} | {took[1] * 1e3:.0f} | {took[2]:.0f} | {many} | {took[0] / many * 1e6:.1f} |")
+    idle(folder)

@@ -1,6 +1,7 @@
 """Times of replays of random scripts, by how many events they have; see bench/world. The scripts are made by a seed. A model of
 packets and frames (no values) follows what the nodes and the clearinghouse do, so that most events find what they name; where it
-counts other packets than the replay, that is told."""
+counts other packets than the replay, that is told. Where rustc is there, a plain Rust program replays each script beside it; where
+that one prints other lines, that is told."""
 import copy
 import os
 import random
@@ -10,10 +11,11 @@ import subprocess
 import sys
 import tempfile
 
-# How many events a script has, and how often it is replayed.
-TRIES = {1_000: 3, 10_000: 3, 100_000: 1}
-EVENTS = tuple(TRIES)
+# How many events a script has, and how often each program replays it.
+EVENTS = (1_000, 10_000, 100_000)
+TRIES = 3
 INPUT = 25
+PLAIN = os.path.join(os.path.dirname(os.path.abspath(__file__)), "plain", "world.rs")
 STARTS = (500, 1_000, 2_000, 4_000)
 PLACES = 16
 HOUSE = 2**63
@@ -83,7 +85,6 @@ class Model:
 
     def send(self, *packet):
         self.net[self.at] = packet
-        self.net.pop(self.at - 4_000, None)
         self.todo.append(self.at)
         self.at += 1
 
@@ -226,7 +227,7 @@ class Model:
     def deliver(self, place, i):
         self.lines.append(f"deliver {place} {i}")
         node, (kind, to, what) = self.nodes.get(place), self.net.get(i, ("", 0, None))
-        if node and to == node.word and (kind == "Roster" or node.roster):
+        if node and to == node.word and node.gone is not True and (kind == "Roster" or node.roster):
             getattr(self, "on_" + kind.lower(), lambda node, what: None)(node, what)
 
     def on_roster(self, node, what):
@@ -368,20 +369,51 @@ class Model:
             self.turn(self.dice.choice(busy) if busy and self.dice.random() < 0.85 else place)
 
 
-def replay(program, file, script):
-    """What a replay prints, its processor time, and its greatest memory in KiB where GNU time is installed."""
-    words, timer = [program, file, script, str(INPUT)], shutil.which("time")
-    with tempfile.TemporaryFile("w+") as said:
-        before = resource.getrusage(resource.RUSAGE_CHILDREN)
-        ran = subprocess.run([timer, "-f", "peak %M", *words] if timer else words, stdout=subprocess.PIPE, stderr=said, text=True)
-        after = resource.getrusage(resource.RUSAGE_CHILDREN)
-        said.seek(0)
-        told = said.read()
+def compiled(folder):
+    """The plain program, where rustc is there and takes it."""
+    if not shutil.which("rustc"):
+        return None
+    program = f"{folder}/plain"
+    ran = subprocess.run(["rustc", "-O", "--edition", "2021", "-o", program, PLAIN])
+    return None if ran.returncode else program
+
+
+def run(words):
+    """What a program prints, and its processor time."""
+    before = resource.getrusage(resource.RUSAGE_CHILDREN)
+    ran = subprocess.run(words, capture_output=True, text=True)
+    after = resource.getrusage(resource.RUSAGE_CHILDREN)
     if ran.returncode:
-        sys.exit(f"world: {script} ended with status {ran.returncode}: {told}")
-    peak = int(told.split()[-1]) if timer else None
-    seconds = after.ru_utime + after.ru_stime - before.ru_utime - before.ru_stime
-    return dict(line.split(" ", 1) for line in ran.stdout.splitlines()), seconds, peak
+        sys.exit(f"world: {' '.join(words)} ended with status {ran.returncode}: {ran.stderr}")
+    return ran.stdout, after.ru_utime + after.ru_stime - before.ru_utime - before.ru_stime
+
+
+def peak(words):
+    """The greatest memory of a program in KiB, where GNU time is installed."""
+    if not shutil.which("time"):
+        return None
+    ran = subprocess.run(["time", "-f", "%M", *words], stdout=subprocess.DEVNULL, stderr=subprocess.PIPE, text=True)
+    return int(ran.stderr.split()[-1])
+
+
+class Replays:
+    """Replays of scripts by the program, and by the plain one where it is there."""
+
+    def __init__(self, program, file, folder):
+        self.words, self.plain, self.folder = [program, file], compiled(folder), folder
+
+    def of(self, lines):
+        """What is printed of a script, the least processor times of the program and of the plain one, and the greatest memory."""
+        script = f"{self.folder}/script"
+        with open(script, "w") as out:
+            out.writelines(line + "\n" for line in lines)
+        commands = [[*self.words, script, str(INPUT)]] + ([[self.plain, script, str(INPUT)]] if self.plain else [])
+        tries = [[run(words) for words in commands] for _ in range(TRIES)]
+        said, least = [it[0] for it in tries[0]], [min(it[i][1] for it in tries) for i in range(len(commands))]
+        if said[0] != said[-1]:
+            print(f"world: the plain program prints {said[1]!r}, where {said[0]!r} is printed", file=sys.stderr)
+        told = dict(line.split(" ", 1) for line in said[0].splitlines())
+        return told, least[0], least[1] if self.plain else None, peak(commands[0])
 
 
 def lines_of(seed, events, churn):
@@ -396,7 +428,7 @@ def lines_of(seed, events, churn):
 
 # How likely the crash of a node is at an event.
 MIXES = [("1 crash in 5,000", 0.0002), ("1 crash in 1,000", 0.001)]
-COLUMNS = ("script", "events", "starts", "packets", "fills", "seconds", "events/s", "ratio", "peak MiB", "ratio")
+COLUMNS = ("script", "events", "starts", "packets", "fills", "seconds", "events/s", "ratio", "peak MiB", "ratio", "plain s", "of plain")
 
 
 def row(*cells):
@@ -407,45 +439,43 @@ def ratio(now, before):
     return f"{now / before:.1f}" if now and before else ""
 
 
-def show(program, file, name, lines, counts, folder):
+def show_script(replays, name, lines, before):
+    """The row of a script beside the one before, and what the next row stands beside."""
+    told, seconds, plain, memory = replays.of(lines)
+    events, starts = int(told["events"]), sum(line.startswith("start ") for line in lines)
+    numbers = [f"{it:,}" for it in (events, starts, int(told["packets"]), int(told["fills"]))]
+    times = f"{seconds:.3f}", f"{events / seconds:,.0f}", ratio(seconds, before[0])
+    memories = f"{memory / 1024:.1f}" if memory else "", ratio(memory, before[1])
+    row(name, *numbers, *times, *memories, f"{plain:.4f}" if plain else "", ratio(seconds, plain))
+    return told, (seconds, memory)
+
+
+def show(replays, name, lines, counts):
     """The rows of a mix: the first events of its script, and all."""
-    script, before = f"{folder}/script", (None, None)
+    before = None, None
     for events in EVENTS:
-        with open(script, "w") as out:
-            out.writelines(line + "\n" for line in lines[:events])
-        runs = [replay(program, file, script) for _ in range(TRIES[events])]
-        told, seconds, peak = runs[0][0], min(it[1] for it in runs), runs[0][2]
+        told, before = show_script(replays, name, lines[:events], before)
         if int(told["packets"]) != counts[events]:
             print(f"world: the model counts {counts[events]:,} packets", file=sys.stderr)
-        starts = sum(line.startswith("start ") for line in lines[:events])
-        numbers = [f"{it:,}" for it in (events, starts, int(told["packets"]), int(told["fills"]))]
-        memory = (f"{peak / 1024:.1f}", ratio(peak, before[1])) if peak else ("", "")
-        row(name, *numbers, f"{seconds:.3f}", f"{events / seconds:,.0f}", ratio(seconds, before[0]), *memory)
-        before = seconds, peak
 
 
-def show_starts(program, file, folder):
+def show_starts(replays):
     """The rows of scripts in which one node after the other starts, is listed and crashes."""
-    script, before = f"{folder}/script", (None, None)
+    before = None, None
     for starts in STARTS:
-        with open(script, "w") as out:
-            out.write("house-restart\n")
-            out.writelines(f"start 0 {i + 1}\nhouse-deliver {2 * i}\ncrash 0\n" for i in range(starts))
-        told, seconds, peak = replay(program, file, script)
-        events = int(told["events"])
-        numbers = [f"{it:,}" for it in (events, starts, int(told["packets"]), int(told["fills"]))]
-        memory = (f"{peak / 1024:.1f}", ratio(peak, before[1])) if peak else ("", "")
-        row("starts alone", *numbers, f"{seconds:.3f}", f"{events / seconds:,.0f}", ratio(seconds, before[0]), *memory)
-        before = seconds, peak
+        lines = [f"start 0 {i + 1}\nhouse-deliver {2 * i}\ncrash 0" for i in range(starts)]
+        _, before = show_script(replays, "starts alone", ["house-restart", *lines], before)
 
 
 def main():
     program, file, seed = sys.argv[1], sys.argv[2], int(sys.argv[3])
-    row(*COLUMNS)
     with tempfile.TemporaryDirectory() as folder:
+        replays = Replays(program, file, folder)
+        row(*COLUMNS)
+        show_script(replays, "no event", [], (None, None))
         for name, churn in MIXES:
-            show(program, file, name, *lines_of(seed, EVENTS[-1], churn), folder)
-        show_starts(program, file, folder)
+            show(replays, name, *lines_of(seed, EVENTS[-1], churn))
+        show_starts(replays)
 
 
 if __name__ == "__main__":

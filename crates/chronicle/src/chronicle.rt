@@ -14,7 +14,8 @@ use crate::kept::{Committed, Kept};
 use crate::seat::ActorSeat;
 use crate::trace::Trace;
 use body_eval::Done;
-use event_script::{Event, NodePlace};
+use event_script::{Event, FrameOf, NodePlace};
+use kind_check::Checked;
 use node_core::Work;
 use serial_meaning::Job;
 use std::alloc::{AllocError, Global};
@@ -163,23 +164,23 @@ impl<'a> Chronicle<'a> {
         answer
     }
 
-    /// A ready frame of the node of a place, the one after so many others, from the deepest level on and in a level the newest first;
-    /// none where fewer are ready, or for want of memory. It is a hint: the next event may find the world changed. Its thread takes
-    /// its numbers, so that its turn can be evaluated outside the lock.
+    /// The first ready frame of the node of a place that isn't among these, from the deepest level on and in a level the newest first;
+    /// none where there is none, or for want of memory. It is a hint: the next event may find the world changed. Its thread takes its
+    /// numbers, so that its turn can be evaluated outside the lock.
     pub fn ready<R: Wait>(
         &self,
         rt: &R,
         alloc: Global,
         seat: &mut ActorSeat<'a>,
         place: NodePlace,
-        index: usize,
+        besides: &[FrameOf],
     ) -> Option<Work>
         requires seat { IsSeatIn self.now seat.old }
         ensures same { seat.new ≡ seat.old }
         ensures fits { IfSome result (λ w. Takes self.now.job.program w.thread (length w.numbers)) }
     {
         let kept = self.lock.take(rt, &mut seat.seat);
-        let work = work_in(alloc, self.job, &kept, place, index);
+        let work = work_in(alloc, self.job, &kept, place, besides);
         self.lock.put(&mut seat.seat, kept);
         work
     }
@@ -259,23 +260,55 @@ fn by_place<'a>(
     Ok(seats)
 }
 
-/// A ready frame of the node of a place, whose thread takes its numbers.
-fn work_in(alloc: Global, job: &Job, kept: &Kept, place: NodePlace, index: usize) -> Option<Work>
+/// The first ready frame of the node of a place that isn't among these, whose thread takes its numbers.
+fn work_in(
+    alloc: Global,
+    job: &Job,
+    kept: &Kept,
+    place: NodePlace,
+    besides: &[FrameOf],
+) -> Option<Work>
     ensures { IfSome result (λ w. Takes job.now.program w.thread (length w.numbers)) }
 {
-    let work = kept.world().ready(alloc, place, index).ok().flatten()?;
-    if takes_its_numbers(job, &work) {
+    let world = kept.world();
+    for index in 0..=besides.len() {
+        let work = world.ready(alloc, place, index).ok().flatten()?;
+        if !is_among(besides, frame_of(&work)) {
+            return own_work(job, work);
+        }
+    }
+    None
+}
+
+/// A ready frame, if its thread takes its numbers.
+fn own_work(job: &Job, work: Work) -> Option<Work>
+    ensures { IfSome result (λ w. Takes job.now.program w.thread (length w.numbers)) }
+{
+    if takes_its_numbers(job.checked(), &work) {
         Some(work)
     } else {
         None
     }
 }
 
-/// Whether the thread of a frame is there and takes its numbers, as it does of each frame that a node has.
-fn takes_its_numbers(job: &Job, work: &Work) -> bool
-    ensures { result ≡ true → Takes job.now.program work.now.thread (length work.now.numbers) }
+/// Whether a frame is among these.
+fn is_among(frames: &[FrameOf], frame: FrameOf) -> bool {
+    frames.iter().any(|other| *other == frame)
+}
+
+/// A ready frame, as an event names it.
+pub fn frame_of(work: &Work) -> FrameOf {
+    FrameOf {
+        minter: work.grant.minter().word(),
+        number: work.grant.number(),
+        frame: u64::from(work.frame.number()),
+    }
+}
+
+/// Whether the thread of a ready frame is there and takes its numbers, as it does of each frame that a node has.
+pub fn takes_its_numbers(checked: &Checked, work: &Work) -> bool
+    ensures { result ≡ true → Takes checked.now work.now.thread (length work.now.numbers) }
 {
-    let checked = job.checked();
     if usize::from(work.thread) >= checked.threads() {
         return false;
     }

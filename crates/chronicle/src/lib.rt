@@ -34,7 +34,7 @@ mod kept;
 mod seat;
 mod trace;
 
-pub use chronicle::{Arrived, Chronicle, Receiver};
+pub use chronicle::{Arrived, Chronicle, Receiver, frame_of, takes_its_numbers};
 pub use kept::{Committed, Entry, Kept};
 pub use seat::ActorSeat;
 pub use trace::Trace;

@@ -7,12 +7,15 @@ use crate::form::{FormFault, form_of};
 use crate::logged::log_text;
 use crate::solo::solo;
 use crate::stored::{info_in, store_in};
-use crate::words::{JobWords, Request, RunWords, Words, read_words};
+use crate::words::{DrawWords, JobWords, Request, RunWords, Words, read_words};
 use checkpoint::Info;
 use chronicle::Trace;
 use jobs::{FileFault, JobFault, job_of, program_of, text_bytes};
 use node_runner::{Open, RunConfig, RunError, Stored, run_job, run_stored};
-use replaying::{ReplayFault, ReplayWords, WordsFault, help_of, replay_files, write_replayed};
+use replaying::{
+    ReplayFault, ReplayWords, WordsFault, help_of, replay_files, replay_words, write_replayed,
+};
+use run_picture::{Recorder, write_picture};
 use serial_meaning::{Job, Outcome, SerialError, serial};
 use std::alloc::Global;
 use std::convert::AsStr;
@@ -156,10 +159,36 @@ fn answer_replay<R: Files + AllocGlobal, O: Write>(
     words: ReplayWords<'_>,
     out: &mut O,
 ) -> Result<(), CommandFault> {
-    let replayed = replay_files(rt, words.file, words.script, words.input, words.job).map_err(
-        CommandFault::Replay,
-    )?;
+    let replayed = replay_words(rt, words, out).map_err(CommandFault::Replay)?;
     write_replayed(out, &replayed).map_err(|_| CommandFault::File)
+}
+
+/// The picture of a replay, which is made in full before any of it is written.
+fn answer_draw<R: Files + AllocGlobal, O: Write>(
+    rt: &R,
+    words: DrawWords<'_>,
+    out: &mut O,
+) -> Result<(), CommandFault> {
+    let DrawWords { replay, out: path } = words;
+    let mut run = Recorder::new(rt.alloc());
+    replay_files(
+        rt,
+        replay.file,
+        replay.script,
+        replay.input,
+        replay.job,
+        &mut run,
+    )
+    .map_err(CommandFault::Replay)?;
+    let mut text = Vec::new(rt.alloc());
+    if !run.is_whole() || write_picture(&mut text, &run).is_err() {
+        return Err(CommandFault::Replay(ReplayFault::Memory));
+    }
+    let written = match path {
+        Some(path) => fs::write(rt, path, text.as_slice()),
+        None => write_bytes(out, text.as_slice()),
+    };
+    written.map_err(|_| CommandFault::File)
 }
 
 /// What a run comes to: by one evaluator where nothing asks for threads, else by nodes on threads.
@@ -264,6 +293,7 @@ fn answer<R: Files<File = File> + AllocGlobal + Threads + Wait + Clock + Sync, O
         }
         Request::Run(words) => return answer_run(rt, words, out),
         Request::Replay(words) => return answer_replay(rt, words, out),
+        Request::Draw(words) => return answer_draw(rt, words, out),
         Request::Store(path) => write_info(out, info_in(rt, path)?),
     };
     written.map_err(|_| CommandFault::File)
@@ -323,9 +353,10 @@ fn explained<R: Files<File = File> + AllocGlobal, E: Write>(
     named: &Named<'_>,
     err: &mut E,
 ) -> u8 {
+    let status = fault.status();
     let _ = write_line(err, format_args!("cilknow: {fault}"));
     let _ = explain(rt, err, &fault, named);
-    fault.status()
+    status
 }
 
 /// Writes a fault of usage to `err`, and what is wrong, if it is asked for; the status to end with.

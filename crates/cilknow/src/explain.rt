@@ -27,6 +27,7 @@ impl<'a> Named<'a> {
             Request::Serial(words) => Named::of(words.file, None),
             Request::Run(words) => Named::of(words.job.file, words.store),
             Request::Replay(words) => Named::of(words.file, Some(words.script)),
+            Request::Draw(words) => Named::of(words.replay.file, Some(words.replay.script)),
             Request::Store(path) => Named::of(*path, None),
         }
     }

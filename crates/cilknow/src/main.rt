@@ -5,6 +5,7 @@ mod command;
 mod explain;
 mod fault;
 mod form;
+mod helps;
 mod logged;
 mod solo;
 mod stored;

@@ -1,8 +1,9 @@
+use crate::helps;
 use clap::{Arg, ArgAction, ArgMatches, Command, Error};
 use node_runner::{Faults, RunConfig};
 use replaying::{
-    ReplayWords, explain_word, file_word, input_of, input_word, number_word, replay_words_of,
-    with_replay_words,
+    ReplayWords, explain_word, file_word, input_of, input_word, number_word, packets_word,
+    replay_words_of, with_replay_words,
 };
 use std::alloc::{AllocError, Global};
 use std::convert::AsStr;
@@ -27,6 +28,8 @@ pub enum Request<'a> {
     Run(RunWords<'a>),
     /// A replay of a script on a job.
     Replay(ReplayWords<'a>),
+    /// A picture of a replay.
+    Draw(DrawWords<'a>),
     /// What the store in a file keeps.
     Store(&'a str),
 }
@@ -38,6 +41,13 @@ pub struct JobWords<'a> {
     pub turns: u64,
     pub job: u64,
     pub input: Vec<i64>,
+}
+
+/// A picture: the replay that it shows, and the file to which it is written, if one is named.
+#[derive(Drop)]
+pub struct DrawWords<'a> {
+    pub replay: ReplayWords<'a>,
+    pub out: Option<&'a str>,
 }
 
 /// A run: its job, how many nodes and how many body workers each, the faults, the file of a store that keeps its outcome, and the files to
@@ -85,6 +95,8 @@ const RUN: &str = "Runs a program and prints its outcome";
 
 const REPLAY: &str = "Replays a script of events on a program and prints what it came to";
 
+const DRAW: &str = "Replays a script of events on a program and draws the run as SVG";
+
 const STORE: &str = "Prints what a store keeps: its job, the last epoch, and the outcome";
 
 const AFTER: &str =
@@ -95,9 +107,15 @@ const AFTER: &str =
 const TURNS: &str = "1000000000";
 
 /// A subcommand that takes a job: a file, the turns, the job's number and the input.
-fn job_words<'a>(alloc: Global, name: &'a str, about: &'a str) -> Result<Command<'a>, AllocError> {
+fn job_words<'a>(
+    alloc: Global,
+    name: &'a str,
+    about: &'a str,
+    after: &'a str,
+) -> Result<Command<'a>, AllocError> {
     Command::new(alloc, name)
         .about(about)
+        .after_help(after)
         .arg(file_word(alloc))?
         .arg(explain_word(alloc))?
         .arg(number_word(alloc, "turns", TURNS, "At most so many turns"))?
@@ -107,7 +125,7 @@ fn job_words<'a>(alloc: Global, name: &'a str, about: &'a str) -> Result<Command
 
 /// A subcommand that takes a run.
 fn run_words<'a>(alloc: Global) -> Result<Command<'a>, AllocError> {
-    job_words(alloc, "run", RUN)?
+    job_words(alloc, "run", RUN, helps::RUN)?
         .arg(number_word(
             alloc,
             "nodes",
@@ -160,6 +178,48 @@ fn run_words<'a>(alloc: Global) -> Result<Command<'a>, AllocError> {
                 .action(ArgAction::Set)
                 .help("The file to which starts, crashes and departures of nodes are written"),
         )
+}
+
+/// A subcommand that takes a replay.
+fn replay_words<'a>(alloc: Global) -> Result<Command<'a>, AllocError> {
+    let command = Command::new(alloc, "replay")
+        .about(REPLAY)
+        .after_help(helps::REPLAY);
+    with_replay_words(alloc, command)?
+        .arg(packets_word(alloc))?
+        .arg(explain_word(alloc))
+}
+
+/// A subcommand that takes a picture.
+fn draw_words<'a>(alloc: Global) -> Result<Command<'a>, AllocError> {
+    let command = Command::new(alloc, "draw")
+        .about(DRAW)
+        .after_help(helps::DRAW);
+    with_replay_words(alloc, command)?
+        .arg(explain_word(alloc))?
+        .arg(
+            Arg::new(alloc, "out")
+                .short('o')
+                .long("out")
+                .action(ArgAction::Set)
+                .help(
+                    "The file to which the picture is written; standard output where it isn't given",
+                ),
+        )
+}
+
+/// The words of a picture; none where they don't have what `draw_words` asks for.
+fn draw_of<'a>(
+    alloc: Global,
+    matches: &ArgMatches<'a>,
+) -> Result<Option<DrawWords<'a>>, AllocError> {
+    let Some(replay) = replay_words_of(alloc, matches, false)? else {
+        return Ok(None);
+    };
+    Ok(Some(DrawWords {
+        replay,
+        out: matches.get_str("out"),
+    }))
 }
 
 /// The word that names the file of a store.
@@ -216,23 +276,25 @@ fn all_words<'a>(alloc: Global) -> Result<Command<'a>, AllocError> {
         .subcommand(
             Command::new(alloc, "check")
                 .about(CHECK)
+                .after_help(helps::CHECK)
                 .arg(file_word(alloc))?
                 .arg(explain_word(alloc))?,
         )?
         .subcommand(
             Command::new(alloc, "print")
                 .about(PRINT)
+                .after_help(helps::PRINT)
                 .arg(file_word(alloc))?
                 .arg(explain_word(alloc))?,
         )?
-        .subcommand(job_words(alloc, "serial", SERIAL)?)?
+        .subcommand(job_words(alloc, "serial", SERIAL, helps::SERIAL)?)?
         .subcommand(run_words(alloc)?)?
-        .subcommand(with_replay_words(alloc, Command::new(alloc, "replay").about(REPLAY))?.arg(
-            explain_word(alloc),
-        )?)?
+        .subcommand(replay_words(alloc)?)?
+        .subcommand(draw_words(alloc)?)?
         .subcommand(
             Command::new(alloc, "store")
                 .about(STORE)
+                .after_help(helps::STORE)
                 .arg(store_word(alloc))?
                 .arg(explain_word(alloc))?,
         )
@@ -283,7 +345,11 @@ fn request_of<'a>(
         "print" => Ok(inner.get_str("FILE").map(Request::Print)),
         "serial" => Ok(job_of(alloc, inner)?.map(Request::Serial)),
         "run" => Ok(run_of(alloc, inner)?.map(Request::Run)),
-        "replay" => Ok(replay_words_of(alloc, inner)?.map(Request::Replay)),
+        "replay" => {
+            let packets = inner.get_flag("packets");
+            Ok(replay_words_of(alloc, inner, packets)?.map(Request::Replay))
+        }
+        "draw" => Ok(draw_of(alloc, inner)?.map(Request::Draw)),
         "store" => Ok(inner.get_str("PATH").map(Request::Store)),
         _ => Ok(None),
     }

@@ -1,5 +1,5 @@
 -- A commit of the next epoch, and of an outcome.
-use Rattle.std.proofs.Common.{◌≡◌, ℕ, ◌+◌, ◌^◌, Bool, true, false, nat_lt, Option, None, Some, cond}
+use Rattle.std.proofs.Common.{◌≡◌, ℕ, ◌+◌, ◌^◌, Bool, true, false, nat_lt, None, Some, cond}
 
 -- the next epoch is the number that follows
 pub an_epoch : (epoch next : ℕ) → Some next ≡ cond (nat_lt (epoch + 1) (2 ^ 63)) (Some (epoch + 1)) None → next ≡ epoch + 1

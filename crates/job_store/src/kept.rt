@@ -1,11 +1,11 @@
-ghost use Rattle.std.specs.Prelude.{◌≡◌, ◌≢◌, ◌⊎◌, ◌+◌, false, List, [], None, Some, Ok, IfErr, IfOk, IsErrOf, OnErr, OnOk};
+ghost use Rattle.std.specs.Prelude.{◌≡◌, ◌≢◌, ◌⊎◌, ◌+◌, ◌^◌, ◌≤◌, true, false, List, [], None, Some, Ok, IfErr, IfOk, IsErrOf, OnErr, OnOk};
 ghost use Rattle.disk.specs.Crash.{Only};
 ghost use Rattle.disk.specs.File.{CrashLeaves, bytes_of};
 ghost use Rattle.ids.specs.declared.outcome.Outcome.{Outcome as OutcomeOf};
 ghost use Rattle.checkpoint.specs.Format.{fresh};
 ghost use Rattle.checkpoint.specs.Moments.{KeepsEither};
-ghost use Rattle.checkpoint.specs.Store.{IsRefused, Keeps, Reads};
-ghost use Rattle.job_store.specs.Kept.{IsCommitted, begun, finished};
+ghost use Rattle.checkpoint.specs.Store.{IsRefused, IsSpent, Keeps, Reads};
+ghost use Rattle.job_store.specs.Kept.{HasFailed, IsCommitted, begun, finished};
 
 use checkpoint::{LastEpoch, Store, StoreError, format};
 use disk::Disk;
@@ -23,6 +23,7 @@ pub fn open_store<D: Disk>(alloc: Global, disk: D, job: u64) -> Result<Store<D>,
     // Where a crash leaves what a read gives, it has the store's record, whatever a crash leaves.
     ensures kept { IfOk result (λ s. Only (bytes_of (D.device disk).file) (CrashLeaves (D.device disk).file) → Keeps (D.device s.disk).file s.sequence s.record) }
     ensures refused { IfErr result (λ e. e.0 ≢ StoreError.Device → IsRefused e.0 (bytes_of (D.device disk).file) job) }
+    ensures failed { IfErr result (λ e. e.0 ≡ StoreError.Device → HasFailed (D.device disk) (D.device e.1)) }
     ensures unchanged { IfErr result (λ e. bytes_of (D.device disk).file ≢ [] → e.0 ≢ StoreError.Device → (D.device e.1).file ≡ (D.device disk).file) }
 {
     let mut disk = disk;
@@ -38,6 +39,7 @@ fn make_store<D: Disk>(alloc: Global, disk: D, job: u64) -> Result<Store<D>, (St
     ensures made { IfOk result (λ s. (s.ended ≡ false) × (s.record ≡ fresh job)) }
     ensures kept { IfOk result (λ s. Keeps (D.device s.disk).file s.sequence s.record) }
     ensures refused { IfErr result (λ e. e.0 ≡ StoreError.Device) }
+    ensures failed { IfErr result (λ e. HasFailed (D.device disk) (D.device e.1)) }
 {
     let mut disk = disk;
     match format(&mut disk, job) {
@@ -52,6 +54,8 @@ pub fn begin_run<D: Disk>(store: &mut Store<D>) -> Result<Option<Outcome>, Store
     ensures known { (o : OutcomeOf) → store.old.record.outcome ≡ Some o → (result ≡ Ok (Some o)) × (store.new ≡ store.old) }
     ensures begins { store.old.record.outcome ≡ None → IfOk result (λ known. (known ≡ None) × IsCommitted (begun store.old.record) store.old store.new) }
     ensures refused { OnErr result (IsErrOf result StoreError.Spent ⊎ IsErrOf result StoreError.Device) }
+    ensures spent { IsErrOf result StoreError.Spent → IsSpent store.old ⊎ (2 ^ 63 ≤ store.old.record.epoch + 1) }
+    ensures failed { IsErrOf result StoreError.Device → (store.old.ended ≡ true) ⊎ HasFailed (D.device store.old.disk) (D.device store.new.disk) }
     ensures unchanged { IsErrOf result StoreError.Spent → store.new ≡ store.old }
 
     // Where whatever a crash leaves has the current record, it is so after it, and at any moment it has that one or the one of the new epoch.
@@ -75,6 +79,8 @@ pub fn keep_outcome<D: Disk>(store: &mut Store<D>, outcome: Outcome) -> Result<O
     ensures known { (o : OutcomeOf) → store.old.record.outcome ≡ Some o → (result ≡ Ok o) × (store.new ≡ store.old) }
     ensures keeps { store.old.record.outcome ≡ None → IfOk result (λ o. (o ≡ outcome) × IsCommitted (finished outcome store.old.record) store.old store.new) }
     ensures refused { OnErr result (IsErrOf result StoreError.Spent ⊎ IsErrOf result StoreError.Device) }
+    ensures spent { IsErrOf result StoreError.Spent → IsSpent store.old }
+    ensures failed { IsErrOf result StoreError.Device → (store.old.ended ≡ true) ⊎ HasFailed (D.device store.old.disk) (D.device store.new.disk) }
     ensures unchanged { IsErrOf result StoreError.Spent → store.new ≡ store.old }
 
     // Where whatever a crash leaves has the current record, it is so after it, and at any moment it has that one or the one with the outcome.

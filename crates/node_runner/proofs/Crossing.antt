@@ -29,13 +29,14 @@ use Rattle.ids.proofs.listed.Listed.TheSendSync as listed
 use Rattle.local_pool.specs.contracts.owner.Owner as Owner
 use Rattle.local_pool.specs.contracts.worker.BodyWorker as BodyWorker
 use Rattle.node_runner.specs.contracts.desk.Desk as Desk
-use Rattle.node_runner.specs.contracts.desk.Out as Out
+use Rattle.event_script.specs.contracts.event.FrameOf as FrameOf
 use Rattle.node_runner.specs.contracts.desk.Ticket as Ticket
 use Rattle.node_runner.specs.contracts.turn.Evaluated as Evaluated
 use Rattle.node_runner.specs.contracts.turn.Finished as Finished
 use Rattle.node_runner.specs.contracts.line.Line as Line
 use Rattle.node_runner.specs.contracts.pace.Pace as Pace
 use Rattle.node_runner.specs.contracts.shared.Shared as Shared
+use Rattle.node_runner.proofs.bells.Bells.TheSendSync as bells
 use Rattle.node_runner.proofs.counts.Counts.TheSendSync as counts
 use Rattle.node_runner.proofs.config.RunConfig.TheSendSync as config
 
@@ -101,11 +102,32 @@ own = search (sendable, owner.the_send, ticket) depth 25
 steals : IsSend (BodyWorker.the_row Ticket.the_row)
 steals = search (sendable, thief.the_send, ticket) depth 25
 
-outs : IsSend (Vec.the_row Out.the_row Heap.the_row ghosts)
-outs = Vec-send Out.the_row (search sendable depth 20)
+frames : IsSend (Vec.the_row FrameOf.the_row Heap.the_row ghosts)
+frames = Vec-send FrameOf.the_row (search sendable depth 20)
 
 desk_field : IsSend (Desk.the_field).row
-desk_field = struct_send (shape Desk.the_type) (search (sendable, own) depth 12, (line_field, (search sendable depth 12, (search sendable depth 12, (search (sendable, outs) depth 12, tt)))))
+desk_field = struct_send (shape Desk.the_type) (
+  search (sendable, own) depth 12,
+  (
+    line_field,
+    (
+      search (sendable, bells.the_send, bells.the_sync, crosses) depth 25,
+      (
+        search sendable depth 12,
+        (
+          search sendable depth 12,
+          (
+            search (sendable, crosses) depth 12,
+            (
+              search (sendable, frames) depth 12,
+              tt,
+            ),
+          ),
+        ),
+      ),
+    ),
+  ),
+)
 
 node_field : IsSend (NodeContext.the_field).row
 node_field = struct_send (shape NodeContext.the_type) (search (sendable, pen.the_send) depth 12, (desk_field, tt))
@@ -114,7 +136,7 @@ pub node_context : IsSend NodeContext.the_row
 node_context = recorded_send (NodeContext.the_field).row _ _ (NodeContext.the_type).to_one node_field
 
 worker_field : IsSend (WorkerContext.the_field).row
-worker_field = struct_send (shape WorkerContext.the_type) (search (sendable, steals) depth 12, (line_field, tt))
+worker_field = struct_send (shape WorkerContext.the_type) (search (sendable, steals) depth 12, (line_field, (search (sendable, bells.the_send, bells.the_sync, crosses) depth 25, tt)))
 
 pub worker_context : IsSend WorkerContext.the_row
 worker_context = recorded_send (WorkerContext.the_field).row _ _ (WorkerContext.the_type).to_one worker_field

@@ -5,6 +5,7 @@ ghost use Rattle.std.specs.Arc.{arc_value};
 ghost use Rattle.node_runner.specs.Lines.{IsLineOf, IsPassFor};
 ghost use Rattle.node_runner.specs.Runs.{IsContextIn, IsNodeIn, IsWorkerOf};
 
+use crate::bells::Bells;
 use crate::desk::{Desk, Ticket};
 use crate::line::Line;
 use crate::turn::Finished;
@@ -37,6 +38,7 @@ pub(crate) struct NodeContext {
 pub(crate) struct WorkerContext {
     pub(crate) worker: BodyWorker<Ticket>,
     pub(crate) line: Line,
+    pub(crate) bells: Arc<Bells, Global>,
 }
 
 /// The actors' contexts, a seat each, and a pen and a desk for each node; and those of their body workers, so many a node.
@@ -107,8 +109,9 @@ fn desk_of<R: Wait>(
     let Some(pass) = passes.pop() else {
         unreachable!()
     };
-    hire(job, &queue, thieves, passes, workers)?;
-    let desk = Desk::new(alloc, owner, Line { queue, pass }, bodies)?;
+    let bells = Arc::new(alloc, Bells::new(bodies))?;
+    hire(job, &queue, &bells, thieves, passes, workers)?;
+    let desk = Desk::new(alloc, owner, Line { queue, pass }, bells, bodies)?;
     Ok(desk)
 }
 
@@ -116,6 +119,7 @@ fn desk_of<R: Wait>(
 fn hire(
     job: &Job,
     queue: &Arc<TurnQueue<Finished>, Global>,
+    bells: &Arc<Bells, Global>,
     mut thieves: Vec<BodyWorker<Ticket>>,
     mut passes: Vec<TurnPass<Finished>>,
     workers: &mut Vec<WorkerContext>,
@@ -130,7 +134,12 @@ fn hire(
         };
         let queue = Arc::try_clone(queue)?;
         let line = Line { queue, pass };
-        workers.push(WorkerContext { worker, line })?;
+        let bells = Arc::try_clone(bells)?;
+        workers.push(WorkerContext {
+            worker,
+            line,
+            bells,
+        })?;
     }
     Ok(())
 }

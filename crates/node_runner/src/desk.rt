@@ -1,14 +1,16 @@
 ghost use Rattle.std.specs.Prelude.{◌≡◌, IfOk, IfSome};
 ghost use Rattle.node_runner.specs.Lines.{IsLineOf};
 
+use crate::bells::Bells;
 use crate::line::Line;
 use crate::turn::Evaluated;
+use chronicle::frame_of;
 use event_script::FrameOf;
 use kind_check::Checked;
 use local_pool::Owner;
 use node_core::Work;
 use std::alloc::{AllocError, Global};
-use std::sync::Wait;
+use std::sync::{Arc, Wait};
 
 /// How many tickets of a node are out at most for each of its body workers.
 const TICKETS: usize = 2;
@@ -20,31 +22,18 @@ pub(crate) struct Ticket {
     pub(crate) work: Work,
 }
 
-/// The frame of a ready frame.
-pub(crate) fn frame_of(work: &Work) -> FrameOf {
-    FrameOf {
-        minter: work.grant.minter().word(),
-        number: work.grant.number(),
-        frame: u64::from(work.frame.number()),
-    }
-}
-
-/// A ticket that is out: its number and its frame.
-#[derive(Clone, Copy, Debug, PartialEq, Eq)]
-struct Out {
-    ticket: u64,
-    frame: FrameOf,
-}
-
 /// What a node's owner has of its body workers: it offers ready frames to them, and takes turns that they evaluated. It knows which of its
 /// tickets are out, neither come back nor forgotten.
 #[derive(Drop)]
 pub(crate) struct Desk {
     owner: Owner<Ticket>,
     pub(crate) line: Line,
+    bells: Arc<Bells, Global>,
     workers: usize,
     next: u64,
-    out: Vec<Out>,
+    // The tickets that are out, and the frame of each at the same index.
+    tickets: Vec<u64>,
+    frames: Vec<FrameOf>,
 }
 
 impl Desk {
@@ -53,59 +42,76 @@ impl Desk {
         alloc: Global,
         owner: Owner<Ticket>,
         line: Line,
+        bells: Arc<Bells, Global>,
         workers: usize,
     ) -> Result<Desk, AllocError>
         ensures { IfOk result (λ d. d.line ≡ line) }
     {
+        let room = workers.saturating_mul(TICKETS);
         Ok(Desk {
             owner,
             line,
+            bells,
             workers,
             next: 0,
-            out: Vec::with_capacity(alloc, workers.saturating_mul(TICKETS))?,
+            tickets: Vec::with_capacity(alloc, room)?,
+            frames: Vec::with_capacity(alloc, room)?,
         })
     }
 
-    /// How many tickets are out.
-    pub(crate) fn out(&self) -> usize {
-        self.out.len()
+    /// The bells of the node.
+    pub(crate) fn bells(&self) -> &Bells {
+        &self.bells
+    }
+
+    /// The frames of the tickets that are out.
+    pub(crate) fn frames(&self) -> &[FrameOf] {
+        self.frames.as_slice()
+    }
+
+    /// Whether a ticket is out.
+    pub(crate) fn is_waiting(&self) -> bool {
+        !self.tickets.is_empty()
     }
 
     /// Whether each worker has something to do.
     pub(crate) fn is_busy(&self) -> bool {
-        self.out.len() >= self.workers
+        self.tickets.len() >= self.workers
     }
 
     /// Whether no more tickets may be out.
     pub(crate) fn is_full(&self) -> bool {
-        self.out.len() >= self.workers.saturating_mul(TICKETS)
-    }
-
-    /// Whether a frame is out.
-    pub(crate) fn has(&self, frame: FrameOf) -> bool {
-        self.out.iter().any(|out| out.frame == frame)
+        self.tickets.len() >= self.workers.saturating_mul(TICKETS)
     }
 
     /// Offers a ready frame to the workers; whether it is out now. It isn't where there is no memory, and may be offered again.
     pub(crate) fn offer(&mut self, work: Work) -> bool
         ensures { self.new.line ≡ self.old.line }
     {
-        let (ticket, frame) = (self.next, frame_of(&work));
-        if self.out.push(Out { ticket, frame }).is_err() {
+        let number = self.next;
+        if !self.notes(number, frame_of(&work)) {
             return false;
         }
-        if self
-            .owner
-            .offer(Ticket {
-                number: ticket,
-                work,
-            })
-            .is_err()
-        {
-            let _ = self.out.pop();
+        if self.owner.offer(Ticket { number, work }).is_err() {
+            self.removes(number);
             return false;
         }
-        self.next = self.next.wrapping_add(1);
+        self.next = number.wrapping_add(1);
+        self.bells.offers();
+        true
+    }
+
+    /// A ticket is out. Whether there was memory.
+    fn notes(&mut self, ticket: u64, frame: FrameOf) -> bool
+        ensures { self.new.line ≡ self.old.line }
+    {
+        if self.tickets.push(ticket).is_err() {
+            return false;
+        }
+        if self.frames.push(frame).is_err() {
+            let _ = self.tickets.pop();
+            return false;
+        }
         true
     }
 
@@ -124,10 +130,11 @@ impl Desk {
     pub(crate) fn takes_back(&mut self)
         ensures { self.new.line ≡ self.old.line }
     {
-        for _ in 0..self.out.len() {
+        for _ in 0..self.tickets.len() {
             let Some(ticket) = self.owner.take_own() else {
                 break;
             };
+            self.bells.takes_back();
             self.removes(ticket.number);
         }
     }
@@ -137,15 +144,20 @@ impl Desk {
         ensures { self.new.line ≡ self.old.line }
     {
         self.takes_back();
-        self.out.clear();
+        self.tickets.clear();
+        self.frames.clear();
     }
 
     /// A ticket isn't out any more.
     fn removes(&mut self, ticket: u64)
         ensures { self.new.line ≡ self.old.line }
     {
-        if let Some(index) = self.out.iter().position(|out| out.ticket == ticket) {
-            let _ = self.out.swap_remove(index);
+        let Some(index) = self.tickets.iter().position(|out| *out == ticket) else {
+            return;
+        };
+        let _ = self.tickets.swap_remove(index);
+        if index < self.frames.len() {
+            let _ = self.frames.swap_remove(index);
         }
     }
 }

@@ -96,6 +96,7 @@ fn turn<'a, R: Wait + Clock, G: Gate + Sync>(
     if events < house.ticked.saturating_add(TICK) {
         return true;
     }
+    shared.gate.passed(events, shared.chronicle.sent());
     house.ticked = events;
     house.ticks = house.ticks.saturating_add(1);
     let moment = house.ticks.saturating_mul(TICK);

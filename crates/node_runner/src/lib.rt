@@ -27,6 +27,7 @@
 //! and body workers evaluate it, and that the crashes and departures come that are asked for.
 #![tactic(auto)]
 
+mod bells;
 mod config;
 mod counts;
 mod crew;

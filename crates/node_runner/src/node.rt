@@ -2,13 +2,13 @@ ghost use Rattle.std.specs.Prelude.{◌≡◌};
 ghost use Rattle.chronicle.specs.Seats.{IsSeatIn};
 ghost use Rattle.node_runner.specs.Lines.{IsLineOf};
 
-use crate::desk::{Desk, frame_of};
+use crate::desk::Desk;
 use crate::fates::Fates;
 use crate::gate::Gate;
 use crate::inbox::Inbox;
 use crate::members::Members;
 use crate::plans::Plans;
-use crate::resting::{pause, pauses, rest};
+use crate::resting::{YIELDS, nap, pause, pauses, rest, rest_idle, sleeps};
 use crate::shared::{Shared, commit};
 use crate::turn::Evaluated;
 use chronicle::{ActorSeat, Arrived, Receiver};
@@ -17,6 +17,7 @@ use node_core::NodeError;
 use start_words::Pen;
 use std::alloc::Global;
 use std::sync::Wait;
+use std::thread::yield_now;
 use std::time::Clock;
 use world_steps::Told;
 
@@ -100,6 +101,7 @@ pub(crate) fn run_node<'a, R: Wait + Clock, G: Gate + Sync>(
         pauses: 0,
     };
     if !starts(rt, shared, &mut seat, &mut pen, &mut node) {
+        desk.bells().ends();
         return seat;
     }
     for _ in rt.forever() {
@@ -110,6 +112,7 @@ pub(crate) fn run_node<'a, R: Wait + Clock, G: Gate + Sync>(
             break;
         }
     }
+    desk.bells().ends();
     seat
 }
 
@@ -138,7 +141,8 @@ fn turn<'a, R: Wait + Clock, G: Gate + Sync>(
     }
     if node.is_over {
         shared.pace.forgets(node.index());
-        node.rests(rt, shared.config.nodes());
+        node.rested = node.rested.saturating_add(1);
+        rest(rt, shared.config.nodes(), node.rested);
         return true;
     }
     if node.holds && node.is_held(shared.pace.is_behind(shared.chronicle.sent(), node.sent)) {
@@ -174,6 +178,7 @@ fn goes_on<'a, R: Wait + Clock, G: Gate + Sync>(
     ensures pen { pen.new.table ≡ shared.entry.now.words.now.table }
     ensures line { IsLineOf shared.entry.now.chronicle.now.job.program desk.new.line }
 {
+    let returned = desk.bells().returned();
     if let Some(arrived) = node.inbox.take(rt, alloc, shared.chronicle, seat) {
         return delivers(rt, alloc, shared, seat, node, &arrived);
     }
@@ -195,9 +200,12 @@ fn goes_on<'a, R: Wait + Clock, G: Gate + Sync>(
             None => return false,
         }
     }
+    if desk.is_waiting() && node.stays_awake() {
+        return true;
+    }
     if node.idle < node.patience {
         node.idle = node.idle.saturating_add(1);
-        node.rests(rt, shared.config.nodes());
+        node.rests(rt, desk, returned, shared.config.nodes());
         return true;
     }
     node.patience = node.patience.saturating_mul(2).min(MOST_PATIENCE);
@@ -374,16 +382,14 @@ fn offers<'a, R: Wait, G: Gate + Sync>(
     if !node.may_be_ready || desk.is_full() {
         return false;
     }
-    for index in 0..=desk.out() {
-        let Some(work) = shared.chronicle.ready(rt, alloc, seat, node.place, index) else {
-            node.may_be_ready = false;
-            return false;
-        };
-        if !desk.has(frame_of(&work)) {
-            return desk.offer(work);
-        }
-    }
-    false
+    let Some(work) = shared
+        .chronicle
+        .ready(rt, alloc, seat, node.place, desk.frames())
+    else {
+        node.may_be_ready = false;
+        return false;
+    };
+    desk.offer(work)
 }
 
 /// A frame of the node is carried out by the turn that a body worker evaluated. Whether there was memory.
@@ -457,9 +463,25 @@ impl Node {
         }
     }
 
-    /// It lets others go on, in a run of so many nodes.
-    fn rests(&mut self, rt: &impl Clock, nodes: u8) {
+    /// Whether it stays awake for a turn of its body workers, in which it lets others go on. Such a turn isn't counted as one in which nothing
+    /// was done.
+    fn stays_awake(&mut self) -> bool {
+        if self.rested >= YIELDS {
+            return false;
+        }
         self.rested = self.rested.saturating_add(1);
-        rest(rt, nodes, self.rested);
+        yield_now();
+        true
+    }
+
+    /// It lets others go on, in a run of so many nodes; where its body workers have something, until a turn comes back, unless one did since so
+    /// many had.
+    fn rests<R: Wait + Clock>(&mut self, rt: &R, desk: &Desk, returned: u64, nodes: u8) {
+        self.rested = self.rested.saturating_add(1);
+        if !desk.is_waiting() {
+            rest_idle(rt, nodes, self.rested);
+        } else if sleeps(self.rested) {
+            desk.bells().node_sleeps(rt, returned, nap(nodes));
+        }
     }
 }

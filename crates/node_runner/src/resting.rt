@@ -1,14 +1,18 @@
 use std::thread::{sleep, yield_now};
 use std::time::{Clock, Duration};
 
-/// How many turns in a row with nothing done an actor yields in.
-const YIELDS: u64 = 16;
+/// In how many turns in a row with nothing done an actor yields that waits for another thread which has something of it: for some ten
+/// microseconds, so that it is awake when the turn of a short body comes back, or the next ticket.
+pub(crate) const YIELDS: u64 = 32;
 
-/// After how many such turns each it sleeps from then on. The others cost less than going to sleep, and waiting for many turns isn't to
-/// take long.
+/// In how many such turns a node yields that has nothing out.
+const IDLE_YIELDS: u64 = 4;
+
+/// After how many turns each an actor sleeps from then on. The others cost less than going to sleep, and waiting for many turns isn't to take
+/// long: a node sends again, and so events pass, after as many as 4,096.
 const AWAKE: u64 = 32;
 
-/// How long it sleeps in a run of few nodes, in microseconds.
+/// How long an actor sleeps in a turn then in a run of few nodes, in microseconds.
 const SLEEP: u64 = 50;
 
 /// How many nodes are few.
@@ -27,17 +31,31 @@ pub(crate) fn pause(rt: &impl Clock, nodes: u8) {
     sleep(rt, Duration::from_micros(nap(nodes)));
 }
 
-/// An actor that did nothing in so many turns lets others go on.
+/// An actor that waits for another one, and did nothing in so many turns, lets others go on.
 pub(crate) fn rest(rt: &impl Clock, nodes: u8, idle: u64) {
-    if idle < YIELDS {
+    rest_after(rt, nodes, idle, YIELDS);
+}
+
+/// A node with nothing out, which did nothing in so many turns, lets others go on.
+pub(crate) fn rest_idle(rt: &impl Clock, nodes: u8, idle: u64) {
+    rest_after(rt, nodes, idle, IDLE_YIELDS);
+}
+
+/// Whether an actor that did nothing in so many turns sleeps in this one.
+pub(crate) fn sleeps(idle: u64) -> bool {
+    idle % AWAKE == 0
+}
+
+fn rest_after(rt: &impl Clock, nodes: u8, idle: u64, yields: u64) {
+    if idle < yields {
         yield_now();
-    } else if idle % AWAKE == 0 {
+    } else if sleeps(idle) {
         pause(rt, nodes);
     }
 }
 
 /// How long an actor sleeps in a run of so many nodes, in microseconds: so long that all of them together wake as often as a few do.
-fn nap(nodes: u8) -> u64 {
+pub(crate) fn nap(nodes: u8) -> u64 {
     let many = u64::from(nodes).saturating_add(FEW - 1) / FEW;
     SLEEP.saturating_mul(many)
 }

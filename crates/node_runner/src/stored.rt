@@ -1,4 +1,4 @@
-ghost use Rattle.std.specs.Prelude.{◌≡◌, Some, IfOk, IfSome, OnOk};
+ghost use Rattle.std.specs.Prelude.{◌≡◌, None, Some, Ok, IfOk, IfSome, OnOk};
 ghost use Rattle.ids.specs.declared.outcome.Outcome.{Outcome as OutcomeOf};
 ghost use Rattle.checkpoint.specs.Store.{Keeps};
 ghost use Rattle.serial_meaning.specs.Job.{meaning_of};
@@ -43,7 +43,7 @@ pub fn run_stored<'a, R: Threads + Wait + Clock + Sync, G: Gate + Sync, D: Disk>
     ensures told { IfOk result (λ s. store.new.record.outcome ≡ Some s.outcome) }
 
     // An outcome that was kept stays, and nothing is written then.
-    ensures known { (o : OutcomeOf) → store.old.record.outcome ≡ Some o → IfOk result (λ s. s.outcome ≡ o) × (store.new ≡ store.old) }
+    ensures known { (o : OutcomeOf) → store.old.record.outcome ≡ Some o → (result ≡ Ok (record { outcome = o; trace = None })) × (store.new ≡ store.old) }
 
     // Where whatever a crash leaves of the disk has the current record, it is so after it; and at any end it is a store of the job without
     // outcome, or with the job's meaning, if it was that before.

@@ -1,21 +1,21 @@
-ghost use Rattle.std.specs.Prelude.{◌≡◌, length, true};
-ghost use Rattle.kind_check.specs.Total.{Takes};
+ghost use Rattle.std.specs.Prelude.{◌≡◌};
 ghost use Rattle.node_runner.specs.Lines.{IsLineOf};
 
+use crate::bells::Bells;
 use crate::counts::End;
 use crate::crew::WorkerContext;
-use crate::desk::{Ticket, frame_of};
+use crate::desk::Ticket;
 use crate::gate::Gate;
 use crate::line::Line;
-use crate::resting::rest;
+use crate::resting::{YIELDS, rest};
 use crate::shared::Shared;
 use crate::turn::{Evaluated, Finished};
 use board::Note;
 use body_eval::Done;
-use kind_check::Checked;
-use node_core::Work;
+use chronicle::{frame_of, takes_its_numbers};
 use std::alloc::Global;
 use std::sync::Wait;
+use std::thread::yield_now;
 use std::time::Clock;
 
 /// A body worker's turns, until the run ends: it steals a ticket of its node, evaluates the body once the gate lets it, and gives the turn
@@ -31,6 +31,7 @@ pub(crate) fn run_worker<R: Wait + Clock, G: Gate + Sync>(
     let WorkerContext {
         mut worker,
         mut line,
+        bells,
     } = context;
     let mut note = shared.board.note();
     let mut idle: u64 = 0;
@@ -38,15 +39,27 @@ pub(crate) fn run_worker<R: Wait + Clock, G: Gate + Sync>(
         if !goes_on(shared, &mut note) {
             break;
         }
+        let offered = bells.offered();
         if let Some(ticket) = worker.steal() {
             idle = 0;
+            bells.takes();
             if !works(rt, alloc, shared, &mut line, &mut note, ticket) {
                 break;
             }
+            bells.returns();
         } else {
             idle = idle.saturating_add(1);
-            rest(rt, shared.config.nodes(), idle);
+            waits(rt, &bells, offered, idle);
         }
+    }
+}
+
+/// A body worker waits that found no ticket in so many turns. It sleeps soon where others are awake for those that are out.
+fn waits<R: Wait>(rt: &R, bells: &Bells, offered: u64, idle: u64) {
+    if idle >= YIELDS || idle > 1 && bells.has_enough() {
+        bells.worker_sleeps(rt, offered);
+    } else {
+        yield_now();
     }
 }
 
@@ -91,16 +104,6 @@ fn works<R: Wait + Clock, G: Gate + Sync>(
         turn,
     };
     returns(rt, shared, line, note, Finished::of(checked, evaluated))
-}
-
-/// Whether the thread of a frame is there and takes its numbers, as it does of each frame that a node has.
-fn takes_its_numbers(checked: &Checked, work: &Work) -> bool
-    ensures { result ≡ true → Takes checked.now work.now.thread (length work.now.numbers) }
-{
-    if usize::from(work.thread) >= checked.threads() {
-        return false;
-    }
-    checked.program().thread(work.thread).numbers.len() == work.numbers.len()
 }
 
 /// Numbers a body, and waits until the gate lets it be evaluated. Whether it did before the run ended.

@@ -3,7 +3,8 @@ ghost use Rattle.nowsim.specs.Status.{of_words, status_of};
 
 use crate::words::{Words, read_words};
 use explaining::explain_replay;
-use replaying::{ReplayFault, ReplayWords, WordsFault, help_of, replay_files, write_replayed};
+use replaying::{ReplayFault, ReplayWords, WordsFault, help_of, replay_words, write_replayed};
+use std::alloc::Global;
 use std::convert::AsStr;
 use std::fmt;
 use std::io::{self, Write};
@@ -51,9 +52,7 @@ fn answer<R: Files + AllocGlobal, O: Write>(
     words: ReplayWords<'_>,
     out: &mut O,
 ) -> Result<(), SimFault> {
-    let replayed = replay_files(rt, words.file, words.script, words.input, words.job).map_err(
-        SimFault::Replay,
-    )?;
+    let replayed = replay_words(rt, words, out).map_err(SimFault::Replay)?;
     write_replayed(out, &replayed).map_err(|_| SimFault::Replay(ReplayFault::File))
 }
 
@@ -83,11 +82,33 @@ pub fn command<R: Files + AllocGlobal, S: AsStr, O: Write, E: Write>(
     match read_words(rt.alloc(), words) {
         Ok(Some(line)) => carried_out(rt, line, out, err),
         Ok(None) => refused(SimFault::Usage, err),
-        Err(error) => match shown(error, out) {
-            Ok(()) => 0,
-            Err(fault) => refused(fault, err),
-        },
+        Err(error) => {
+            let usage = usage_text(rt.alloc(), words, &error);
+            match shown(error, out) {
+                Ok(()) => 0,
+                Err(fault) => misused(fault, usage, err),
+            }
+        }
     }
+}
+
+/// Writes a fault of usage to `err`, and what is wrong, if it is asked for; the status to end with.
+fn misused<E: Write>(fault: SimFault, usage: Option<String>, err: &mut E) -> u8 {
+    let status = refused(fault, err);
+    if let Some(text) = usage {
+        let _ = write!(err, "{text}");
+    }
+    status
+}
+
+/// What is wrong with words that aren't understood, where one of them asks for that.
+fn usage_text<S: AsStr>(alloc: Global, words: &[S], error: &clap::Error) -> Option<String> {
+    for word in words {
+        if word.as_str() == "--explain" {
+            return String::format(alloc, format_args!("{error}")).ok();
+        }
+    }
+    None
 }
 
 /// Carries out a replay; the status to end with.

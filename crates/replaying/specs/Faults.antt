@@ -1,4 +1,6 @@
 -- Why files aren't replayed, by what it came from.
+use Rattle.event_words.specs.declared.fault.NarratorFault.{NarratorFault}
+use Rattle.event_words.specs.declared.fault.NarratorFault.TheVariants as narrator
 use Rattle.jobs.specs.declared.fault.FileFault.{FileFault}
 use Rattle.jobs.specs.declared.fault.FileFault.TheVariants as file
 use Rattle.jobs.specs.declared.fault.JobFault.{JobFault}
@@ -24,3 +26,8 @@ of_job job.Memory = faults.Memory
 abbrev pub of_replay : ReplayError → ReplayFault
 of_replay (replay.Line l) = faults.Line l
 of_replay replay.Memory = faults.Memory
+
+-- a run that isn't told to its end
+abbrev pub of_narrator : NarratorFault → ReplayFault
+of_narrator narrator.Unwritten = faults.File
+of_narrator narrator.Memory = faults.Memory

@@ -1,8 +1,9 @@
 ghost use Rattle.std.specs.Prelude.{◌≡◌};
-ghost use Rattle.replaying.specs.Faults.{of_file, of_job, of_replay};
+ghost use Rattle.replaying.specs.Faults.{of_file, of_job, of_narrator, of_replay};
 ghost use Rattle.replaying.specs.Status.{status_of};
 
 use event_script::Line;
+use event_words::NarratorFault;
 use jobs::{FileFault, JobFault};
 use thiserror::Error;
 use world::ReplayError;
@@ -68,6 +69,17 @@ impl From<ReplayError> for ReplayFault {
         match e {
             ReplayError::Line(line) => ReplayFault::Line(line),
             ReplayError::Memory => ReplayFault::Memory,
+        }
+    }
+}
+
+impl From<NarratorFault> for ReplayFault {
+    ghost from_gives = { λ e f. f ≡ of_narrator e };
+
+    fn from(e: NarratorFault) -> ReplayFault {
+        match e {
+            NarratorFault::Unwritten => ReplayFault::File,
+            NarratorFault::Memory => ReplayFault::Memory,
         }
     }
 }

@@ -3,19 +3,24 @@ ghost use Rattle.replaying.specs.Replays.{IsFilesRefusal, IsFilesReplay};
 
 use crate::fault::ReplayFault;
 use crate::replayed::{Replayed, replay_script};
+use crate::words::ReplayWords;
+use event_words::Narrator;
 use jobs::{bytes_within, job_of, text_bytes};
+use std::io::Write;
 use std::rt::Files;
+use world::{Unwatched, Watch};
 
-/// Replays the script of a file, which may have any length, on a job: the program whose text a file holds, its input and the
-/// job's number. The faults come in this order: the text's file, the text (E2 to E6), its kinds (E10 to E18), the count of
+/// Replays the script of a file, which may have any length, on a job, while somebody looks on: the program whose text a file holds, its
+/// input and the job's number. The faults come in this order: the text's file, the text (E2 to E6), its kinds (E10 to E18), the count of
 /// inputs (E21), the script's file, the first line of it that isn't an event's, and a run that finds no memory (E9). E9 may come
 /// in the place of any of these.
-pub fn replay_files<R: Files + AllocGlobal>(
+pub fn replay_files<R: Files + AllocGlobal, W: Watch>(
     rt: &R,
     file: &str,
     script: &str,
     input: Vec<i64>,
     job: u64,
+    watch: &mut W,
 ) -> Result<Replayed, ReplayFault>
     ensures run { IfOk result (IsFilesReplay input.items job) }
     ensures refused { IfErr result (IsFilesRefusal input.items) }
@@ -23,5 +28,34 @@ pub fn replay_files<R: Files + AllocGlobal>(
     let text = text_bytes(rt, file)?;
     let job = job_of(rt.alloc(), text.as_slice(), input, job)?;
     let script = bytes_within(rt, script, u64::MAX)?;
-    replay_script(rt.alloc(), &job, script.as_slice())
+    replay_script(rt.alloc(), &job, script.as_slice(), watch)
+}
+
+/// Replays the files that words name. Where the words ask for that, each event is told on `out`, a line each (`event_words`); what comes of
+/// the replay is the same. The faults are those of `replay_files`, and behind them a line that can't be written, or for which there is
+/// no memory (E9); the lines before it stay. Nothing is written where the script isn't read to its end.
+pub fn replay_words<R: Files + AllocGlobal, O: Write>(
+    rt: &R,
+    words: ReplayWords<'_>,
+    out: &mut O,
+) -> Result<Replayed, ReplayFault>
+    ensures run { IfOk result (IsFilesReplay words.entry.input.items words.entry.job) }
+    ensures refused { IfErr result (IsFilesRefusal words.entry.input.items) }
+{
+    let ReplayWords {
+        file,
+        script,
+        job,
+        input,
+        packets,
+    } = words;
+    if !packets {
+        return replay_files(rt, file, script, input, job, &mut Unwatched);
+    }
+    let mut narrator = Narrator::new(out);
+    let replayed = replay_files(rt, file, script, input, job, &mut narrator);
+    let told = narrator.finish();
+    let replayed = replayed?;
+    told?;
+    Ok(replayed)
 }

@@ -7,9 +7,9 @@ mod replayed;
 mod words;
 
 pub use fault::ReplayFault;
-pub use files::replay_files;
+pub use files::{replay_files, replay_words};
 pub use replayed::{Replayed, replay_script, write_replayed};
 pub use words::{
     ReplayWords, WordsFault, explain_word, file_word, help_of, input_of, input_word, number_word,
-    own_words, replay_words_of, with_replay_words,
+    own_words, packets_word, replay_words_of, with_replay_words,
 };

@@ -5,7 +5,7 @@ use crate::fault::ReplayFault;
 use serial_meaning::{Job, Outcome};
 use std::alloc::Global;
 use std::io::{self, Write};
-use world::replay;
+use world::{Watch, replay_watched};
 
 /// What a run came to: how many events were carried out, how many packets were sent, how many values were put into slots, and
 /// the outcome that an open clearinghouse has recorded.
@@ -17,13 +17,18 @@ pub struct Replayed {
     pub outcome: Option<Outcome>,
 }
 
-/// Replays a script on a job, from its first world on. Refused by the first line that isn't an event's, before any event, and
-/// where an event or the first world finds no memory (E9).
-pub fn replay_script(alloc: Global, job: &Job, script: &[u8]) -> Result<Replayed, ReplayFault>
+/// Replays a script on a job, from its first world on, while somebody looks on. Refused by the first line that isn't an event's, before
+/// any event, and where an event or the first world finds no memory (E9). What comes of it is the same, whoever looks on.
+pub fn replay_script<W: Watch>(
+    alloc: Global,
+    job: &Job,
+    script: &[u8],
+    watch: &mut W,
+) -> Result<Replayed, ReplayFault>
     ensures run { IfOk result (λ r. IsReplayOf job.now script.now r) }
     ensures refused { IfErr result (IsScriptRefusal script.now) }
 {
-    let end = replay(alloc, job, script)?;
+    let end = replay_watched(alloc, job, script, watch)?;
     if end.stopped.is_some() {
         return Err(ReplayFault::Memory);
     }

@@ -7,13 +7,15 @@ use std::rt::Env;
 use std::{env, io};
 use thiserror::Error as ErrorText;
 
-/// What the words of a replay ask for: the files of the program's text and of the script, the job's number and its input.
+/// What the words of a replay ask for: the files of the program's text and of the script, the job's number and its input, and whether
+/// each event is to be told.
 #[derive(Drop)]
 pub struct ReplayWords<'a> {
     pub file: &'a str,
     pub script: &'a str,
     pub job: u64,
     pub input: Vec<i64>,
+    pub packets: bool,
 }
 
 /// Why words ask for no answer.
@@ -71,6 +73,14 @@ pub fn number_word<'a>(alloc: Global, name: &'a str, usual: &'a str, help: &'a s
         .help(help)
 }
 
+/// The option that asks for a line for each event of a replay.
+pub fn packets_word<'a>(alloc: Global) -> Arg<'a> {
+    Arg::new(alloc, "packets")
+        .long("packets")
+        .action(ArgAction::SetTrue)
+        .help("Tells each event, a line each: what it sends, and which slots it fills")
+}
+
 /// The words INPUT, the numbers of a job's input.
 pub fn input_word<'a>(alloc: Global) -> Arg<'a> {
     Arg::new(alloc, "INPUT")
@@ -113,10 +123,11 @@ pub fn with_replay_words<'a>(
         .arg(input_word(alloc))
 }
 
-/// The words of a replay; none where they don't have what `with_replay_words` asks for.
+/// The words of a replay, in which each event may be to be told; none where they don't have what `with_replay_words` asks for.
 pub fn replay_words_of<'a>(
     alloc: Global,
     matches: &ArgMatches<'a>,
+    packets: bool,
 ) -> Result<Option<ReplayWords<'a>>, AllocError> {
     let Some(input) = input_of(alloc, matches)? else {
         return Ok(None);
@@ -133,5 +144,6 @@ pub fn replay_words_of<'a>(
         script,
         job,
         input,
+        packets,
     }))
 }

@@ -73,6 +73,8 @@ impl Gate for Holding {
     fn may_go(&self, body: u64) -> bool {
         body != HELD || self.goes.load(SeqCst) == 1
     }
+
+    fn passed(&self, _events: u64, _packets: u64) {}
 }
 
 /// Runs a Fibonacci number on so many nodes with so many body workers each, under the gate. The script of the run, and behind it how many

@@ -23,10 +23,10 @@
 //!
 //! **Shown by tests alone**: that `new` succeeds while there is memory; that a try finds the value where it is in the lock, and
 //! else the actor that has it; that `take` comes to an end. For the last there is also an argument. A thread sleeps only while
-//! the word has the number that it saw there, of a holder that is still to put the value back, and each `put` frees the word
-//! and then wakes one sleeper. This one takes the value, and wakes the next when it puts it back, or sleeps behind another
-//! holder, which will. So no sleeper is left behind as long as each holder puts the value back. Nothing is promised of the order
-//! in which threads get it, nor that each does.
+//! the word has the number that it saw there, of a holder that is still to put the value back. It says that it waits before it
+//! looks at the word, and each `put` frees the word, looks then whether anybody waits, and wakes one sleeper if so. This one takes
+//! the value, and wakes the next when it puts it back, or sleeps behind another holder, which will. So no sleeper is left behind as
+//! long as each holder puts the value back. Nothing is promised of the order in which threads get it, nor that each does.
 #![tactic(auto)]
 
 mod gathering;

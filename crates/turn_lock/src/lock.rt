@@ -10,8 +10,14 @@ use crate::law::{Came, Deal, Law, PutBack, SeatView, Terms, Took};
 use crate::seat::LockSeat;
 use atomic_table::{Seat, Table};
 use std::alloc::{AllocError, Global};
+use std::hint::spin_loop;
 use std::marker::Model;
 use std::sync::Wait;
+use std::sync::atomic::AtomicU64;
+use std::sync::atomic::Ordering::SeqCst;
+
+/// How often a thread looks for the value until it sleeps: for about as long as going to sleep and being woken takes.
+const SPINS: u64 = 200;
 
 type Slots<T> = Table<
     Option<T>,
@@ -27,6 +33,8 @@ type Slots<T> = Table<
 pub struct TurnLock<T: KeepsHistory + Drop> {
     pub(crate) table: Slots<T>,
     actors: usize,
+    // How many threads sleep until the value is there, or are about to.
+    waiting: AtomicU64,
 }
 
 impl<T: KeepsHistory + Drop> Model for TurnLock<T> {
@@ -66,7 +74,15 @@ impl<T: KeepsHistory + Drop> TurnLock<T> {
         for _ in 0..actors {
             dealt.push(deal(&table, &mut all, dealt.len() as u64))?;
         }
-        Ok((TurnLock { table, actors }, dealt))
+        let waiting = AtomicU64::new(0);
+        Ok((
+            TurnLock {
+                table,
+                actors,
+                waiting,
+            },
+            dealt,
+        ))
     }
 
     /// Takes the value out without waiting, if it is in the lock. Its history has of the seat's actor just the seat's entries.
@@ -93,17 +109,18 @@ impl<T: KeepsHistory + Drop> TurnLock<T> {
         ensures own { own T.actor_of seat.old.actor (T.history result) ≡ seat.old.entries }
         ensures fixed { T.fixed result ≡ self.now.fixed }
     {
-        for _ in rt.forever() {
-            match self.attempt(seat) {
-                Ok(kept) => return kept,
-                Err(word) => self.table.shared.park(rt, 0, word as u32),
-            }
+        if let Ok(kept) = self.attempt(seat) {
+            return kept;
         }
-        unreachable!()
+        self.spin();
+        let _ = self.waiting.fetch_add(1, SeqCst);
+        let kept = self.sleep(rt, seat);
+        let _ = self.waiting.fetch_sub(1, SeqCst);
+        kept
     }
 
-    /// Puts the value back, for which the seat has to have taken it out, and wakes one thread that waits for it. Its history has to
-    /// be the one that it had then, and after that more entries of the seat's actor, or none; what stays the same is to be as the
+    /// Puts the value back, for which the seat has to have taken it out, and wakes one thread that sleeps until it is there, if one does.
+    /// Its history has to be the one that it had then, and after that more entries of the seat's actor, or none; what stays the same is to be as the
     /// lock has it. Then the seat's entries are those that the history has of its actor.
     pub fn put(&self, seat: &mut LockSeat<T>, kept: T)
         requires seat { IsSeatOf self.now seat.old }
@@ -113,7 +130,9 @@ impl<T: KeepsHistory + Drop> TurnLock<T> {
     {
         let _ = self.table.shared.exchange(&mut seat.seat, 0, Some(kept));
         self.table.shared.store::<PutBack>(&mut seat.seat, 0, 0);
-        self.table.shared.wake_one(0);
+        if self.waiting.load(SeqCst) > 0 {
+            self.table.shared.wake_one(0);
+        }
     }
 
     /// How many actors have a seat.
@@ -140,7 +159,11 @@ impl<T: KeepsHistory + Drop> TurnLock<T> {
         ensures told { Tells T.actor_of all.claims (T.history result) }
         ensures fixed { T.fixed result ≡ self.fixed }
     {
-        let TurnLock { table, actors: _ } = self;
+        let TurnLock {
+            table,
+            actors: _,
+            waiting: _,
+        } = self;
         let Gathering { all } = all;
         let mut closed = table.close_with(all);
         let Some(kept) = closed.take(0) else {
@@ -148,6 +171,32 @@ impl<T: KeepsHistory + Drop> TurnLock<T> {
         };
         closed.free();
         kept
+    }
+
+    // Stays awake for a while, as long as the value is out.
+    fn spin(&self) {
+        for _ in 0..SPINS {
+            if self.table.shared.peek(0) == 0 {
+                return;
+            }
+            spin_loop();
+        }
+    }
+
+    // Takes the value out, and sleeps until it is in the lock.
+    fn sleep<R: Wait>(&self, rt: &R, seat: &mut LockSeat<T>) -> T
+        requires seat { IsFreeSeatOf self.now seat.old }
+        ensures taken { seat.new ≡ record seat.old { taken = Some (T.history result) } }
+        ensures own { own T.actor_of seat.old.actor (T.history result) ≡ seat.old.entries }
+        ensures fixed { T.fixed result ≡ self.now.fixed }
+    {
+        for _ in rt.forever() {
+            match self.attempt(seat) {
+                Ok(kept) => return kept,
+                Err(word) => self.table.shared.park(rt, 0, word as u32),
+            }
+        }
+        unreachable!()
     }
 
     // Takes the value out, if it is in the lock; else answers the word, which is the number of the actor that has it, from 1 on.

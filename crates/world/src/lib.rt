@@ -7,7 +7,9 @@
 #![tactic(auto)]
 
 mod runs;
+mod watch;
 
 pub use event_script::line;
-pub use runs::{ReplayError, RunEnd, replay, run};
+pub use runs::{ReplayError, RunEnd, replay, replay_watched, run};
+pub use watch::{Both, Unwatched, Watch};
 pub use world_steps::{NoMemory, Told, World};

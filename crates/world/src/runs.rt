@@ -12,6 +12,7 @@ ghost use Rattle.world_steps.specs.declared.parts.NoMemory.{NoMemory as NoMemory
 ghost use Rattle.world.specs.Runs.{IsReplay, IsRun, IsRunTo, StopsIn, StopsReading};
 ghost use Rattle.world.specs.declared.runs.ReplayError.TheVariants as replay_error;
 
+use crate::watch::{Unwatched, Watch};
 use event_script::{Event, Line, Script};
 use serial_meaning::Job;
 use std::alloc::Global;
@@ -59,8 +60,23 @@ pub fn replay<'a>(alloc: Global, job: &'a Job, text: &[u8]) -> Result<RunEnd<'a>
     ensures line { (l : _) → result ≡ Err (replay_error.Line l) → script text.now ≡ Err l }
     ensures memory { result ≡ Err replay_error.Memory → (events : List EventOf) × (script text.now ≡ Ok events) }
 {
+    replay_watched(alloc, job, text, &mut Unwatched)
+}
+
+/// Replays a script as `replay` does, while somebody looks on. What comes of it is the same, whoever that is.
+pub fn replay_watched<'a, W: Watch>(
+    alloc: Global,
+    job: &'a Job,
+    text: &[u8],
+    watch: &mut W,
+) -> Result<RunEnd<'a>, ReplayError>
+    ensures job { IfOk result (λ r. r.world.job ≡ job.now) }
+    ensures run { IfOk result (λ r. (events : List EventOf) × (script text.now ≡ Ok events) × IsReplay job.now events r.done r.stopped r.world) }
+    ensures line { (l : _) → result ≡ Err (replay_error.Line l) → script text.now ≡ Err l }
+    ensures memory { result ≡ Err replay_error.Memory → (events : List EventOf) × (script text.now ≡ Ok events) }
+{
     let _checked = job.checked();
-    script_carried_out(alloc, job, text)
+    script_carried_out(alloc, job, text, watch)
 }
 
 /// Events are carried out one after another.
@@ -70,7 +86,7 @@ fn carried_out<'a>(alloc: Global, job: &'a Job, events: &[Event]) -> Result<RunE
 {
     let mut run = begun(alloc, job)?;
     for event in events {
-        if !run.carry_on(alloc, event) {
+        if !run.carry_on(alloc, event, &mut Unwatched) {
             return Ok(run);
         }
     }
@@ -78,10 +94,11 @@ fn carried_out<'a>(alloc: Global, job: &'a Job, events: &[Event]) -> Result<RunE
 }
 
 /// The events of a script are carried out one after another.
-fn script_carried_out<'a>(
+fn script_carried_out<'a, W: Watch>(
     alloc: Global,
     job: &'a Job,
     text: &[u8],
+    watch: &mut W,
 ) -> Result<RunEnd<'a>, ReplayError>
     ensures job { IfOk result (λ r. r.world.job ≡ job.now) }
     ensures run { IfOk result (λ r. (events : List EventOf) × (script text.now ≡ Ok events) × IsRunTo (StopsReading job.now) job.now events r.done r.stopped r.world) }
@@ -98,7 +115,7 @@ fn script_carried_out<'a>(
     loop {
         match script.next(alloc) {
             Ok(Some(event)) => {
-                if !run.carry_on(alloc, &event) {
+                if !run.carry_on(alloc, &event, watch) {
                     return Ok(run);
                 }
             }
@@ -125,16 +142,17 @@ fn begun<'a>(alloc: Global, job: &'a Job) -> Result<RunEnd<'a>, NoMemory>
 }
 
 impl<'a> RunEnd<'a> {
-    /// An event is carried out; whether it found memory.
-    fn carry_on(&mut self, alloc: Global, event: &Event) -> bool
+    /// An event is carried out, and whoever looks on sees it; whether it found memory.
+    fn carry_on<W: Watch>(&mut self, alloc: Global, event: &Event, watch: &mut W) -> bool
         requires { self.old.done + 1 < 2 ^ 64 }
         ensures job { self.new.world.job ≡ self.old.world.job }
         ensures carried { result ≡ true → (o : Outturn) × StepOf self.old.world.job event.now self.old.world.world o × (self.new.world.world ≡ o.world) × (self.new.done ≡ self.old.done + 1) × (self.new.stopped ≡ self.old.stopped) }
         ensures starved { result ≡ false → (o : Outturn) × IsStarved event.now self.old.world self.new.world.is_placed o × (self.new.world.world ≡ o.world) × (self.new.done ≡ self.old.done) × (lacks : NoMemoryOf) × (self.new.stopped ≡ Some lacks) }
     {
         match self.world.step(alloc, event, None) {
-            Ok(_) => {
+            Ok(told) => {
                 self.done += 1;
+                watch.sees(alloc, event, told, &self.world);
                 true
             }
             Err(lacks) => {

@@ -4,7 +4,7 @@ use Rattle.std.proofs.lemmas.Option.{slice_get_read}
 use Rattle.ids.specs.Named.{put_in}
 use Rattle.node_core.specs.Meeting.{NodeOn}
 use Rattle.serial_meaning.specs.Job.{JobOf}
-use Rattle.world_steps.specs.Places.{AreOf, ups}
+use Rattle.world_steps.specs.Places.{AreOf, node_there, ups}
 use Rattle.world_steps.specs.World.{WorldOf, name_of_word, node_in, put_node, with_used, without_node}
 use Rattle.world_steps.proofs.Placed.{are_of_at, are_of_set, length_set, node_at, node_of, put_at, set_same, set_twice, taken_at}
 
@@ -36,6 +36,14 @@ reads places a b p many within same is = ap (slice_get places) (sym same) ∙ sl
 -- the node that is read is the one that is up
 pub node_up : (places : List (Option NodeOn)) (a b : ℕ) (n : NodeOn) → length places ≡ 64 → a < 64 → b ≡ a → Some n ≡ slice_index_or places b (Some n) → node_in a (ups places) ≡ Some n.node
 node_up places a b n many within same is = node_at places a ∙ ap node_of (reads places a b (Some n) many within same is)
+
+-- and so is what is seen of it
+pub seen_at : (places : List (Option NodeOn)) (a b : ℕ) (p : Option NodeOn) → length places ≡ 64 → a < 64 → b ≡ a → p ≡ slice_index_or places b p → node_there p ≡ node_in a (ups places)
+seen_at places a b p many within same is = by p ∙ sym (node_at places a ∙ ap node_of (reads places a b p many within same is))
+  where
+    by : (p : Option NodeOn) → node_there p ≡ node_of (Some p)
+    by None = refl
+    by (Some n) = refl
 
 -- where none is read, none is up
 pub none_up_at : (places : List (Option NodeOn)) (a b : ℕ) → length places ≡ 64 → a < 64 → b ≡ a → None ≡ slice_index_or places b None → node_in a (ups places) ≡ None

@@ -3,6 +3,7 @@ use Rattle.std.specs.Prelude.{◌≡◌, ℕ, suc, List, [], ◌∷◌, length, 
 use Rattle.std.specs.List.{AllByRecursion}
 use Rattle.serial_meaning.specs.Job.{JobOf}
 use Rattle.node_core.specs.Meeting.{NodeOn}
+use Rattle.node_state.specs.Node.{NodeOf}
 use Rattle.world_steps.specs.World.{Up}
 
 -- the nodes that are up, from a place on
@@ -13,6 +14,11 @@ ups_from a (Some n ∷ rest) = record { at = a; node = n.node } ∷ ups_from (su
 
 abbrev pub ups : List (Option NodeOn) → List Up
 ups places = ups_from 0 places
+
+-- what a world has at a place where this one is seen
+abbrev pub node_there : Option NodeOn → Option NodeOf
+node_there None = None
+node_there (Some n) = Some n.node
 
 -- all are nodes of the job
 abbrev pub AreOf : JobOf → List (Option NodeOn) → Type 0

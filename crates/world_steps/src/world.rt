@@ -8,6 +8,7 @@ ghost use Rattle.node_core.specs.declared.error.NodeError.TheVariants.{Memory};
 ghost use Rattle.node_state.specs.Node.{NodeOf};
 ghost use Rattle.world_steps.specs.Calls.{Came, IsOfJob, IsStarved, delivered_in, is_there, told_of};
 ghost use Rattle.world_steps.specs.Nodes.{can_start};
+ghost use Rattle.world_steps.specs.Places.{node_there};
 ghost use Rattle.world_steps.specs.Seats.{IsFound};
 ghost use Rattle.world_steps.specs.Runs.{IsFormattedFor};
 ghost use Rattle.world_steps.specs.Steps.{Step as StepOf};
@@ -80,6 +81,13 @@ impl<'a> World<'a> {
         })
     }
 
+    /// The job.
+    pub fn job(&self) -> &'a Job
+        ensures { result.now ≡ self.now.job }
+    {
+        self.job
+    }
+
     /// How many packets were sent.
     pub fn packets(&self) -> usize
         ensures { result ≡ length self.now.world.net }
@@ -124,6 +132,13 @@ impl<'a> World<'a> {
             Ok(work) => Ok(work),
             Err(_) => Err(NoMemory),
         }
+    }
+
+    /// The node that is up at a place.
+    pub fn node(&self, place: NodePlace) -> Option<&Node<'a>>
+        ensures { node_there (option_copied result) ≡ node_in place self.now.world.nodes }
+    {
+        self.nodes[usize::from(place.index())].as_ref()
     }
 
     /// The outcome that an open clearinghouse has recorded.

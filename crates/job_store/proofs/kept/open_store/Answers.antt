@@ -1,6 +1,7 @@
 use Rattle.std.proofs.Common.{ap, vec_len}
 use Rattle.disk.specs.Device.{Device}
 use Rattle.disk.specs.File.{bytes_of}
+use Rattle.job_store.proofs.Failing.{failed_found}
 use Rattle.job_store.proofs.Opening.{found_keeps, found_made, none_first, opened_found, refused_found}
 use Rattle.job_store.proofs.kept.open_store.Goals as goal
 
@@ -21,3 +22,8 @@ pub returns-in-Ok-2-clause-unchanged : goal.returns-in-Ok-2-clause-unchanged
 returns-in-Ok-2-clause-unchanged g c =
     let same = ap (λ (x : Device). x.file) c.in-Ok-2.ensures.ok in
     refused_found g.D.Disk.device (g.D.Disk.device c.args.disk) (g.D.Disk.device c.read.new.self) (g.D.Disk.planned c.read.new.self) c.args.job c.open.result same c.open.ensures.refused
+
+pub returns-in-Ok-2-clause-failed : goal.returns-in-Ok-2-clause-failed
+returns-in-Ok-2-clause-failed g c =
+    let same = ap (λ (x : Device). x.failures) c.in-Ok-2.ensures.ok in
+    failed_found g.D.Disk.device (g.D.Disk.device c.args.disk) (g.D.Disk.device c.read.new.self) (g.D.Disk.planned c.read.new.self) c.open.result same c.open.ensures.stopped

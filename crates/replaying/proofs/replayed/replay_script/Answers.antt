@@ -17,7 +17,7 @@ whole job events done stopped v none replay =
     record { run = record { disk = r.run.disk; formatted = r.run.formatted; entries = r.run.entries; worlds = r.run.worlds; runs = r.run.runs; carried = r.run.carried; ends = r.run.ends }; safe = r.safe; last = r.last; openings = r.openings }
 
 pub returns-clause-run : goal.returns-clause-run
-returns-clause-run c =
+returns-clause-run g c =
     let run = c.in_ok-end.ensures.run in
     record {
       events = run.0;

@@ -3,20 +3,20 @@ use Rattle.world.proofs.Running.{bytes_starved, cut_left, first_under_way, get_l
 use Rattle.world.proofs.runs.script_carried_out.Goals as goal
 
 pub loop-event-init : goal.loop-event-init
-loop-event-init c =
+loop-event-init g c =
     let begun = c.in-Ok-begun.ensures in
     let first = begun.first in
     (begun.job, begun.none.1, [], c.in-Ok.ensures.events, sym begun.none.0, first_under_way c.args.job.now first.0 c.in-Ok-begun.run'.world.world first.1 first.2)
 
 pub carry_on-requires : goal.carry_on-requires
-carry_on-requires c =
+carry_on-requires g c =
     let at = c.loop-event.invariant in
     let next = rw c.in-Ok-Some.field-0-is at c.in-Ok-Some.ensures.next in
     let room = room_left c.args.text.now at.2 c.loop-event.script c.next.new.self c.in-Ok-Some.event c.loop-event.run.done at.3 next at.4 in
     omega (arith, room)
 
 pub returns-then-not-carry_on-clause-run : goal.returns-then-not-carry_on-clause-run
-returns-then-not-carry_on-clause-run c =
+returns-then-not-carry_on-clause-run g c =
     let at = c.loop-event.invariant in
     let next = rw c.in-Ok-Some.field-0-is at c.in-Ok-Some.ensures.next in
     let s = c.if-not-carry_on.ensures.starved refl in
@@ -29,7 +29,7 @@ returns-then-not-carry_on-clause-run c =
     )
 
 pub loop-event-preserved-else-not-carry_on : goal.loop-event-preserved-else-not-carry_on
-loop-event-preserved-else-not-carry_on c =
+loop-event-preserved-else-not-carry_on g c =
     let at = c.loop-event.invariant in
     let next = rw c.in-Ok-Some.field-0-is at c.in-Ok-Some.ensures.next in
     let s = c.if-not-carry_on.ensures.carried refl in
@@ -37,7 +37,7 @@ loop-event-preserved-else-not-carry_on c =
     (c.carry_on.ensures.job ∙ at.0, s.4 ∙ at.1, on.0, on.1, on.2, on.3)
 
 pub loop-event-preserved : goal.loop-event-preserved
-loop-event-preserved c =
+loop-event-preserved g c =
     let at = c.loop-event.invariant in
     let next = rw c.in-Ok-Some.field-0-is at c.in-Ok-Some.ensures.next in
     let s = c.if-not-carry_on.ensures.carried refl in
@@ -45,7 +45,7 @@ loop-event-preserved c =
     (c.carry_on.ensures.job ∙ at.0, s.4 ∙ at.1, on.0, on.1, on.2, on.3)
 
 pub returns-in-Err-next-clause-run : goal.returns-in-Err-next-clause-run
-returns-in-Err-next-clause-run c =
+returns-in-Err-next-clause-run g c =
     let at = c.loop-event.invariant in
     let events = at.2 ++ c.loop-event.script in
     let left = cut_left c.loop-event.script c.in-Err-next.ensures.cut in

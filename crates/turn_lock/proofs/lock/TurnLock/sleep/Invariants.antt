@@ -1,5 +1,5 @@
 use Rattle.std.proofs.Common.{◌≡◌}
-use Rattle.turn_lock.proofs.lock.TurnLock.take.Given as goal
+use Rattle.turn_lock.proofs.lock.TurnLock.sleep.Given as goal
 
 abbrev pub invariant-loop : goal.invariant-loop
 invariant-loop g l =

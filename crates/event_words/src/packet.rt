@@ -1,0 +1,155 @@
+//! The words of a packet.
+
+use crate::names::{AddressName, GrantName, OutcomeWords, PlaceName, ProgressWords, StatusWords};
+use codec::{Body, Grant, Offer, Packet, Roster};
+use ids::{GrantId, Incarnation, Task};
+use std::io::{self, Write};
+use task_tree::Program;
+
+/// So many members of a roster are listed at most; of the others the count is told.
+const MOST_LISTED: usize = 8;
+
+/// Writes the words of a packet: its kind, the grant that it speaks of, the worker that it says to be from, whom it goes to, and what else
+/// it says, as `Grant 3/1 to 5: request 1, main(0) at place 2, level 1`. A thread has its name in the program, or its number where the
+/// program has no such thread. No line's end is written.
+pub fn write_packet<O: Write>(out: &mut O, program: &Program, packet: &Packet) -> io::Result<()> {
+    let body = packet.body();
+    write!(out, "{}", kind_of(body))?;
+    if let Some(grant) = grant_of(body) {
+        write!(out, " {}", GrantName(grant))?;
+    }
+    if let Some(from) = sender_of(body) {
+        write!(out, " from {}", from.word())?;
+    }
+    write!(out, " to {}", AddressName(packet.to()))?;
+    write_fields(out, program, body)
+}
+
+/// What its kind is called.
+fn kind_of(body: &Body) -> &'static str {
+    match body {
+        Body::Join(_) => "Join",
+        Body::Roster(_) => "Roster",
+        Body::Steal(_) => "Steal",
+        Body::Grant(_) => "Grant",
+        Body::Refuse(_) => "Refuse",
+        Body::Result(_) => "Result",
+        Body::ResultAck(_) => "ResultAck",
+        Body::Offer(_) => "Offer",
+        Body::OfferAck(_) => "OfferAck",
+        Body::Leave(_) => "Leave",
+        Body::Abort(_) => "Abort",
+        Body::Beat(_) => "Beat",
+    }
+}
+
+/// The grant that it speaks of.
+fn grant_of(body: &Body) -> Option<GrantId> {
+    match body {
+        Body::Grant(grant) => Some(grant.grant),
+        Body::Result(result) => Some(result.grant),
+        Body::ResultAck(ack) => Some(ack.grant),
+        Body::Offer(offer) => Some(offer.grant),
+        Body::OfferAck(ack) => Some(ack.grant),
+        Body::Abort(abort) => Some(abort.grant),
+        Body::Join(_)
+        | Body::Roster(_)
+        | Body::Steal(_)
+        | Body::Refuse(_)
+        | Body::Leave(_)
+        | Body::Beat(_) => None,
+    }
+}
+
+/// The worker that it says to be from.
+fn sender_of(body: &Body) -> Option<Incarnation> {
+    match body {
+        Body::Join(join) => Some(join.from),
+        Body::Steal(steal) => Some(steal.from),
+        Body::Result(result) => Some(result.from),
+        Body::Offer(offer) => Some(offer.from),
+        Body::OfferAck(ack) => Some(ack.from),
+        Body::Leave(leave) => Some(leave.from),
+        Body::Beat(beat) => Some(beat.from),
+        Body::Roster(_) | Body::Grant(_) | Body::Refuse(_) | Body::ResultAck(_) | Body::Abort(_) =>
+            None,
+    }
+}
+
+/// Writes what else it says, behind a colon; nothing where that is all.
+fn write_fields<O: Write>(out: &mut O, program: &Program, body: &Body) -> io::Result<()> {
+    match body {
+        Body::Join(_) | Body::ResultAck(_) | Body::Abort(_) => Ok(()),
+        Body::Roster(roster) => write_roster(out, roster),
+        Body::Steal(steal) => write!(out, ": request {}", steal.seq.number()),
+        Body::Grant(grant) => write_grant(out, program, grant),
+        Body::Refuse(refuse) => write!(out, ": request {}", refuse.seq.number()),
+        Body::Result(result) => write!(out, ": {}", OutcomeWords(result.outcome)),
+        Body::Offer(offer) => write_offer(out, offer),
+        Body::OfferAck(ack) => write!(out, ": hop {}", ack.hop.count()),
+        Body::Leave(leave) => write!(out, ": heir {}", leave.heir.word()),
+        Body::Beat(beat) => write!(out, ": roster version {}", beat.version.number()),
+    }
+}
+
+/// Writes the epoch and the version of a roster, and its first members.
+fn write_roster<O: Write>(out: &mut O, roster: &Roster) -> io::Result<()> {
+    let members = roster.members.as_slice();
+    write!(
+        out,
+        ": epoch {}, version {} (",
+        roster.epoch.number(),
+        roster.version.number()
+    )?;
+    if members.is_empty() {
+        write!(out, "nobody")?;
+    }
+    for (index, member) in members.iter().take(MOST_LISTED).enumerate() {
+        let sign = if index == 0 { "" } else { ", " };
+        let status = StatusWords(member.status);
+        write!(out, "{sign}{} {status}", member.incarnation.word())?;
+    }
+    let more = members.len().saturating_sub(MOST_LISTED);
+    if more > 0 {
+        write!(out, ", and {more} more")?;
+    }
+    write!(out, ")")
+}
+
+/// Writes the request that a grant answers, and its task.
+fn write_grant<O: Write>(out: &mut O, program: &Program, grant: &Grant) -> io::Result<()> {
+    write!(out, ": request {}, ", grant.seq.number())?;
+    write_task(out, program, &grant.task)
+}
+
+/// Writes the thread of a task on its numbers, and where it stands.
+fn write_task<O: Write>(out: &mut O, program: &Program, task: &Task) -> io::Result<()> {
+    match program.threads.get(usize::from(task.thread)) {
+        Some(thread) => out.write_all(thread.name.text.as_slice())?,
+        None => write!(out, "thread {}", task.thread)?,
+    }
+    write!(out, "(")?;
+    for (index, number) in task.numbers.as_slice().iter().enumerate() {
+        let sign = if index == 0 { "" } else { ", " };
+        write!(out, "{sign}{number}")?;
+    }
+    write!(out, ") at {}", PlaceName(&task.place))
+}
+
+/// Writes how often an offered subcomputation has moved, how far it is, and how many frames and records it has.
+fn write_offer<O: Write>(out: &mut O, offer: &Offer) -> io::Result<()> {
+    let (frames, records) = (offer.frames.len(), offer.records.len());
+    write!(
+        out,
+        ": hop {}, {}, {frames} frame{}, {records} record{}",
+        offer.hop.count(),
+        ProgressWords(offer.progress),
+        plural_of(frames),
+        plural_of(records)
+    )
+}
+
+/// The ending of a word for so many.
+fn plural_of(count: usize) -> &'static str {
+    if count == 1 { "" } else { "s" }
+}

@@ -1,0 +1,45 @@
+-- What failed where the device refuses.
+use Rattle.std.proofs.Common.{◌≡◌, ◌⊎◌, ℕ, suc, Bool, true, false, List, [], ◌∷◌, Option, Result, Ok, Err, IfErr, inl, inr, refl}
+use Rattle.disk.specs.Device.{Device, passed}
+use Rattle.checkpoint.specs.Calls.{Call, Stopped, after, changed}
+use Rattle.checkpoint.specs.Commit.{opening}
+use Rattle.checkpoint.specs.Store.{Opened}
+use Rattle.checkpoint.specs.declared.record.StoreError.{StoreError}
+use Rattle.checkpoint.specs.declared.record.StoreError.TheVariants.{Device as DeviceError}
+use Rattle.job_store.specs.Kept.{HasFailed}
+
+-- calls that pass count no failure
+pub after_failures : (calls : List Call) (d : Device) → (after d calls).failures ≡ d.failures
+unfolding after
+after_failures [] d = refl
+after_failures (call ∷ calls) d = after_failures calls (passed d (changed d.file call))
+
+-- one of several calls failed
+pub stopped_failed : (calls : List Call) (plan : ℕ → Option (List ℕ)) (old new : Device) → Stopped calls plan old new → HasFailed old new
+unfolding Stopped
+stopped_failed [] plan old new never = absurd never
+stopped_failed (call ∷ calls) plan old new stopped = elim stopped [
+  | inl fails ↦ fails.failed.counted
+  | inr later ↦ stopped_failed calls (λ i. plan (suc i)) (passed old (changed old.file call)) new later.1
+]
+
+-- it is the same seen from before a call that passed
+pub failed_behind : (old mid new : Device) → mid.failures ≡ old.failures → HasFailed mid new → HasFailed old new
+failed_behind old mid new same failed = rw same at failed
+
+-- a commit is refused: the store had ended, or one of its calls failed
+pub failed_commit : (ended : Bool) (plan : ℕ → Option (List ℕ)) (old new : Device) (Is : List Call → Type 0) → (ended ≡ false → (calls : List Call) × Is calls × Stopped calls plan old new) → (ended ≡ true) ⊎ HasFailed old new
+failed_commit true plan old new Is stopped = inl refl
+failed_commit false plan old new Is stopped = let s = stopped refl in inr (stopped_failed s.0 plan old new s.2)
+
+-- a store that was made isn't opened
+pub failed_made : {D : Type 0} (device : D → Device) (old mid : Device) (plan : ℕ → Option (List ℕ)) (r : Result (Opened D) (StoreError × D)) → mid.failures ≡ old.failures →
+    IfErr r (λ e. e.0 ≡ DeviceError) → IfErr r (λ e. e.0 ≡ DeviceError → Stopped opening plan mid (device e.1)) → IfErr r (λ e. HasFailed old (device e.1))
+failed_made device old mid plan (Ok s) same refused stopped = tt
+failed_made device old mid plan (Err e) same refused stopped = failed_behind old mid (device e.1) same (stopped_failed opening plan mid (device e.1) (stopped refused))
+
+-- a store that was there isn't opened
+pub failed_found : {D : Type 0} (device : D → Device) (old mid : Device) (plan : ℕ → Option (List ℕ)) (r : Result (Opened D) (StoreError × D)) → mid.failures ≡ old.failures →
+    IfErr r (λ e. e.0 ≡ DeviceError → Stopped opening plan mid (device e.1)) → IfErr r (λ e. e.0 ≡ DeviceError → HasFailed old (device e.1))
+failed_found device old mid plan (Ok s) same stopped = tt
+failed_found device old mid plan (Err e) same stopped = λ is. failed_behind old mid (device e.1) same (stopped_failed opening plan mid (device e.1) (stopped is))

@@ -1,0 +1,142 @@
+//! Sleeping until there is something to do: the body workers of a node until it offers a ticket, and the node until a turn comes back.
+
+use std::sync::Wait;
+use std::sync::atomic::AtomicU64;
+use std::sync::atomic::Ordering::SeqCst;
+use std::time::Duration;
+
+/// How long a body worker sleeps at most, in microseconds. It is woken where there is something for it.
+const LONG: u64 = 10_000;
+
+/// By which threads sleep until another one has something for them.
+#[derive(Drop)]
+struct Bell {
+    /// How often it was rung.
+    rung: AtomicU64,
+    /// How many sleep, or are about to.
+    asleep: AtomicU64,
+}
+
+impl Bell {
+    fn new() -> Bell {
+        Bell {
+            rung: AtomicU64::new(0),
+            asleep: AtomicU64::new(0),
+        }
+    }
+
+    fn rung(&self) -> u64 {
+        self.rung.load(SeqCst)
+    }
+
+    fn asleep(&self) -> u64 {
+        self.asleep.load(SeqCst)
+    }
+
+    /// It is rung, and wakes nobody by itself.
+    fn rings(&self) {
+        let _ = self.rung.fetch_add(1, SeqCst);
+    }
+
+    /// Sleeps for at most so many microseconds, unless it was rung since it had been rung so often.
+    fn sleeps<R: Wait>(&self, rt: &R, rung: u64, most: u64) {
+        let _ = self.asleep.fetch_add(1, SeqCst);
+        let most = Duration::from_micros(most);
+        self.rung
+            .park_timeout(rt, (rung & 0xffff_ffff) as u32, most);
+        let _ = self.asleep.fetch_sub(1, SeqCst);
+    }
+}
+
+/// The bells of a node: one that it rings when it offers a ticket, and one that its body workers ring when a turn comes back. Who looks for
+/// something reads how often the bell was rung, looks, and sleeps only where it wasn't rung since. So nobody sleeps beside what it waits for.
+#[derive(Drop)]
+pub(crate) struct Bells {
+    workers: u64,
+    /// How many tickets wait for a body worker.
+    queued: AtomicU64,
+    /// How many body workers have a ticket.
+    busy: AtomicU64,
+    offered: Bell,
+    returned: Bell,
+}
+
+impl Bells {
+    /// Those of a node with so many body workers, to which no ticket was offered.
+    pub(crate) fn new(workers: usize) -> Bells {
+        Bells {
+            workers: workers as u64,
+            queued: AtomicU64::new(0),
+            busy: AtomicU64::new(0),
+            offered: Bell::new(),
+            returned: Bell::new(),
+        }
+    }
+
+    /// A ticket was offered. A body worker is woken where fewer look for tickets than wait.
+    pub(crate) fn offers(&self) {
+        let queued = self.queued.fetch_add(1, SeqCst).saturating_add(1);
+        self.offered.rings();
+        if self.offered.asleep() > 0 && self.looking() < queued {
+            self.offered.rung.wake_one();
+        }
+    }
+
+    /// The node took a ticket back.
+    pub(crate) fn takes_back(&self) {
+        let _ = self.queued.fetch_sub(1, SeqCst);
+    }
+
+    /// A body worker took a ticket.
+    pub(crate) fn takes(&self) {
+        let _ = self.busy.fetch_add(1, SeqCst);
+        let _ = self.queued.fetch_sub(1, SeqCst);
+    }
+
+    /// How many body workers are awake and have no ticket.
+    fn looking(&self) -> u64 {
+        let asleep = self.offered.asleep();
+        let others = asleep.saturating_add(self.busy.load(SeqCst));
+        self.workers.saturating_sub(others)
+    }
+
+    /// The node has ended: all body workers are woken.
+    pub(crate) fn ends(&self) {
+        self.offered.rings();
+        self.offered.rung.wake_all();
+    }
+
+    /// How often tickets were offered, as a body worker reads it before it looks for one.
+    pub(crate) fn offered(&self) -> u64 {
+        self.offered.rung()
+    }
+
+    /// Whether more body workers look for tickets than wait, and more than one does.
+    pub(crate) fn has_enough(&self) -> bool {
+        self.looking() > self.queued.load(SeqCst).max(1)
+    }
+
+    /// A body worker that found no ticket sleeps until one is offered.
+    pub(crate) fn worker_sleeps<R: Wait>(&self, rt: &R, offered: u64) {
+        self.offered.sleeps(rt, offered, LONG);
+    }
+
+    /// A body worker gave its turn back: the node is woken, if it sleeps.
+    pub(crate) fn returns(&self) {
+        let _ = self.busy.fetch_sub(1, SeqCst);
+        self.returned.rings();
+        if self.returned.asleep() > 0 {
+            self.returned.rung.wake_one();
+        }
+    }
+
+    /// How often turns came back, as the node reads it before it looks for one.
+    pub(crate) fn returned(&self) -> u64 {
+        self.returned.rung()
+    }
+
+    /// The node, to which no turn came back, sleeps until one does, for at most so many microseconds.
+    pub(crate) fn node_sleeps<R: Wait>(&self, rt: &R, returned: u64, most: u64) {
+        self.returned.sleeps(rt, returned, most);
+    }
+}

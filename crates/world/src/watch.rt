@@ -1,0 +1,42 @@
+//! Looking on while a run goes.
+
+use event_script::Event;
+use std::alloc::Global;
+use world_steps::{Told, World};
+
+/// Who looks on while a run goes: to tell it, to count, or to draw it. Nothing of the run hangs on it.
+pub trait Watch {
+    /// An event was carried out. It sees what was told of the event, and the world after it.
+    fn sees(&mut self, alloc: Global, event: &Event, told: Told, world: &World<'_>);
+}
+
+/// Nobody looks on.
+#[derive(Drop)]
+pub struct Unwatched;
+
+impl Watch for Unwatched {
+    fn sees(&mut self, _alloc: Global, _event: &Event, _told: Told, _world: &World<'_>) {}
+}
+
+/// Who looks on only where there is somebody.
+impl<W: Watch> Watch for Option<W> {
+    fn sees(&mut self, alloc: Global, event: &Event, told: Told, world: &World<'_>) {
+        if let Some(watch) = self {
+            watch.sees(alloc, event, told, world);
+        }
+    }
+}
+
+/// Two look on, one after the other.
+#[derive(Drop)]
+pub struct Both<A: Drop, B: Drop> {
+    pub first: A,
+    pub second: B,
+}
+
+impl<A: Watch + Drop, B: Watch + Drop> Watch for Both<A, B> {
+    fn sees(&mut self, alloc: Global, event: &Event, told: Told, world: &World<'_>) {
+        self.first.sees(alloc, event, told, world);
+        self.second.sees(alloc, event, told, world);
+    }
+}
