@@ -5,8 +5,8 @@ use Rattle.disk.specs.Device.{Device}
 use Rattle.serial_meaning.specs.Job.{JobOf, IsJob, meaning_of}
 use Rattle.event_script.specs.declared.event.Event.{Event}
 use Rattle.run_tables.specs.Tables.{◌∈◌}
-use Rattle.world_steps.specs.declared.parts.Told.{Told}
-use Rattle.world_steps.specs.Answers.{Outturn}
+use Rattle.world_steps.specs.declared.parts.EventAnswer.{EventAnswer}
+use Rattle.world_steps.specs.Answers.{StepResult}
 use Rattle.world_steps.specs.Calls.{WorldOn, told_of}
 use Rattle.world_steps.specs.Runs.{CanBegin, IsFormattedFor, Runs, ends, goes, last_of}
 use Rattle.world_steps.specs.Runs.{Entry as RunEntry}
@@ -20,10 +20,10 @@ use Rattle.chronicle.specs.History.{IsHistory, IsSafeHistory, entry, outcome_tol
 use Rattle.chronicle.specs.Kept.{Reaches, StarvedBy}
 use Rattle.chronicle.proofs.Tellings.{told_recorded}
 
-abbrev run_entry : Event → Outturn → RunEntry
+abbrev run_entry : Event → StepResult → RunEntry
 run_entry event o = record { event = event; answer = o.answer }
 
-longer : (job : JobOf) (w : WorldOf) (steps : List RunEntry) (worlds : List WorldOf) (event : Event) (o : Outturn) → Runs job w steps worlds → Step job event (last_of w worlds) o
+longer : (job : JobOf) (w : WorldOf) (steps : List RunEntry) (worlds : List WorldOf) (event : Event) (o : StepResult) → Runs job w steps worlds → Step job event (last_of w worlds) o
     → Runs job w (steps ++ run_entry event o ∷ []) (worlds ++ o.world ∷ [])
 longer job w [] [] event o ends step = goes step ends
 longer job w [] (v ∷ worlds) event o ran step = elim ran [ ]
@@ -44,11 +44,11 @@ map-snoc [] e = refl
 map-snoc (s ∷ steps) e = ap (λ l. told_entry s ∷ l) (map-snoc steps e)
 
 -- a history with one event more, and the world that it reaches
-record Grown (job : JobOf) (entries : List Entry) (event : Event) (told : Told) (o : Outturn) : Type 0 where
+record Grown (job : JobOf) (entries : List Entry) (event : Event) (told : EventAnswer) (o : StepResult) : Type 0 where
   pub history : IsHistory job (entries ++ entry event told ∷ [])
   pub last : last_of (first_over history.disk) history.worlds ≡ o.world
 
-grown : (job : JobOf) (entries : List Entry) (h : IsHistory job entries) (event : Event) (told : Told) (o : Outturn) → Step job event (last_of (first_over h.disk) h.worlds) o → told ≡ told_of o.answer → Grown job entries event told o
+grown : (job : JobOf) (entries : List Entry) (h : IsHistory job entries) (event : Event) (told : EventAnswer) (o : StepResult) → Step job event (last_of (first_over h.disk) h.worlds) o → told ≡ told_of o.answer → Grown job entries event told o
 grown job entries h event told o step is = record {
   history = record {
     disk = h.disk;
@@ -84,13 +84,13 @@ starves job entries more world left same is reached =
     })
 
 -- an event was carried out
-abbrev pub Stepped : JobOf → Event → Told → (world next : WorldOf) → Type 0
-Stepped job event told world next = (o : Outturn) × Step job event world o × (next ≡ o.world) × (told ≡ told_of o.answer)
+abbrev pub Stepped : JobOf → Event → EventAnswer → (world next : WorldOf) → Type 0
+Stepped job event told world next = (o : StepResult) × Step job event world o × (next ≡ o.world) × (told ≡ told_of o.answer)
 
-pub goes_on : (job : JobOf) (entries more : List Entry) (world next : WorldOf) (event : Event) (told : Told) → more ≡ entries ++ entry event told ∷ [] → Stepped job event told world next
+pub goes_on : (job : JobOf) (entries more : List Entry) (world next : WorldOf) (event : Event) (told : EventAnswer) → more ≡ entries ++ entry event told ∷ [] → Stepped job event told world next
     → Reaches job entries world false → Reaches job more next false
 goes_on job entries more world next event told same stepped reached =
-    let o : Outturn = stepped.0 in
+    let o : StepResult = stepped.0 in
     let g = grown job entries reached.history event told o (subst (λ w. Step job event w o) reached.here stepped.1) stepped.3 in
     subst (λ es. Reaches job es next false) (sym same) (record { own = reached.own; history = g.history; here = stepped.2 ∙ sym g.last })
 
@@ -99,10 +99,10 @@ worlds_safe : (job : JobOf) (entries : List Entry) (ok : IsJob job) (h : IsHisto
 worlds_safe job entries ok h w m = each_safe job ok h.disk h.steps h.worlds h.begins h.runs w m
 
 -- what is told then is the job's meaning
-pub tells_meaning : (job : JobOf) (entries : List Entry) (world next : WorldOf) (event : Event) (told : Told) → Stepped job event told world next → Reaches job entries world false
+pub tells_meaning : (job : JobOf) (entries : List Entry) (world next : WorldOf) (event : Event) (told : EventAnswer) → Stepped job event told world next → Reaches job entries world false
     → (x : Outcome) → outcome_told told ≡ Some x → x ≡ meaning_of job
 tells_meaning job entries world next event told stepped reached x is =
-    let o : Outturn = stepped.0 in
+    let o : StepResult = stepped.0 in
     let step : Step job event (last_of (first_over reached.history.disk) reached.history.worlds) o = subst (λ w. Step job event w o) reached.here stepped.1 in
     let g = grown job entries reached.history event told o step stepped.3 in
     let safe : SafeWorld job o.world = subst (λ w. SafeWorld job w) g.last (worlds_safe job (entries ++ entry event told ∷ []) reached.own g.history _ (last_there (first_over g.history.disk) g.history.worlds)) in

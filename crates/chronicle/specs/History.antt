@@ -5,8 +5,8 @@ use Rattle.disk.specs.Device.{Device}
 use Rattle.serial_meaning.specs.Job.{JobOf}
 use Rattle.event_script.specs.declared.event.Event.{Event}
 use Rattle.event_script.specs.declared.event.Event.TheVariants.{Start, AtNode, Crash, AtHouse, HouseCrash, Cut}
-use Rattle.world_steps.specs.declared.parts.Told.{Told}
-use Rattle.world_steps.specs.declared.parts.Told.TheVariants as told
+use Rattle.world_steps.specs.declared.parts.EventAnswer.{EventAnswer}
+use Rattle.world_steps.specs.declared.parts.EventAnswer.TheVariants as told
 use Rattle.world_steps.specs.Calls.{told_of}
 use Rattle.world_steps.specs.Runs.{CanBegin, Runs}
 use Rattle.world_steps.specs.Runs.{Entry as RunEntry}
@@ -26,11 +26,11 @@ number_of (Cut c) = 0
 abbrev pub actor_of : Entry → ℕ
 actor_of e = number_of e.event
 
-abbrev pub entry : Event → Told → Entry
+abbrev pub entry : Event → EventAnswer → Entry
 entry event told = record { event = event; told = told }
 
 -- the outcome that is told: of an event of the clearinghouse the one that is recorded after it, if one is
-abbrev pub outcome_told : Told → Option Outcome
+abbrev pub outcome_told : EventAnswer → Option Outcome
 outcome_told told.Unfit = None
 outcome_told told.Ignored = None
 outcome_told (told.Refused e) = None

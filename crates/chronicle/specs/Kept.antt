@@ -2,7 +2,7 @@
 use Rattle.std.specs.Prelude.{◌≡◌, ◌⊎◌, Bool, MatchBool, List}
 use Rattle.serial_meaning.specs.Job.{JobOf, IsJob}
 use Rattle.event_script.specs.declared.event.Event.{Event}
-use Rattle.world_steps.specs.Answers.{Outturn}
+use Rattle.world_steps.specs.Answers.{StepResult}
 use Rattle.world_steps.specs.Calls.{IsStarved, WorldOn}
 use Rattle.world_steps.specs.Runs.{last_of}
 use Rattle.world_steps.specs.World.{WorldOf, first_over}
@@ -20,7 +20,7 @@ pub record StarvedBy (job : JobOf) (w v : WorldOf) : Type 0 where
   pub event : Event
   pub was_placed : Bool
   pub is_placed : Bool
-  pub after : Outturn
+  pub after : StepResult
   pub starved : IsStarved event (record { job = job; world = w; is_placed = was_placed }) is_placed after
   pub left : v ≡ after.world
 

@@ -3,7 +3,7 @@ ghost use Rattle.std.specs.List.{range_with_len};
 ghost use Rattle.ids.specs.declared.outcome.Outcome.{Outcome};
 ghost use Rattle.kind_check.specs.Total.{Takes};
 ghost use Rattle.serial_meaning.specs.Job.{meaning_of};
-ghost use Rattle.world_steps.specs.Answers.{Outturn};
+ghost use Rattle.world_steps.specs.Answers.{StepResult};
 ghost use Rattle.world_steps.specs.Calls.{IsOfJob, told_of};
 ghost use Rattle.world_steps.specs.Steps.{Step as StepOf};
 ghost use Rattle.world_steps.specs.World.{WorldOf};
@@ -79,7 +79,7 @@ impl<'a> Model for Chronicle<'a> {
 
 impl<'a> Chronicle<'a> {
     /// A chronicle of a job's first world, with no history, and a seat for each actor: those of the nodes 0 to `nodes - 1` by rising
-    /// place, and the clearinghouse's last. Refused for want of memory alone (E9).
+    /// place, and the clearinghouse's last. Refused only when out of memory (E9).
     #[tactic(auto, using(crate::proofs::Seats::all_blank, crate::proofs::Seats::in_order))]
     pub fn new(
         alloc: Global,
@@ -112,7 +112,7 @@ impl<'a> Chronicle<'a> {
         requires owns { number_of event ≡ seat.old.actor }
         ensures same { IsSeatIn self.now seat.new × (seat.new.actor ≡ seat.old.actor) }
         ensures entry { IfOk result (λ c. seat.new.entries ≡ seat.old.entries ++ entry event c.told ∷ []) }
-        ensures step { IfOk result (λ c. (w : WorldOf) × (o : Outturn) × StepOf self.now.job event w o × (c.told ≡ told_of o.answer)) }
+        ensures step { IfOk result (λ c. (w : WorldOf) × (o : StepResult) × StepOf self.now.job event w o × (c.told ≡ told_of o.answer)) }
         ensures outcome { IfOk result (λ c. (o : Outcome) → outcome_told c.told ≡ Some o → o ≡ meaning_of self.now.job) }
         ensures err { OnErr result (seat.new ≡ seat.old) }
     {
@@ -133,7 +133,7 @@ impl<'a> Chronicle<'a> {
         requires turn { turn.now.program ≡ self.now.job.program }
         ensures same { IsSeatIn self.now seat.new × (seat.new.actor ≡ seat.old.actor) }
         ensures entry { IfOk result (λ c. seat.new.entries ≡ seat.old.entries ++ entry event c.told ∷ []) }
-        ensures step { IfOk result (λ c. (w : WorldOf) × (o : Outturn) × StepOf self.now.job event w o × (c.told ≡ told_of o.answer)) }
+        ensures step { IfOk result (λ c. (w : WorldOf) × (o : StepResult) × StepOf self.now.job event w o × (c.told ≡ told_of o.answer)) }
         ensures outcome { IfOk result (λ c. (o : Outcome) → outcome_told c.told ≡ Some o → o ≡ meaning_of self.now.job) }
         ensures err { OnErr result (seat.new ≡ seat.old) }
     {
@@ -153,7 +153,7 @@ impl<'a> Chronicle<'a> {
         requires turn { IsOfJob self.now.job (option_copied turn) }
         ensures same { IsSeatIn self.now seat.new × (seat.new.actor ≡ seat.old.actor) }
         ensures entry { IfOk result (λ c. seat.new.entries ≡ seat.old.entries ++ entry event c.told ∷ []) }
-        ensures step { IfOk result (λ c. (w : WorldOf) × (o : Outturn) × StepOf self.now.job event w o × (c.told ≡ told_of o.answer)) }
+        ensures step { IfOk result (λ c. (w : WorldOf) × (o : StepResult) × StepOf self.now.job event w o × (c.told ≡ told_of o.answer)) }
         ensures outcome { IfOk result (λ c. (o : Outcome) → outcome_told c.told ≡ Some o → o ≡ meaning_of self.now.job) }
         ensures err { OnErr result (seat.new ≡ seat.old) }
     {
@@ -165,7 +165,7 @@ impl<'a> Chronicle<'a> {
     }
 
     /// The first ready frame of the node of a place that isn't among these, from the deepest level on and in a level the newest first;
-    /// none where there is none, or for want of memory. It is a hint: the next event may find the world changed. Its thread takes its
+    /// none where there is none, or when out of memory. It is a hint: the next event may find the world changed. Its thread takes its
     /// numbers, so that its turn can be evaluated outside the lock.
     pub fn ready<R: Wait>(
         &self,

@@ -4,7 +4,7 @@ ghost use Rattle.disk.specs.Device.{Device};
 ghost use Rattle.ids.specs.declared.outcome.Outcome.{Outcome as OutcomeOf};
 ghost use Rattle.serial_meaning.specs.Job.{meaning_of};
 ghost use Rattle.turn_lock.specs.Histories.{own};
-ghost use Rattle.world_steps.specs.Answers.{Outturn};
+ghost use Rattle.world_steps.specs.Answers.{StepResult};
 ghost use Rattle.world_steps.specs.Calls.{IsOfJob, IsStarved, told_of};
 ghost use Rattle.world_steps.specs.Runs.{CanBegin};
 ghost use Rattle.world_steps.specs.Steps.{Step as StepOf};
@@ -20,19 +20,19 @@ use std::alloc::Global;
 use std::marker::Model;
 use std::snapshot::Snapshot;
 use turn_lock::KeepsHistory;
-use world_steps::{NoMemory, Told, World};
+use world_steps::{EventAnswer, NoMemory, World};
 
 /// An event of the history, and what was told of it.
 #[derive(Drop)]
 pub struct Entry {
     pub event: Event,
-    pub told: Told,
+    pub told: EventAnswer,
 }
 
 /// What is told of an event that was committed.
 #[derive(Clone, Copy)]
 pub struct Committed {
-    pub told: Told,
+    pub told: EventAnswer,
 }
 
 impl Committed {
@@ -45,12 +45,15 @@ impl Committed {
 }
 
 /// The outcome that is told.
-pub(crate) fn outcome_of(told: Told) -> Option<Outcome>
+pub(crate) fn outcome_of(told: EventAnswer) -> Option<Outcome>
     ensures { result ≡ outcome_told told }
 {
     match told {
-        Told::House(_, _, outcome) => outcome,
-        Told::Unfit | Told::Ignored | Told::Refused(_) | Told::Did(_, _) => None,
+        EventAnswer::House(_, _, outcome) => outcome,
+        EventAnswer::Unfit
+        | EventAnswer::Ignored
+        | EventAnswer::Refused(_)
+        | EventAnswer::Did(_, _) => None,
     }
 }
 
@@ -95,7 +98,7 @@ impl<'a> KeepsHistory for Kept<'a> {
 }
 
 impl<'a> Kept<'a> {
-    /// The first world of a job, over a disk that was formatted for it, with no history. Refused for want of memory alone (E9).
+    /// The first world of a job, over a disk that was formatted for it, with no history. Refused only when out of memory (E9).
     pub fn new(alloc: Global, job: &'a Job) -> Result<Kept<'a>, NoMemory>
         ensures kept { IfOk result (λ k. (k.on.job ≡ job.now) × (k.entries ≡ []) × (k.starved ≡ false)) }
         ensures world { IfOk result (λ k. (d : Device) × CanBegin job.now d × (k.on.world ≡ first_over d)) }
@@ -125,11 +128,11 @@ impl<'a> Kept<'a> {
         ensures seat { seat.new ≡ seat.old }
         ensures own { own actor_of seat.old.actor self.old.entries ≡ seat.old.entries }
         ensures job { self.new.on.job ≡ self.old.on.job }
-        ensures step { IfOk result (λ c. (o : Outturn) × StepOf self.old.on.job event self.old.on.world o × (self.new.on.world ≡ o.world) × (c.told ≡ told_of o.answer)) }
+        ensures step { IfOk result (λ c. (o : StepResult) × StepOf self.old.on.job event self.old.on.world o × (self.new.on.world ≡ o.world) × (c.told ≡ told_of o.answer)) }
         ensures history { IfOk result (λ c. self.new.entries ≡ self.old.entries ++ entry event c.told ∷ []) }
         ensures outcome { IfOk result (λ c. (o : OutcomeOf) → outcome_told c.told ≡ Some o → o ≡ meaning_of self.old.on.job) }
         ensures starved { OnErr result ((self.new.entries ≡ self.old.entries) × (self.new.starved ≡ true)) }
-        ensures left { OnErr result ((self.new.on.world ≡ self.old.on.world) ⊎ ((o : Outturn) × IsStarved event self.old.on self.new.on.is_placed o × (self.new.on.world ≡ o.world))) }
+        ensures left { OnErr result ((self.new.on.world ≡ self.old.on.world) ⊎ ((o : StepResult) × IsStarved event self.old.on self.new.on.is_placed o × (self.new.on.world ≡ o.world))) }
         ensures after { self.old.starved ≡ true → IsErr result × (self.new ≡ self.old) }
     {
         let _ = seat.actor();

@@ -48,7 +48,7 @@ impl Trace {
     }
 
     /// Its script: a first line by which nodes have 64 places, and then the line of each event, each ended by a line feed. It is read as
-    /// just these events. Refused for want of memory alone.
+    /// just these events. Refused only when out of memory.
     pub fn script(&self, alloc: Global) -> Result<Vec<u8>, AllocError>
         ensures text { IfOk result (λ t. t.items ≡ text_of (events_of self.now)) }
         ensures read { IfOk result (λ t. script t.items ≡ Ok (events_of self.now)) }

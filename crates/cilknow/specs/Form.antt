@@ -25,13 +25,13 @@ pub record IsLong (text : List ℕ) : Type 0 where
   pub reads : Reads text program
   pub long : 65536 < length (printed program)
 
--- what a refusal says of the text; want of memory says nothing
+-- what a refusal says of the text; being out of memory says nothing
 abbrev pub IsFormRefusal : List ℕ → FormFault → Type 0
 IsFormRefusal text (fault.Text e) = e ≢ parse.Memory → MeetsText text e
 IsFormRefusal text (fault.Long print.TooLong) = IsLong text
 IsFormRefusal text (fault.Long print.Memory) = Unit {0}
 
--- a text that is refused is 1, and want of memory 3
+-- a text that is refused is 1, and being out of memory 3
 abbrev pub status_of_form : FormFault → ℕ
 status_of_form (fault.Text parse.Memory) = 3
 status_of_form (fault.Text _) = 1

@@ -7,7 +7,7 @@ use crate::form::{FormFault, form_of};
 use crate::logged::log_text;
 use crate::solo::solo;
 use crate::stored::{info_in, store_in};
-use crate::words::{DrawWords, JobWords, Request, RunWords, Words, read_words};
+use crate::words::{DrawWords, JobWords, RunWords, Subcommand, Words, read_words};
 use checkpoint::Info;
 use chronicle::Trace;
 use jobs::{FileFault, JobFault, job_of, program_of, text_bytes};
@@ -272,29 +272,29 @@ fn write_log<R: Files + AllocGlobal>(
 
 fn answer<R: Files<File = File> + AllocGlobal + Threads + Wait + Clock + Sync, O: Write>(
     rt: &R,
-    request: Request<'_>,
+    request: Subcommand<'_>,
     out: &mut O,
 ) -> Result<(), CommandFault> {
     let alloc = rt.alloc();
     let written = match request {
-        Request::Check(file) => {
+        Subcommand::Check(file) => {
             let text = text_bytes(rt, file)?;
             let threads = program_of(alloc, text.as_slice())?.threads();
             write_line(out, format_args!("ok {threads} threads"))
         }
-        Request::Print(file) => {
+        Subcommand::Print(file) => {
             let text = text_bytes(rt, file)?;
             let form = form_of(alloc, text.as_slice()).map_err(CommandFault::Form)?;
             write_bytes(out, form.as_slice())
         }
-        Request::Serial(words) => {
+        Subcommand::Serial(words) => {
             let text = text_bytes(rt, words.file)?;
             write_outcome(out, serial_outcome(alloc, text.as_slice(), words)?)
         }
-        Request::Run(words) => return answer_run(rt, words, out),
-        Request::Replay(words) => return answer_replay(rt, words, out),
-        Request::Draw(words) => return answer_draw(rt, words, out),
-        Request::Store(path) => write_info(out, info_in(rt, path)?),
+        Subcommand::Run(words) => return answer_run(rt, words, out),
+        Subcommand::Replay(words) => return answer_replay(rt, words, out),
+        Subcommand::Draw(words) => return answer_draw(rt, words, out),
+        Subcommand::Store(path) => write_info(out, info_in(rt, path)?),
     };
     written.map_err(|_| CommandFault::File)
 }

@@ -3,7 +3,7 @@
 use crate::command::CommandFault;
 use crate::fault::SoloFault;
 use crate::form::FormFault;
-use crate::words::Request;
+use crate::words::Subcommand;
 use explaining::{explain_files, explain_number, explain_replay, explain_text};
 use jobs::JobFault;
 use node_runner::RunError;
@@ -21,14 +21,14 @@ pub struct Named<'a> {
 
 impl<'a> Named<'a> {
     /// Those of a request.
-    pub fn by(request: &Request<'a>) -> Named<'a> {
+    pub fn by(request: &Subcommand<'a>) -> Named<'a> {
         match request {
-            Request::Check(file) | Request::Print(file) => Named::of(*file, None),
-            Request::Serial(words) => Named::of(words.file, None),
-            Request::Run(words) => Named::of(words.job.file, words.store),
-            Request::Replay(words) => Named::of(words.file, Some(words.script)),
-            Request::Draw(words) => Named::of(words.replay.file, Some(words.replay.script)),
-            Request::Store(path) => Named::of(*path, None),
+            Subcommand::Check(file) | Subcommand::Print(file) => Named::of(*file, None),
+            Subcommand::Serial(words) => Named::of(words.file, None),
+            Subcommand::Run(words) => Named::of(words.job.file, words.store),
+            Subcommand::Replay(words) => Named::of(words.file, Some(words.script)),
+            Subcommand::Draw(words) => Named::of(words.replay.file, Some(words.replay.script)),
+            Subcommand::Store(path) => Named::of(*path, None),
         }
     }
 

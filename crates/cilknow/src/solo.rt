@@ -10,7 +10,7 @@ use std::alloc::Global;
 /// The outcome of a program's text on an input, run on one node and one thread: of the ready frames the newest of the
 /// greatest level runs, and each body is one turn. The refusals come in this order: the text (E2 to E6), its kinds (E10 to
 /// E18), the count of inputs (E21), and then E95 where the run takes more than `turns` turns, and E62 where the
-/// number that is next after one of these would pass 2^32 - 1. E9 comes for want of memory.
+/// number that is next after one of these would pass 2^32 - 1. E9 comes when out of memory.
 pub fn solo(
     alloc: Global,
     text: &[u8],

@@ -11,13 +11,13 @@ use std::convert::AsStr;
 /// A command line: what it asks for, and whether a fault is to be explained.
 #[derive(Drop)]
 pub struct Words<'a> {
-    pub request: Request<'a>,
+    pub request: Subcommand<'a>,
     pub explain: bool,
 }
 
 /// What the words of a command line ask for.
 #[derive(Drop)]
-pub enum Request<'a> {
+pub enum Subcommand<'a> {
     /// Whether the program of a file is accepted.
     Check(&'a str),
     /// The one form of the text of a file.
@@ -321,7 +321,7 @@ fn job_of<'a>(alloc: Global, matches: &ArgMatches<'a>) -> Result<Option<JobWords
 }
 
 /// What the words ask for, the program's own name first; none where they ask for nothing that is there. The `Err` is a
-/// fault of usage, want of memory, or the text of the help or the version where they ask for that.
+/// fault of usage, being out of memory, or the text of the help or the version where they ask for that.
 pub fn read_words<'a, S: AsStr>(alloc: Global, words: &'a [S]) -> Result<Option<Words<'a>>, Error> {
     let matches = all_words(alloc)?.try_get_matches_from(words)?;
     let Some((command, inner)) = matches.subcommand() else {
@@ -339,18 +339,18 @@ fn request_of<'a>(
     alloc: Global,
     command: &str,
     inner: &ArgMatches<'a>,
-) -> Result<Option<Request<'a>>, AllocError> {
+) -> Result<Option<Subcommand<'a>>, AllocError> {
     match command {
-        "check" => Ok(inner.get_str("FILE").map(Request::Check)),
-        "print" => Ok(inner.get_str("FILE").map(Request::Print)),
-        "serial" => Ok(job_of(alloc, inner)?.map(Request::Serial)),
-        "run" => Ok(run_of(alloc, inner)?.map(Request::Run)),
+        "check" => Ok(inner.get_str("FILE").map(Subcommand::Check)),
+        "print" => Ok(inner.get_str("FILE").map(Subcommand::Print)),
+        "serial" => Ok(job_of(alloc, inner)?.map(Subcommand::Serial)),
+        "run" => Ok(run_of(alloc, inner)?.map(Subcommand::Run)),
         "replay" => {
             let packets = inner.get_flag("packets");
-            Ok(replay_words_of(alloc, inner, packets)?.map(Request::Replay))
+            Ok(replay_words_of(alloc, inner, packets)?.map(Subcommand::Replay))
         }
-        "draw" => Ok(draw_of(alloc, inner)?.map(Request::Draw)),
-        "store" => Ok(inner.get_str("PATH").map(Request::Store)),
+        "draw" => Ok(draw_of(alloc, inner)?.map(Subcommand::Draw)),
+        "store" => Ok(inner.get_str("PATH").map(Subcommand::Store)),
         _ => Ok(None),
     }
 }

@@ -31,7 +31,7 @@ abbrev pub if_open : State → (HouseOf → Answer) → Answer
 if_open (Open h) call = call h
 if_open (Stopped s) call = Refused (error_of_stop s)
 
--- where a clearinghouse stands after a refused call: a call of the device that failed, and want of memory, stop it; any other
+-- where a clearinghouse stands after a refused call: a call of the device that failed, and being out of memory, stop it; any other
 -- refusal changes nothing
 abbrev pub refused_state : HouseError → State → State
 refused_state error.Device state = Stopped by.Device

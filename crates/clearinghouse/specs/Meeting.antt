@@ -36,7 +36,7 @@ IsRecorded Ignored o sent old = ⊥
 IsRecorded (Refused e) o sent old = ⊥
 IsRecorded (Does s) o sent old = (s ≡ Moves.records o s.sent old) × (sent ≡ s.sent)
 
--- what is to be done by an answer; what is to be committed isn't done yet. Want of memory may leave a part of it
+-- what is to be done by an answer; what is to be committed isn't done yet. Being out of memory may leave a part of it
 abbrev pub Acts : Answer → Result Act HouseError → HouseOf → HouseOf → Type 0
 Acts expected (Ok act.Ignored) old new = (expected ≡ Ignored) × (new ≡ old)
 Acts expected (Ok (act.Sends sent)) old new = IsSent expected sent new

@@ -148,7 +148,7 @@ impl<'a, D: Disk> House<'a, D> {
     }
 
     /// A moment comes: each live member that was last heard more than the limit before it is dead, and then the root's grant is
-    /// settled. One that is no later than the last changes nothing. Refused for want of memory alone (E9), which stops it, and
+    /// settled. One that is no later than the last changes nothing. Refused only when out of memory (E9), which stops it, and
     /// where it is stopped.
     pub fn tick(&mut self, alloc: Global, now: u64) -> Result<HouseStep, HouseError>
         ensures meets { Meets D.device D.planned (calls.tick self.old.job now self.old.state) result self.old self.new }

@@ -28,7 +28,7 @@ pub struct RootGrant {
     pub holder: Incarnation,
 }
 
-/// What stopped a clearinghouse: a call of the device that failed, or want of memory.
+/// What stopped a clearinghouse: a call of the device that failed, or being out of memory.
 #[derive(Clone, Copy, PartialEq, Eq, Debug)]
 pub enum Stop {
     Device,

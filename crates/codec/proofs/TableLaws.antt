@@ -1,6 +1,6 @@
 -- The formats of the table keep the laws of formats: those of each kind, those of the fields by kinds, and the packet.
 use Rattle.std.proofs.Common.{◌≡◌, ℕ, zero, suc, ◌^◌, ◌<◌, ◌≤◌, Bool, true, false, ◌||◌, cond, eqb, ltb, List, [], ◌++◌, length, Result, Ok, Err, refl, sym, ap, subst, ◌∙◌, arith}
-use Rattle.std.specs.Prelude.{◌&&◌, IfOk}
+use Rattle.std.specs.Prelude.{◌&&◌, IfOk, nat_eq}
 use mathlib.Core.Logic.{⊎_elim}
 use Rattle.std.proofs.lemmas.Bool.{and_from, and_parts, eq-eqb, eqb-true, le-ltb, lt-ltb, ltb-false, ltb-true, or_cases}
 use Rattle.std.proofs.lemmas.List.{append-nil, nil_from_length}
@@ -8,13 +8,15 @@ use Rattle.ids.specs.Names.{is_actor, is_address, is_worker}
 use Rattle.packet_fields.specs.declared.fault.Fault.{Fault}
 use Rattle.packet_fields.specs.declared.fault.Fault.TheVariants as fault
 use Rattle.packet_fields.specs.declared.fault.ReadError.{ReadError}
+use Rattle.packet_fields.specs.declared.fault.ReadError.TheVariants as errors
 use Rattle.ids.specs.declared.work.Frame.{Frame}
 use Rattle.ids.specs.declared.outcome.Progress.{Progress}
 use Rattle.ids.specs.declared.work.Record.{Record}
 use Rattle.ids.specs.declared.work.Task.{Task}
-use Rattle.packet_fields.specs.Format.{Format, Gives, IsBytes, ◌>>=◌, constant, followed, number, tested}
+use Rattle.packet_fields.specs.Format.{Fails, Format, Gives, IsBytes, ◌>>=◌, constant, end_of, followed, number, tested}
 use Rattle.packet_fields.specs.Fields as field
 use Rattle.packet_fields.proofs.FormatLaws.{Lawful, bind_ok, constant_lawful, followed_lawful, made_lawful, number_lawful, ok_is, test_ok, tested_lawful, wide1, wide2, wide8}
+use Rattle.packet_fields.proofs.Skipping.{ended}
 use Rattle.packet_fields.proofs.FieldLaws.{actor_lawful, address_lawful, counted_lawful, epoch_lawful, frames_lawful, grant_lawful, hop_lawful, members_lawful, other_worker_lawful, outcome_lawful, progress_lawful, raised_lawful, records_lawful, task_lawful, worker_lawful}
 use Rattle.codec.specs.declared.body.Body.{Body}
 use Rattle.codec.specs.declared.body.Body.TheVariants as body
@@ -361,8 +363,42 @@ guard_err : {A : Type 0} (b : Bool) (d : Fault) (r : Result A Fault) (y : A) →
 guard_err true d r y e = absurd cc
 guard_err false d r y e = (refl, e)
 
+-- what the reading of all of the bytes answers is the packet in front, and nothing is behind it
+pub read_whole : (bytes : List ℕ) (p : PacketOf) → reading bytes ≡ Ok p → packet.read bytes ≡ Ok (p, [])
+unfolding reading
+read_whole bytes p e =
+    let short = guard_err (ltb 1048576 (length bytes)) fault.TooBig (packet.read bytes >>= λ x. cond (eqb (length x.1) 0) (Ok x.0) (Err fault.Trailing)) p e in
+    let read = bind_ok (packet.read bytes) (λ x. cond (eqb (length x.1) 0) (Ok x.0) (Err fault.Trailing)) p short.1 in
+    let ended = test_ok (eqb (length read.0.1) 0) fault.Trailing read.0.0 p read.2 in
+    let nothing : read.0.1 ≡ [] = nil_from_length read.0.1 (eqb-true (length read.0.1) 0 ended.0) in
+    subst (λ (q : PacketOf). packet.read bytes ≡ Ok (q, [])) ended.1 (subst (λ (to : List ℕ). packet.read bytes ≡ Ok (read.0.0, to)) nothing read.1)
+
+-- the packet in front, where all of the bytes are read
+pub is_whole : (bytes left : List ℕ) (p q : PacketOf) → reading bytes ≡ Ok p → packet.read bytes ≡ Ok (q, left) → reading bytes ≡ Ok q
+is_whole bytes left p q e front =
+    let same : p ≡ q = ap (λ (x : PacketOf × List ℕ). x.0) (ok_is (p, []) (q, left) (sym (read_whole bytes p e) ∙ front)) in
+    subst (λ (x : PacketOf). reading bytes ≡ Ok x) same e
+
+-- the reading of a packet in front has no fault then
+pub no_fault : (bytes : List ℕ) (p : PacketOf) (e : ReadError) → reading bytes ≡ Ok p → Fails e (packet.read bytes) → Fails e (reading bytes)
+no_fault bytes p errors.Memory read fails = tt
+no_fault bytes p (errors.Fault f) read fails =
+    let both : (let r : Result (PacketOf × List ℕ) Fault = Ok (p, []) in r) ≡ Err f = sym (read_whole bytes p read) ∙ fails in
+    absurd cc
+
+-- a packet with nothing behind it is all of the bytes
+read_to_end : (bytes left : List ℕ) (p : PacketOf) → length bytes ≤ 1048576 → packet.read bytes ≡ Ok (p, left) → nat_eq (length left) 0 ≡ true → reading bytes ≡ Ok p
+unfolding reading
+read_to_end bytes left p short e nothing = rw (le-ltb 1048576 (length bytes) short, e, nothing) refl
+
+-- and so are bytes that were passed over to their end
+pub passed_whole : (bytes left : List ℕ) → length bytes ≤ 1048576 → end_of (packet.read bytes) ≡ Ok left → nat_eq (length left) 0 ≡ true → (p : PacketOf) × (reading bytes ≡ Ok p)
+passed_whole bytes left short e nothing =
+    let x = ended (packet.read bytes) left e in
+    (x.0, read_to_end bytes left x.0 short x.1 nothing)
+
 -- what the reading of all of the bytes answers is spelled so
-reading_found : (bytes : List ℕ) (p : PacketOf) → IsBytes bytes → reading bytes ≡ Ok p → Spells bytes p
+pub reading_found : (bytes : List ℕ) (p : PacketOf) → IsBytes bytes → reading bytes ≡ Ok p → Spells bytes p
 unfolding reading
 reading_found bytes p fits e =
     let short = guard_err (ltb 1048576 (length bytes)) fault.TooBig (packet.read bytes >>= λ x. cond (eqb (length x.1) 0) (Ok x.0) (Err fault.Trailing)) p e in

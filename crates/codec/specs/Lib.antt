@@ -1,4 +1,5 @@
 pub mod Table
+pub mod Heads
 pub mod Rosters
 pub mod Datagrams
 pub mod Errors

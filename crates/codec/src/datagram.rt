@@ -39,7 +39,7 @@ impl Datagram {
         Ok(Datagram { bytes })
     }
 
-    /// A packet that is no offer is written, which is never too big. Refused for want of memory alone.
+    /// A packet that is no offer is written, which is never too big. Refused only when out of memory.
     pub fn short(alloc: Global, packet: &Packet) -> Result<Datagram, AllocError>
         requires { IsTrue (is_short packet.now.body) }
         ensures { IfOk result (λ d. d ≡ packet.now) }
@@ -57,7 +57,7 @@ impl Datagram {
     }
 }
 
-/// Adds a packet, which is no offer, to those that are sent. Refused for want of memory alone, which leaves them as they were.
+/// Adds a packet, which is no offer, to those that are sent. Refused only when out of memory, which leaves them as they were.
 pub fn send(alloc: Global, sent: &mut Listed<Datagram>, packet: &Packet) -> Result<(), AllocError>
     requires { IsTrue (is_short packet.now.body) }
     ensures ok { OnOk result (sent.new ≡ sent.old ++ packet.now ∷ []) }
@@ -66,7 +66,7 @@ pub fn send(alloc: Global, sent: &mut Listed<Datagram>, packet: &Packet) -> Resu
     sent.push(Datagram::short(alloc, packet)?)
 }
 
-/// A packet, which is no offer, alone. Refused for want of memory alone.
+/// A packet, which is no offer, alone. Refused only when out of memory.
 pub fn alone(alloc: Global, packet: &Packet) -> Result<Listed<Datagram>, AllocError>
     requires { IsTrue (is_short packet.now.body) }
     ensures { IfOk result (λ sent. sent ≡ packet.now ∷ []) }

@@ -1,11 +1,13 @@
-ghost use Rattle.std.specs.Prelude.{◌≡◌, IfOk, Ok};
-ghost use Rattle.packet_fields.specs.Format.{Gives};
+ghost use Rattle.std.specs.Prelude.{◌≡◌, IfOk, Err, Ok};
+ghost use Rattle.packet_fields.specs.declared.fault.ReadError.TheVariants as errors;
+ghost use Rattle.packet_fields.specs.Format.{Gives, Reads, end_of};
+ghost use Rattle.codec.specs.Heads.{IsChecked, StandsBefore};
 ghost use Rattle.codec.specs.Table.{PacketOf, Spells};
 ghost use Rattle.codec.specs.Table as table;
 ghost use Rattle.packet_fields.specs.Fields as field;
 
 use crate::body::{Body, Kind};
-use crate::fields::read_fields;
+use crate::fields::{read_fields, skip_fields};
 use crate::packet::{Packet, suits};
 use ids::Address;
 use packet_fields::{Fault, Input, ReadError};
@@ -20,6 +22,14 @@ pub const MAGIC: u16 = 0x434E;
 /// The version of all twelve kinds.
 pub const VERSION: u8 = 1;
 
+/// What stands in front of a packet's fields.
+#[derive(Clone, Copy)]
+struct Head {
+    kind: Kind,
+    job: u64,
+    to: Address,
+}
+
 /// What a packet is made of.
 #[derive(Drop)]
 struct Parts {
@@ -28,56 +38,83 @@ struct Parts {
     body: Body,
 }
 
-/// The header and the fields of the kind.
+/// What stands in front of the fields.
 #[tactic(auto, unfolding(crate::specs::Table::packet))]
-fn parts_of(input: &mut Input<'_>) -> Result<Parts, ReadError>
-    ensures { Gives (λ x. (record { job = x.job; to = x.to; body = x.body }, input.new)) result (table.packet.read input.old) }
+fn head_of(input: &mut Input<'_>) -> Result<Head, Fault>
+    ensures { StandsBefore (λ h. record { kind = table.number_of h.kind; job = h.job; to = h.to }) input.new result (table.packet.read input.old) }
 {
     if input.u16()? != MAGIC {
-        return Err(ReadError::Fault(Fault::Magic));
+        return Err(Fault::Magic);
     }
     if input.byte()? != VERSION {
-        return Err(ReadError::Fault(Fault::Version));
+        return Err(Fault::Version);
     }
     let Some(kind) = Kind::of(input.byte()?) else {
-        return Err(ReadError::Fault(Fault::Kind));
+        return Err(Fault::Kind);
     };
     let job = input.u64()?;
     let to = address(kind, input)?;
-    let body = read_fields(kind, input)?;
-    Ok(Parts { job, to, body })
+    Ok(Head { kind, job, to })
 }
 
 /// Whom a packet of a kind goes to.
-fn address(kind: Kind, input: &mut Input<'_>) -> Result<Address, ReadError>
-    ensures { Gives (λ x. (x, input.new)) result ((field.address (table.suits (table.number_of kind))).read input.old) }
+fn address(kind: Kind, input: &mut Input<'_>) -> Result<Address, Fault>
+    ensures { Reads (λ x. (x, input.new)) result ((field.address (table.suits (table.number_of kind))).read input.old) }
 {
     let word = input.u64()?;
     match Address::of(word) {
         Some(to) if suits(kind, to) => Ok(to),
-        _ => Err(ReadError::Fault(Fault::Field)),
+        _ => Err(Fault::Field),
     }
 }
 
-/// All of the bytes.
+/// The header and the fields of the kind.
+fn parts_of(input: &mut Input<'_>) -> Result<Parts, ReadError>
+    ensures { Gives (λ x. (record { job = x.job; to = x.to; body = x.body }, input.new)) result (table.packet.read input.old) }
+{
+    let Head { kind, job, to } = head_of(input)?;
+    let body = read_fields(kind, input)?;
+    Ok(Parts { job, to, body })
+}
+
+/// Passes over the header and the fields of the kind, or answers the first fault.
+fn skip_parts(input: &mut Input<'_>) -> Result<(), Fault>
+    ensures { Reads (λ _. input.new) result (end_of (table.packet.read input.old)) }
+{
+    let head = head_of(input)?;
+    skip_fields(head.kind, input)
+}
+
+/// Whether the bytes spell a packet, or the first fault. No memory is taken.
 #[tactic(auto, unfolding(crate::specs::Table::reading))]
-fn whole(alloc: Global, bytes: &[u8]) -> Result<Packet, ReadError>
-    ensures { Gives (λ x. x) result (table.reading bytes.now) }
+fn check(alloc: Global, bytes: &[u8]) -> Result<(), Fault>
+    ensures { IsChecked result (table.reading bytes.now) }
 {
     if bytes.len() > MOST_BYTES {
-        return Err(ReadError::Fault(Fault::TooBig));
+        return Err(Fault::TooBig);
     }
     let mut input = Input::new(alloc, bytes);
-    let Parts { job, to, body } = parts_of(&mut input)?;
+    skip_parts(&mut input)?;
     if !input.is_empty() {
-        return Err(ReadError::Fault(Fault::Trailing));
+        return Err(Fault::Trailing);
     }
+    Ok(())
+}
+
+/// The packet that the bytes spell.
+fn whole(alloc: Global, bytes: &[u8]) -> Result<Packet, ReadError>
+    requires { (p : PacketOf) × (table.reading bytes.now ≡ Ok p) }
+    ensures { Gives (λ x. x) result (table.reading bytes.now) }
+{
+    let mut input = Input::new(alloc, bytes);
+    let Parts { job, to, body } = parts_of(&mut input)?;
     Ok(Packet { job, to, body })
 }
 
 /// The packet that the bytes spell, or the first fault that a reader from the front meets: E30 over 1,048,576 bytes, E31
 /// where they end inside a field, E32 for another magic, E33 for another version, E34 for no kind, E35 for a field outside
-/// its range or out of order, E36 for bytes behind the last field. E9 where there is no memory.
+/// its range or out of order, E36 for bytes behind the last field. The bytes are looked through before any memory is taken;
+/// so E9, where there is none, comes for bytes that spell a packet alone.
 pub fn decode(alloc: Global, bytes: &[u8]) -> Result<Packet, ReadError>
     // What is answered is spelled so.
     ensures found { IfOk result (λ p. Spells bytes.now p) }
@@ -85,6 +122,9 @@ pub fn decode(alloc: Global, bytes: &[u8]) -> Result<Packet, ReadError>
     ensures only { (p : PacketOf) → Spells bytes.now p → Gives (λ x. x) result (Ok p) }
     // Which fault it is.
     ensures fault { Gives (λ x. x) result (table.reading bytes.now) }
+    // Memory runs out for a packet alone.
+    ensures memory { result ≡ Err errors.Memory → (p : PacketOf) × Spells bytes.now p }
 {
+    check(alloc, bytes)?;
     whole(alloc, bytes)
 }

@@ -1,13 +1,13 @@
 //! The fields of each kind of packet, listed once, for reading, for writing and for the test of what can be written.
 ghost use Rattle.std.specs.Prelude.{◌≡◌, ◌++◌, IfSome, IsNone, OnOk, false};
-ghost use Rattle.packet_fields.specs.Format.{Gives};
+ghost use Rattle.packet_fields.specs.Format.{Gives, Reads, end_of};
 ghost use Rattle.codec.specs.Table as table;
 
 use crate::body::{
     Abort, Beat, Body, Grant, Join, Kind, Leave, Offer, OfferAck, Refuse, ResultAck, Roster, Steal,
     TaskResult,
 };
-use packet_fields::{Input, ReadError, fits, read, write};
+use packet_fields::{Fault, Input, ReadError, fits, read, skip, write};
 use std::alloc::AllocError;
 
 /// Hands the table of kinds to another macro: a kind's number, its variant, its struct, and the fields with their formats
@@ -71,6 +71,18 @@ macro_rules! read_arms {
     };
 }
 
+// Passes over the fields of a kind, one after the other.
+macro_rules! skip_arms {
+    ([$kind:ident $input:ident] $($number:literal $variant:ident: $struct:ident { $($field:ident: $format:ident $(($($context:ident),*))?),* })*) => {
+        match $kind {
+            $(Kind::$variant => {
+                $(let $field = skip::$format($($(&$context,)*)? $input)?;)*
+                Ok(())
+            })*
+        }
+    };
+}
+
 // Writes the fields of a body, one after the other.
 macro_rules! write_arms {
     ([$body:ident $out:ident] $($number:literal $variant:ident: $struct:ident { $($field:ident: $format:ident $(($($context:ident),*))?),* })*) => {
@@ -123,6 +135,14 @@ pub fn read_fields(kind: Kind, input: &mut Input<'_>) -> Result<Body, ReadError>
     ensures { Gives (λ x. (x, input.new)) result ((table.fields (table.number_of kind)).read input.old) }
 {
     each_field!(read_arms! kind input)
+}
+
+/// Passes over the fields of a kind, or answers their first fault.
+#[tactic(auto, unfolding(crate::specs::Table::fields, crate::specs::Table::join, crate::specs::Table::roster, crate::specs::Table::steal, crate::specs::Table::granted, crate::specs::Table::refuse, crate::specs::Table::task_result, crate::specs::Table::result_ack, crate::specs::Table::offer, crate::specs::Table::offer_ack, crate::specs::Table::leave, crate::specs::Table::abort, crate::specs::Table::beat))]
+pub fn skip_fields(kind: Kind, input: &mut Input<'_>) -> Result<(), Fault>
+    ensures { Reads (λ _. input.new) result (end_of ((table.fields (table.number_of kind)).read input.old)) }
+{
+    each_field!(skip_arms! kind input)
 }
 
 /// Adds the fields of a kind to the bytes.

@@ -25,7 +25,7 @@ use subcomputation::Sub;
 use victim_records::Records;
 
 /// What an Offer of a packet hands on, where it fits the program and the node that it comes to, which holds these
-/// subcomputations; none where it doesn't; refused for want of memory alone.
+/// subcomputations; none where it doesn't; refused only when out of memory.
 ///
 /// It fits where the threads of its task, of its frames and of its records' tasks are there and take as many numbers as
 /// these have numbers or slots. Unless it is finished, it also has to fit together and be foreign: no two of its frames and

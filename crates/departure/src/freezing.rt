@@ -94,7 +94,7 @@ impl Move {
         }
     }
 
-    /// The same Offers again, by rising grant; refused for want of memory alone.
+    /// The same Offers again, by rising grant; refused only when out of memory.
     pub fn offers(
         &self,
         alloc: Global,

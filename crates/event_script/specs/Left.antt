@@ -4,13 +4,13 @@ use Rattle.std.specs.List.{list_all}
 use Rattle.event_script.specs.Lines.{Line, Skipped, Says, Refused, line_of}
 use Rattle.event_script.specs.declared.event.Event.{Event}
 use Rattle.event_script.specs.declared.event.Event.TheVariants.{Start, AtNode, Crash, AtHouse, HouseCrash, Cut}
-use Rattle.event_script.specs.declared.reading.Told.{Told}
-use Rattle.event_script.specs.declared.reading.Told.TheVariants as told
+use Rattle.event_script.specs.declared.reading.LineRead.{LineRead}
+use Rattle.event_script.specs.declared.reading.LineRead.TheVariants as told
 use Rattle.event_script.specs.declared.reading.Found.{Found}
 use Rattle.event_script.specs.declared.reading.Found.TheVariants as found
 
 -- the event that was read
-abbrev pub told_event : Told → Event
+abbrev pub told_event : LineRead → Event
 told_event (told.Stopped calls left e) = Cut (record { calls = calls; bytes = left; event = e })
 told_event (told.Whole e) = e
 

@@ -1,6 +1,7 @@
 ghost use Rattle.std.specs.Prelude.{◌≡◌, ◌∷◌, option_copied};
 ghost use Rattle.event_script.specs.Words.{parts, parts_left, next_left, none_left};
 
+use memchr::memchr;
 use std::marker::Model;
 
 /// The parts of a text between the bytes that end one: words, or lines. Contracts see the list of those that are left.
@@ -23,12 +24,10 @@ impl<'a> Model for Parts<'a> {
 fn first_part(end: u8, text: &[u8]) -> (&[u8], Option<&[u8]>)
     ensures { parts end text.now ≡ result.0.now ∷ parts_left end (option_copied result.1) }
 {
-    for (i, b) in text.iter().enumerate() {
-        if *b == end {
-            return (text.split_at(i).0, Some(text.split_at(i + 1).1));
-        }
+    match memchr(end, text) {
+        Some(i) => (text.split_at(i).0, Some(text.split_at(i + 1).1)),
+        None => (text, None),
     }
-    (text, None)
 }
 
 impl<'a> Parts<'a> {

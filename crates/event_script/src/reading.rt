@@ -1,4 +1,4 @@
-ghost use Rattle.std.specs.Prelude.{◌≡◌, ◌≤◌, option_map, true, IfOk, OnErr};
+ghost use Rattle.std.specs.Prelude.{◌≡◌, ◌≤◌, ◌∷◌, option_map, true, IfOk, OnErr};
 ghost use Rattle.event_script.specs.Lines as defined;
 ghost use Rattle.event_script.specs.Left.{told_event, found_line, is_cut};
 
@@ -9,7 +9,7 @@ use std::alloc::{AllocError, Global};
 
 /// An event as a line says it, of which a Cut's bytes have no memory yet.
 #[derive(Drop)]
-pub enum Told<'a> {
+pub enum LineRead<'a> {
     /// After so many device calls, with these bytes left, an event of the clearinghouse is stopped.
     Stopped(u64, Hex<'a>, HouseEvent),
     Whole(Event),
@@ -19,23 +19,23 @@ pub enum Told<'a> {
 #[derive(Drop)]
 pub enum Found<'a> {
     Skipped,
-    Says(Told<'a>),
+    Says(LineRead<'a>),
     Refused,
 }
 
-impl<'a> Told<'a> {
-    /// The event; refused for want of memory alone, which the bytes of a Cut take.
+impl<'a> LineRead<'a> {
+    /// The event; refused only when out of memory, which the bytes of a Cut take.
     pub fn event(self, alloc: Global) -> Result<Event, AllocError>
         ensures event { IfOk result (λ event. event ≡ told_event self.entry) }
         ensures cut { OnErr result (is_cut (told_event self.entry) ≡ true) }
     {
         match self {
-            Told::Stopped(calls, hex, event) => Ok(Event::Cut(Cut {
+            LineRead::Stopped(calls, hex, event) => Ok(Event::Cut(Cut {
                 calls,
                 bytes: hex.listed(alloc)?,
                 event,
             })),
-            Told::Whole(event) => Ok(event),
+            LineRead::Whole(event) => Ok(event),
         }
     }
 }
@@ -89,6 +89,13 @@ fn house_event(mut words: Parts<'_>) -> Option<HouseEvent>
     ensures { result ≡ defined.house_event words.entry }
 {
     let name = words.next()?;
+    house_event_of(name, words)
+}
+
+/// The event of the clearinghouse of this name, with the words behind it.
+fn house_event_of(name: &[u8], words: Parts<'_>) -> Option<HouseEvent>
+    ensures { result ≡ defined.house_event (name.now ∷ words.entry) }
+{
     if name == b"house-deliver".as_slice() {
         Some(HouseEvent::Deliver(only_number(words)?))
     } else if name == b"house-tick".as_slice() {
@@ -156,29 +163,31 @@ fn placed(places: u8, name: &[u8], mut words: Parts<'_>) -> Option<Event>
 }
 
 /// What a Cut says behind its name.
-fn cut<'a>(mut words: Parts<'a>) -> Option<Told<'a>>
+fn cut<'a>(mut words: Parts<'a>) -> Option<LineRead<'a>>
     ensures { option_map told_event result ≡ defined.cut words.entry }
 {
     let calls = words.next()?;
     let hex = words.next()?;
-    Some(Told::Stopped(number(calls)?, Hex::of(hex)?, house_event(words)?))
+    Some(LineRead::Stopped(number(calls)?, Hex::of(hex)?, house_event(words)?))
 }
 
-fn event_of<'a>(places: u8, words: Parts<'a>) -> Option<Told<'a>>
+fn event_of<'a>(places: u8, words: Parts<'a>) -> Option<LineRead<'a>>
     requires { places ≤ 64 }
     ensures { option_map told_event result ≡ defined.event_of places words.entry }
 {
-    let mut behind = words.again();
+    let mut behind = words;
     let name = behind.next()?;
     if name == b"cut".as_slice() {
         return cut(behind);
     }
     if name == b"house-crash".as_slice() {
-        return behind.is_empty().then_some(Told::Whole(Event::HouseCrash));
+        return behind
+            .is_empty()
+            .then_some(LineRead::Whole(Event::HouseCrash));
     }
-    match house_event(words) {
-        Some(event) => Some(Told::Whole(Event::AtHouse(event))),
-        None => Some(Told::Whole(placed(places, name, behind)?)),
+    match house_event_of(name, behind.again()) {
+        Some(event) => Some(LineRead::Whole(Event::AtHouse(event))),
+        None => Some(LineRead::Whole(placed(places, name, behind)?)),
     }
 }
 

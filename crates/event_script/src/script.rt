@@ -132,7 +132,7 @@ impl<'a> Script<'a> {
         })
     }
 
-    /// Takes the next event; none behind the last. Refused for want of memory alone, which the bytes of a Cut take: the next event
+    /// Takes the next event; none behind the last. Refused only when out of memory, which the bytes of a Cut take: the next event
     /// is a Cut then, and nothing changes.
     pub fn next(&mut self, alloc: Global) -> Result<Option<Event>, AllocError>
         ensures next { IfOk result (λ event. next_left event self.old self.new) }

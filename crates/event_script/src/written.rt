@@ -174,7 +174,7 @@ fn each(alloc: Global, out: &mut Vec<u8>, event: &Event) -> Result<(), AllocErro
 }
 
 /// The line of an event, without its end: words parted by one space, numbers without zeros in front, bytes by lower-case digits.
-/// It is read as this event. Refused for want of memory alone.
+/// It is read as this event. Refused only when out of memory.
 pub fn line(alloc: Global, event: &Event) -> Result<Vec<u8>, AllocError>
     ensures written { IfOk result (λ bytes. bytes.items ≡ written event.now) }
     ensures read { IfOk result (λ bytes. line_of 64 bytes.items ≡ Says event.now) }

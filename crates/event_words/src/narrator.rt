@@ -6,7 +6,7 @@ use event_script::Event;
 use ids::Outcome;
 use std::alloc::Global;
 use std::io::{self, Write};
-use world::{Told, Watch, World};
+use world::{EventAnswer, Watch, World};
 
 /// Tells a run while it goes: a line for each event, handed on in one piece. It is told what was done, and of the clearinghouse's outcome
 /// where it is seen first.
@@ -39,8 +39,8 @@ impl<'o, O: Write> Narrator<'o, O> {
     }
 
     /// The outcome that is recorded after an event, where none was seen before.
-    fn new_outcome(&mut self, told: Told) -> Option<Outcome> {
-        let Told::House(_, _, Some(outcome)) = told else {
+    fn new_outcome(&mut self, told: EventAnswer) -> Option<Outcome> {
+        let EventAnswer::House(_, _, Some(outcome)) = told else {
             return None;
         };
         if self.has_outcome {
@@ -55,7 +55,7 @@ impl<'o, O: Write> Narrator<'o, O> {
         &mut self,
         alloc: Global,
         event: &Event,
-        told: Told,
+        told: EventAnswer,
         world: &World<'_>,
     ) -> Result<(), NarratorFault> {
         self.events = self.events.saturating_add(1);
@@ -70,19 +70,19 @@ impl<'o, O: Write> Narrator<'o, O> {
 }
 
 impl<'o, O: Write> Watch for Narrator<'o, O> {
-    fn sees(&mut self, alloc: Global, event: &Event, told: Told, world: &World<'_>) {
+    fn sees(&mut self, alloc: Global, event: &Event, told: EventAnswer, world: &World<'_>) {
         if self.fault.is_none() {
             self.fault = self.tell(alloc, event, told, world).err();
         }
     }
 }
 
-/// The line of an event, with its end. Refused for want of memory alone.
+/// The line of an event, with its end. Refused only when out of memory.
 fn text_of(
     alloc: Global,
     number: u64,
     event: &Event,
-    told: Told,
+    told: EventAnswer,
     new: Option<Outcome>,
     world: &World<'_>,
 ) -> io::Result<Vec<u8>> {

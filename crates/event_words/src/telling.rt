@@ -10,9 +10,9 @@ use std::alloc::Global;
 use std::fmt;
 use std::io::{self, Write};
 use task_tree::Program;
-use world::{Told, World};
+use world::{EventAnswer, World};
 
-/// The number of an event and its line, and behind a colon what it did, parted by semicolons. All that fails here fails for want of memory.
+/// The number of an event and its line, and behind a colon what it did, parted by semicolons. All that fails here fails when out of memory.
 #[derive(Drop)]
 pub(crate) struct Telling {
     text: Vec<u8>,
@@ -35,19 +35,19 @@ impl Telling {
     pub(crate) fn tell(
         &mut self,
         alloc: Global,
-        told: Told,
+        told: EventAnswer,
         new: Option<Outcome>,
         world: &World<'_>,
     ) -> io::Result<()> {
         match told {
-            Told::Unfit => self.say("nothing"),
-            Told::Ignored => self.say("ignored"),
-            Told::Refused(error) => self.say(error),
-            Told::Did(sent, fills) => {
+            EventAnswer::Unfit => self.say("nothing"),
+            EventAnswer::Ignored => self.say("ignored"),
+            EventAnswer::Refused(error) => self.say(error),
+            EventAnswer::Did(sent, fills) => {
                 self.say_fills(world, fills)?;
                 self.say_packets(alloc, world, sent)
             }
-            Told::House(refused, sent, _) => {
+            EventAnswer::House(refused, sent, _) => {
                 if let Some(error) = refused {
                     self.say(error)?;
                 }

@@ -75,7 +75,7 @@ impl<'a> Model for Node<'a> {
 }
 
 impl<'a> Node<'a> {
-    /// A node that starts, and the Join with which it asks to be listed; refused for want of memory alone (E63).
+    /// A node that starts, and the Join with which it asks to be listed; refused only when out of memory (E63).
     pub fn start(
         alloc: Global,
         job: &'a Job,

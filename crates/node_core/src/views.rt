@@ -47,7 +47,7 @@ pub struct SubView {
 
 impl<'a> Node<'a> {
     /// The work that comes after so many others, from the deepest level on and in a level the newest first; none where fewer
-    /// frames are ready. Refused for want of memory alone (E63).
+    /// frames are ready. Refused only when out of memory (E63).
     pub fn ready_at(&self, alloc: Global, index: usize) -> Result<Option<Work>, NodeError>
         ensures work { IfOk result (λ o. o ≡ views.work_at self.now.node self.now.posts index) }
         ensures memory { IfErr result (λ e. e ≡ Memory) }
@@ -65,7 +65,7 @@ impl<'a> Node<'a> {
     }
 
     /// The subcomputations that it holds, by rising grant, each with its state: those of a node that leaves are frozen for its heir.
-    /// Refused for want of memory alone (E63).
+    /// Refused only when out of memory (E63).
     pub fn subs(&self, alloc: Global) -> Result<Listed<SubView>, NodeError>
         ensures subs { IfOk result (λ s. s ≡ map (views.view_of (views.heir_of self.now.node.state)) self.now.node.subs) }
         ensures memory { IfErr result (λ e. e ≡ Memory) }

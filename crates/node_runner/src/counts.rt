@@ -16,6 +16,7 @@ pub(crate) enum End {
 #[derive(Drop)]
 pub(crate) struct Counts {
     limit: u64,
+    threads: AtomicU64,
     turns: AtomicU64,
     events: AtomicU64,
     bodies: AtomicU64,
@@ -34,11 +35,22 @@ impl Counts {
     pub(crate) fn new(limit: u64) -> Counts {
         Counts {
             limit,
+            threads: AtomicU64::new(0),
             turns: AtomicU64::new(0),
             events: AtomicU64::new(0),
             bodies: AtomicU64::new(0),
             end: AtomicU64::new(0),
         }
+    }
+
+    /// One more thread is there.
+    pub(crate) fn appears(&self) {
+        let _ = self.threads.fetch_add(1, SeqCst);
+    }
+
+    /// How many threads are there, or were.
+    pub(crate) fn threads(&self) -> u64 {
+        self.threads.load(SeqCst)
     }
 
     /// Takes a turn; whether there was one left, and the run hasn't ended.

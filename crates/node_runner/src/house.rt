@@ -15,7 +15,7 @@ use event_script::{Event, HouseEvent};
 use std::alloc::Global;
 use std::sync::Wait;
 use std::time::Clock;
-use world_steps::Told;
+use world_steps::EventAnswer;
 
 /// How many events are committed between two ticks of the clearinghouse, and how far the moment goes with each.
 const TICK: u64 = 100;
@@ -138,8 +138,8 @@ fn goes_on<'a, R: Wait, G: Gate + Sync>(
 }
 
 /// The number of a refusal after which the clearinghouse can't go on.
-fn refused(told: Told) -> Option<u8> {
-    let Told::House(Some(error), _, _) = told else {
+fn refused(told: EventAnswer) -> Option<u8> {
+    let EventAnswer::House(Some(error), _, _) = told else {
         return None;
     };
     match error {

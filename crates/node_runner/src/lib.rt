@@ -39,6 +39,7 @@ mod house;
 mod inbox;
 mod line;
 mod members;
+mod muster;
 mod node;
 mod pace;
 mod plans;

@@ -19,7 +19,7 @@ use std::alloc::Global;
 use std::sync::Wait;
 use std::thread::yield_now;
 use std::time::Clock;
-use world_steps::Told;
+use world_steps::EventAnswer;
 
 /// After how many turns in a row with nothing done a node sends again, at first and at most.
 const PATIENCE: u64 = 16;
@@ -272,7 +272,7 @@ fn does<'a, R: Wait, G: Gate + Sync>(
     seat: &mut ActorSeat<'a>,
     node: &mut Node,
     event: NodeEvent,
-) -> Option<Told>
+) -> Option<EventAnswer>
     requires { IsSeatIn shared.now.chronicle.now seat.old }
     ensures { IsSeatIn shared.entry.now.chronicle.now seat.new }
 {
@@ -301,7 +301,7 @@ fn departs<'a, R: Wait, G: Gate + Sync>(
     desk.takes_back();
     node.may_be_ready = true;
     match does(rt, shared, seat, node, NodeEvent::Depart(heir)) {
-        Some(Told::Did(_, _)) => {
+        Some(EventAnswer::Did(_, _)) => {
             node.leaves = true;
             true
         }
@@ -335,11 +335,11 @@ fn sends_again<'a, R: Wait, G: Gate + Sync>(
     };
     (node.rested, node.patience) = (rested, patience);
     match told {
-        Told::Refused(NodeError::NotJoined) if node.leaves => {
+        EventAnswer::Refused(NodeError::NotJoined) if node.leaves => {
             node.is_over = true;
             true
         }
-        Told::Refused(NodeError::NotJoined) => crashes(rt, shared, seat, pen, desk, node),
+        EventAnswer::Refused(NodeError::NotJoined) => crashes(rt, shared, seat, pen, desk, node),
         _ => true,
     }
 }
@@ -360,7 +360,7 @@ fn delivers<'a, R: Wait, G: Gate + Sync>(
         return false;
     };
     node.has_asked = false;
-    if let Told::Did(_, _) = told {
+    if let EventAnswer::Did(_, _) = told {
         node.members.take(alloc, &arrived.bytes);
     }
     true
@@ -434,7 +434,7 @@ fn asks<'a, R: Wait + Clock, G: Gate + Sync>(
     node.pauses = pauses(node.dry);
     let told = does(rt, shared, seat, node, NodeEvent::Ask(victim))?;
     node.has_asked = match told {
-        Told::Did(_, _) | Told::Refused(NodeError::Pending) => true,
+        EventAnswer::Did(_, _) | EventAnswer::Refused(NodeError::Pending) => true,
         _ => false,
     };
     Some(node.has_asked)
@@ -454,8 +454,8 @@ impl Node {
     }
 
     /// What was told of an event of the node: where it did something, a frame may be ready, and it is patient again.
-    fn notes(&mut self, told: Told) {
-        if let Told::Did(_, _) = told {
+    fn notes(&mut self, told: EventAnswer) {
+        if let EventAnswer::Did(_, _) = told {
             self.may_be_ready = true;
             self.rested = 0;
             self.idle = 0;

@@ -11,6 +11,7 @@ use crate::crew::{ActorContext, WorkerContext, contexts};
 use crate::error::RunError;
 use crate::gate::Gate;
 use crate::house::run_house;
+use crate::muster::musters;
 use crate::node::run_node;
 use crate::pace::Pace;
 use crate::shared::Shared;
@@ -36,9 +37,9 @@ pub struct Ran {
 /// Runs a job on as many nodes as the configuration says, each on a thread of its own and with as many body workers as it says, each on
 /// another, with a clearinghouse on one more, under the faults that it says. The outcome is the job's meaning; the trace is a safe history of the job, and tells this outcome first.
 ///
-/// Refused as `TurnsSpent` (E95) where all turns were taken before there was an outcome, as `Memory` (E96) where there is no memory, and as
-/// `Disk` (E97) where the clearinghouse can't go on. Each loop turn of an actor counts as one, and so does each question to the gate that
-/// it doesn't answer by yes.
+/// Refused as `TurnsSpent` (E95) where all turns were taken before there was an outcome, as `Memory` (E96) where there is no memory or a
+/// thread can't be made, and as `Disk` (E97) where the clearinghouse can't go on. Each loop turn of an actor counts as one, and so does each
+/// question to the gate that it doesn't answer by yes.
 pub fn run_job<'a, R: Threads + Wait + Clock + Sync, G: Gate + Sync>(
     rt: &R,
     alloc: Global,
@@ -60,7 +61,7 @@ pub fn run_job<'a, R: Threads + Wait + Clock + Sync, G: Gate + Sync>(
     }
 }
 
-/// The trace of a run. Refused for want of memory alone.
+/// The trace of a run. Refused only when out of memory.
 fn traced<'a, R: Threads + Wait + Clock + Sync, G: Gate + Sync>(
     rt: &R,
     alloc: Global,
@@ -192,6 +193,9 @@ fn act<'a, R: Wait + Clock, G: Gate + Sync>(
     ensures { IsSeatIn shared.entry.now.chronicle.now result }
 {
     let ActorContext { seat, node } = context;
+    if !musters(rt, shared) {
+        return seat;
+    }
     let number = seat.actor();
     if number == 0 {
         return run_house(rt, alloc, shared, seat);

@@ -7,6 +7,7 @@ use crate::crew::WorkerContext;
 use crate::desk::Ticket;
 use crate::gate::Gate;
 use crate::line::Line;
+use crate::muster::musters;
 use crate::resting::{YIELDS, rest};
 use crate::shared::Shared;
 use crate::turn::{Evaluated, Finished};
@@ -28,6 +29,9 @@ pub(crate) fn run_worker<R: Wait + Clock, G: Gate + Sync>(
 )
     requires { IsLineOf shared.now.chronicle.now.job.program context.line }
 {
+    if !musters(rt, shared) {
+        return;
+    }
     let WorkerContext {
         mut worker,
         mut line,

@@ -244,7 +244,7 @@ impl Parts {
         self.state = State::Leaving(roster, heir);
     }
 
-    /// Notes that a thief has its grant, in the place of the one before; refused for want of memory alone, which changes nothing.
+    /// Notes that a thief has its grant, in the place of the one before; refused only when out of memory, which changes nothing.
     pub fn confirm(&mut self, confirmed: Confirmed) -> Result<(), AllocError>
         ensures ok { OnOk result (self.new ≡ with_posts (record self.old.node { confirmed = put_confirmed confirmed self.old.node.confirmed }) [] self.old.posts) }
         ensures err { OnErr result (self.new ≡ self.old) }
@@ -261,7 +261,7 @@ impl Parts {
     }
 
     /// Keeps a roster, as a member's, carries out the recovery by it that was planned, and forgets a pending request whose victim
-    /// isn't live by what is said of it; refused for want of memory alone, which changes nothing.
+    /// isn't live by what is said of it; refused only when out of memory, which changes nothing.
     pub fn recover(
         &mut self,
         roster: Roster,
@@ -286,7 +286,7 @@ impl Parts {
     }
 
     /// Takes what an Offer of a grant handed on at a hop, which is nothing where a recovery dropped it, and whose frames are
-    /// `ready`; refused for want of memory alone, which changes nothing.
+    /// `ready`; refused only when out of memory, which changes nothing.
     pub fn accept(
         &mut self,
         grant: GrantId,
@@ -337,7 +337,7 @@ impl Parts {
         self.asker.clear();
     }
 
-    /// Keeps an answer to a thief; refused for want of memory alone, which changes nothing.
+    /// Keeps an answer to a thief; refused only when out of memory, which changes nothing.
     pub fn answer(&mut self, reply: Reply) -> Result<(), AllocError>
         ensures ok { OnOk result (self.new ≡ with_posts (record self.old.node { replies = put_reply reply self.old.node.replies }) [] self.old.posts) }
         ensures err { OnErr result (self.new ≡ self.old) }
@@ -347,7 +347,7 @@ impl Parts {
     }
 
     /// Makes a change that was prepared of the subcomputation that a member holds under a grant, where it stands, and posts the
-    /// frames that became ready in it; refused for want of memory alone, which changes nothing.
+    /// frames that became ready in it; refused only when out of memory, which changes nothing.
     pub fn update(
         &mut self,
         grant: GrantId,
@@ -376,7 +376,7 @@ impl Parts {
     }
 
     /// Gives a ready frame away of the subcomputation that a member holds under a grant, where it stands, under the next number: its
-    /// record stands in its place. Keeps the answer to the thief. Refused for want of memory alone, which changes nothing.
+    /// record stands in its place. Keeps the answer to the thief. Refused only when out of memory, which changes nothing.
     pub fn give(&mut self, grant: GrantId, opened: Record, reply: Reply) -> Result<(), AllocError>
         requires { MayOpenIn self.old.node grant opened }
         ensures ok { (s : SubOf) → sub_in grant self.old.node.subs ≡ Some s → OnOk result (self.new ≡ with_posts (record self.old.node { minted = self.old.node.minted + 1; subs = put_sub (opened_sub opened s) self.old.node.subs; replies = put_reply reply self.old.node.replies }) [] self.old.posts) }
@@ -392,7 +392,7 @@ impl Parts {
     }
 
     /// Takes a subcomputation, under a grant that was never taken here, whose frames are `ready`: it answers the pending
-    /// request; refused for want of memory alone, which changes nothing.
+    /// request; refused only when out of memory, which changes nothing.
     pub fn take(&mut self, sub: Sub, ready: &[Readied]) -> Result<(), AllocError>
         requires member { IsMember self.old.node.state }
         requires never { hop_in sub.grant self.old.node.seen ≡ None }
@@ -508,7 +508,7 @@ fn post_in(grant: GrantId, ready: Readied) -> Post
     }
 }
 
-/// Posts frames of a grant's subcomputation that became ready, behind the others; refused for want of memory alone, which changes
+/// Posts frames of a grant's subcomputation that became ready, behind the others; refused only when out of memory, which changes
 /// nothing.
 fn post_ready(posts: &mut Posts, grant: GrantId, ready: &[Readied]) -> Result<(), AllocError>
     requires { IsByLevel posts.old }
@@ -583,7 +583,7 @@ fn withdraw_stale(posts: &mut Posts, subs: &Store<Sub>)
     posts.retain(&StillReady { subs })
 }
 
-/// Puts a subcomputation under its grant, and remembers with which hop it came, where it never did; want of memory changes
+/// Puts a subcomputation under its grant, and remembers with which hop it came, where it never did; running out of memory changes
 /// neither.
 fn hold(subs: &mut Store<Sub>, seen: &mut Store<Seen>, sub: Sub) -> Result<(), AllocError>
     requires { hop_in sub.grant seen.old ≡ None }
@@ -603,7 +603,7 @@ fn hold(subs: &mut Store<Sub>, seen: &mut Store<Seen>, sub: Sub) -> Result<(), A
     Ok(())
 }
 
-/// Puts what comes of an Offer under its grant, and remembers with which hop it came; want of memory changes neither.
+/// Puts what comes of an Offer under its grant, and remembers with which hop it came; running out of memory changes neither.
 fn note(
     subs: &mut Store<Sub>,
     seen: &mut Store<Seen>,
@@ -627,7 +627,7 @@ fn note(
     Ok(())
 }
 
-/// Opens a record in the subcomputation of a grant, in the place of its frame, and keeps the answer to a thief; want of memory changes
+/// Opens a record in the subcomputation of a grant, in the place of its frame, and keeps the answer to a thief; running out of memory changes
 /// neither. Where the thief has an answer, its place takes no memory; else the answer is forgotten again.
 fn open_and_answer(
     subs: &mut Store<Sub>,

@@ -3,3 +3,4 @@ pub mod FieldLaws
 pub mod Loop
 pub mod Writing
 pub mod Fitting
+pub mod Skipping

@@ -26,7 +26,7 @@ abbrev pub ◌>>=◌ : {A B : Type 0} → Result A Fault → (A → Result B Fau
 (Ok x) >>= f = f x
 (Err e) >>= f = Err e
 
--- what an error says of a reading: want of memory says nothing
+-- what an error says of a reading: being out of memory says nothing
 abbrev pub Fails : {Y : Type 0} → ReadError → Result Y Fault → Type 0
 Fails errors.Memory reading = Unit {0}
 Fails (errors.Fault f) reading = reading ≡ Err f
@@ -35,6 +35,21 @@ Fails (errors.Fault f) reading = reading ≡ Err f
 abbrev pub Gives : {X Y : Type 0} → (X → Y) → Result X ReadError → Result Y Fault → Type 0
 Gives view (Ok x) reading = reading ≡ Ok (view x)
 Gives view (Err e) reading = Fails e reading
+
+-- what was returned, seen by a view, is what reading gives
+abbrev pub Reads : {X Y : Type 0} → (X → Y) → Result X Fault → Result Y Fault → Type 0
+Reads view (Ok x) reading = reading ≡ Ok (view x)
+Reads view (Err f) reading = reading ≡ Err f
+
+-- a reading of whose value a part is kept
+abbrev pub keeping : {K X : Type 0} → (X → K) → Result (X × List ℕ) Fault → Result (K × List ℕ) Fault
+keeping part (Ok x) = Ok (part x.0, x.1)
+keeping part (Err f) = Err f
+
+-- a reading of which only the end is kept: the bytes that are left
+abbrev pub end_of : {X : Type 0} → Result (X × List ℕ) Fault → Result (List ℕ) Fault
+end_of (Ok x) = Ok x.1
+end_of (Err f) = Err f
 
 -- a number of n bytes, the highest first
 abbrev pub number : ℕ → Format ℕ

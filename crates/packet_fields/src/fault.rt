@@ -73,6 +73,17 @@ impl ReadError {
     }
 }
 
+impl From<Fault> for ReadError {
+    ghost use Rattle.std.specs.Prelude.{◌≡◌};
+    ghost use Rattle.packet_fields.specs.declared.fault.ReadError.TheVariants as errors;
+
+    ghost from_gives = { λ f e. e ≡ errors.Fault f };
+
+    fn from(fault: Fault) -> ReadError {
+        ReadError::Fault(fault)
+    }
+}
+
 impl From<AllocError> for ReadError {
     ghost use Rattle.std.specs.Prelude.{◌≡◌};
     ghost use Rattle.packet_fields.specs.declared.fault.ReadError.TheVariants.{Memory};

@@ -1,8 +1,8 @@
 ghost use Rattle.std.specs.Prelude.{◌≡◌, length, nat_eq};
-ghost use Rattle.packet_fields.specs.Format.{Gives, number};
+ghost use Rattle.packet_fields.specs.Format.{Reads, number};
 ghost use Rattle.packet_fields.specs.Fields as field;
 
-use crate::fault::{Fault, ReadError};
+use crate::fault::Fault;
 use byteorder::{BigEndian, ByteOrder};
 use std::alloc::Global;
 use std::marker::Model;
@@ -50,11 +50,11 @@ impl<'a> Input<'a> {
     }
 
     /// The next byte.
-    pub fn byte(&mut self) -> Result<u8, ReadError>
-        ensures { Gives (λ x. (x, self.new)) result ((number 1).read self.old) }
+    pub fn byte(&mut self) -> Result<u8, Fault>
+        ensures { Reads (λ x. (x, self.new)) result ((number 1).read self.old) }
     {
         if self.rest.is_empty() {
-            return Err(ReadError::Fault(Fault::Short));
+            return Err(Fault::Short);
         }
         let value = self.rest[0];
         self.rest = &self.rest[1..];
@@ -62,11 +62,11 @@ impl<'a> Input<'a> {
     }
 
     /// A number of two bytes.
-    pub fn u16(&mut self) -> Result<u16, ReadError>
-        ensures { Gives (λ x. (x, self.new)) result ((number 2).read self.old) }
+    pub fn u16(&mut self) -> Result<u16, Fault>
+        ensures { Reads (λ x. (x, self.new)) result ((number 2).read self.old) }
     {
         if self.rest.len() < 2 {
-            return Err(ReadError::Fault(Fault::Short));
+            return Err(Fault::Short);
         }
         let value = BigEndian::read_u16(self.rest);
         self.rest = &self.rest[2..];
@@ -74,11 +74,11 @@ impl<'a> Input<'a> {
     }
 
     /// A number of four bytes.
-    pub fn u32(&mut self) -> Result<u32, ReadError>
-        ensures { Gives (λ x. (x, self.new)) result ((number 4).read self.old) }
+    pub fn u32(&mut self) -> Result<u32, Fault>
+        ensures { Reads (λ x. (x, self.new)) result ((number 4).read self.old) }
     {
         if self.rest.len() < 4 {
-            return Err(ReadError::Fault(Fault::Short));
+            return Err(Fault::Short);
         }
         let value = BigEndian::read_u32(self.rest);
         self.rest = &self.rest[4..];
@@ -86,11 +86,11 @@ impl<'a> Input<'a> {
     }
 
     /// A number of eight bytes.
-    pub fn u64(&mut self) -> Result<u64, ReadError>
-        ensures { Gives (λ x. (x, self.new)) result ((number 8).read self.old) }
+    pub fn u64(&mut self) -> Result<u64, Fault>
+        ensures { Reads (λ x. (x, self.new)) result ((number 8).read self.old) }
     {
         if self.rest.len() < 8 {
-            return Err(ReadError::Fault(Fault::Short));
+            return Err(Fault::Short);
         }
         let value = BigEndian::read_u64(self.rest);
         self.rest = &self.rest[8..];
@@ -99,11 +99,11 @@ impl<'a> Input<'a> {
 
     /// A signed number of eight bytes.
     #[tactic(auto, unfolding(crate::specs::Fields::signed))]
-    pub fn signed(&mut self) -> Result<i64, ReadError>
-        ensures { Gives (λ x. (x, self.new)) result (field.signed.read self.old) }
+    pub fn signed(&mut self) -> Result<i64, Fault>
+        ensures { Reads (λ x. (x, self.new)) result (field.signed.read self.old) }
     {
         if self.rest.len() < 8 {
-            return Err(ReadError::Fault(Fault::Short));
+            return Err(Fault::Short);
         }
         let value = BigEndian::read_i64(self.rest);
         self.rest = &self.rest[8..];

@@ -6,6 +6,7 @@ pub mod fits;
 mod input;
 mod laws;
 pub mod read;
+pub mod skip;
 pub mod write;
 
 pub use fault::{Fault, ReadError};

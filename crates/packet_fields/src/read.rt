@@ -1,8 +1,9 @@
 //! The readers of fields. Each answers the value and leaves the bytes behind it, or answers the first fault: E31 where the
 //! bytes end inside the field, E35 where it is outside its range or out of order, E9 where there is no memory. After a
-//! refusal it is open how much was read. A reader takes memory only for what the bytes back, and for a list once.
+//! refusal it is open how much was read. Only readers of lists take memory, each for what the bytes back, and for a list
+//! once.
 ghost use Rattle.std.specs.Prelude.{◌≡◌, ◌<◌, [], ◌∷◌, nat_lt, IfOk, Some, None};
-ghost use Rattle.packet_fields.specs.Format.{Gives, checked, items, number, plain};
+ghost use Rattle.packet_fields.specs.Format.{Gives, Reads, checked, items, number, plain};
 ghost use Rattle.packet_fields.specs.Fields as field;
 
 use crate::fault::{Fault, ReadError};
@@ -47,55 +48,55 @@ fn with_room<T>(count: usize, least: usize, input: &Input<'_>) -> Result<Listed<
 
 /// A worker's incarnation.
 #[tactic(auto, unfolding(crate::specs::Fields::worker))]
-pub fn worker(input: &mut Input<'_>) -> Result<Incarnation, ReadError>
-    ensures { Gives (λ x. (x, input.new)) result (field.worker.read input.old) }
+pub fn worker(input: &mut Input<'_>) -> Result<Incarnation, Fault>
+    ensures { Reads (λ x. (x, input.new)) result (field.worker.read input.old) }
 {
     let word = input.u64()?;
-    Incarnation::worker(word).ok_or(ReadError::Fault(Fault::Field))
+    Incarnation::worker(word).ok_or(Fault::Field)
 }
 
 /// A worker other than `own`.
-pub fn other_worker(own: &Incarnation, input: &mut Input<'_>) -> Result<Incarnation, ReadError>
-    ensures { Gives (λ x. (x, input.new)) result ((field.other_worker own.now).read input.old) }
+pub fn other_worker(own: &Incarnation, input: &mut Input<'_>) -> Result<Incarnation, Fault>
+    ensures { Reads (λ x. (x, input.new)) result ((field.other_worker own.now).read input.old) }
 {
     let heir = worker(input)?;
     if heir.word() == own.word() {
-        return Err(ReadError::Fault(Fault::Field));
+        return Err(Fault::Field);
     }
     Ok(heir)
 }
 
 /// An epoch of the clearinghouse.
 #[tactic(auto, unfolding(crate::specs::Fields::epoch))]
-pub fn epoch(input: &mut Input<'_>) -> Result<Epoch, ReadError>
-    ensures { Gives (λ x. (x, input.new)) result (field.epoch.read input.old) }
+pub fn epoch(input: &mut Input<'_>) -> Result<Epoch, Fault>
+    ensures { Reads (λ x. (x, input.new)) result (field.epoch.read input.old) }
 {
     let number = input.u64()?;
-    Epoch::of(number).ok_or(ReadError::Fault(Fault::Field))
+    Epoch::of(number).ok_or(Fault::Field)
 }
 
 /// A worker, or the clearinghouse in an epoch.
 #[tactic(auto, unfolding(crate::specs::Fields::actor))]
-pub fn actor(input: &mut Input<'_>) -> Result<Actor, ReadError>
-    ensures { Gives (λ x. (x, input.new)) result (field.actor.read input.old) }
+pub fn actor(input: &mut Input<'_>) -> Result<Actor, Fault>
+    ensures { Reads (λ x. (x, input.new)) result (field.actor.read input.old) }
 {
     let word = input.u64()?;
-    Actor::of(word).ok_or(ReadError::Fault(Fault::Field))
+    Actor::of(word).ok_or(Fault::Field)
 }
 
 /// A number counted from 1.
 #[tactic(auto, unfolding(crate::specs::Fields::counted))]
-pub fn counted(input: &mut Input<'_>) -> Result<Count, ReadError>
-    ensures { Gives (λ x. (x, input.new)) result (field.counted.read input.old) }
+pub fn counted(input: &mut Input<'_>) -> Result<Count, Fault>
+    ensures { Reads (λ x. (x, input.new)) result (field.counted.read input.old) }
 {
     let number = input.u64()?;
-    Count::of(number).ok_or(ReadError::Fault(Fault::Field))
+    Count::of(number).ok_or(Fault::Field)
 }
 
 /// How often a grant moved; 0 for one that never did.
 #[tactic(auto, unfolding(crate::specs::Fields::hop))]
-pub fn hop(input: &mut Input<'_>) -> Result<Hop, ReadError>
-    ensures { Gives (λ x. (x, input.new)) result (field.hop.read input.old) }
+pub fn hop(input: &mut Input<'_>) -> Result<Hop, Fault>
+    ensures { Reads (λ x. (x, input.new)) result (field.hop.read input.old) }
 {
     let moves = input.u32()?;
     Ok(Hop::of(moves))
@@ -103,56 +104,56 @@ pub fn hop(input: &mut Input<'_>) -> Result<Hop, ReadError>
 
 /// The hop of an offer, at least 1.
 #[tactic(auto, unfolding(crate::specs::Fields::raised))]
-pub fn raised(input: &mut Input<'_>) -> Result<Hop, ReadError>
-    ensures { Gives (λ x. (x, input.new)) result (field.raised.read input.old) }
+pub fn raised(input: &mut Input<'_>) -> Result<Hop, Fault>
+    ensures { Reads (λ x. (x, input.new)) result (field.raised.read input.old) }
 {
     let count = input.u32()?;
     if count == 0 {
-        return Err(ReadError::Fault(Fault::Field));
+        return Err(Fault::Field);
     }
     Ok(Hop::of(count))
 }
 
 /// The number of the next frame, at least 1.
 #[tactic(auto, unfolding(crate::specs::Fields::raised))]
-pub fn next_frame(input: &mut Input<'_>) -> Result<FrameNo, ReadError>
-    ensures { Gives (λ x. (x, input.new)) result (field.raised.read input.old) }
+pub fn next_frame(input: &mut Input<'_>) -> Result<FrameNo, Fault>
+    ensures { Reads (λ x. (x, input.new)) result (field.raised.read input.old) }
 {
     let number = input.u32()?;
     if number == 0 {
-        return Err(ReadError::Fault(Fault::Field));
+        return Err(Fault::Field);
     }
     Ok(FrameNo::of(number))
 }
 
 /// The number of a frame, below the next one.
-pub fn below(next: &FrameNo, input: &mut Input<'_>) -> Result<FrameNo, ReadError>
-    ensures { Gives (λ x. (x, input.new)) result ((field.below next.now).read input.old) }
+pub fn below(next: &FrameNo, input: &mut Input<'_>) -> Result<FrameNo, Fault>
+    ensures { Reads (λ x. (x, input.new)) result ((field.below next.now).read input.old) }
 {
     let number = input.u32()?;
     if number >= next.number() {
-        return Err(ReadError::Fault(Fault::Field));
+        return Err(Fault::Field);
     }
     Ok(FrameNo::of(number))
 }
 
 /// The name of a grant.
 #[tactic(auto, unfolding(crate::specs::Fields::grant))]
-pub fn grant(input: &mut Input<'_>) -> Result<GrantId, ReadError>
-    ensures { Gives (λ x. (x, input.new)) result (field.grant.read input.old) }
+pub fn grant(input: &mut Input<'_>) -> Result<GrantId, Fault>
+    ensures { Reads (λ x. (x, input.new)) result (field.grant.read input.old) }
 {
     let minter = actor(input)?;
     let number = counted(input)?;
-    GrantId::of(minter, number.number()).ok_or(ReadError::Fault(Fault::Field))
+    GrantId::of(minter, number.number()).ok_or(Fault::Field)
 }
 
 #[tactic(auto, unfolding(crate::specs::Fields::step))]
-fn step(input: &mut Input<'_>) -> Result<u8, ReadError>
-    ensures { Gives (λ x. (x, input.new)) result (field.step.read input.old) }
+pub(crate) fn step(input: &mut Input<'_>) -> Result<u8, Fault>
+    ensures { Reads (λ x. (x, input.new)) result (field.step.read input.old) }
 {
     let step = input.byte()?;
     if step > LAST_STEP {
-        return Err(ReadError::Fault(Fault::Field));
+        return Err(Fault::Field);
     }
     Ok(step)
 }
@@ -183,12 +184,12 @@ pub fn place(input: &mut Input<'_>) -> Result<Place, ReadError>
 
 /// The number of a thread, below 64.
 #[tactic(auto, unfolding(crate::specs::Fields::thread))]
-pub fn thread(input: &mut Input<'_>) -> Result<u8, ReadError>
-    ensures { Gives (λ x. (x, input.new)) result (field.thread.read input.old) }
+pub fn thread(input: &mut Input<'_>) -> Result<u8, Fault>
+    ensures { Reads (λ x. (x, input.new)) result (field.thread.read input.old) }
 {
     let thread = input.byte()?;
     if thread >= MOST_THREADS {
-        return Err(ReadError::Fault(Fault::Field));
+        return Err(Fault::Field);
     }
     Ok(thread)
 }
@@ -228,20 +229,20 @@ pub fn task(input: &mut Input<'_>) -> Result<Task, ReadError>
     })
 }
 
-fn outcome_of(tag: u8, input: &mut Input<'_>) -> Result<Outcome, ReadError>
-    ensures { Gives (λ x. (x, input.new)) result ((field.outcome_arm tag).read input.old) }
+fn outcome_of(tag: u8, input: &mut Input<'_>) -> Result<Outcome, Fault>
+    ensures { Reads (λ x. (x, input.new)) result ((field.outcome_arm tag).read input.old) }
 {
     match tag {
         1 => Ok(Outcome::Value(input.signed()?)),
         2 => Ok(Outcome::TooDeep),
-        _ => Err(ReadError::Fault(Fault::Field)),
+        _ => Err(Fault::Field),
     }
 }
 
 /// An outcome.
 #[tactic(auto, unfolding(crate::specs::Fields::outcome))]
-pub fn outcome(input: &mut Input<'_>) -> Result<Outcome, ReadError>
-    ensures { Gives (λ x. (x, input.new)) result (field.outcome.read input.old) }
+pub fn outcome(input: &mut Input<'_>) -> Result<Outcome, Fault>
+    ensures { Reads (λ x. (x, input.new)) result (field.outcome.read input.old) }
 {
     let tag = input.byte()?;
     let outcome = outcome_of(tag, input)?;
@@ -250,8 +251,8 @@ pub fn outcome(input: &mut Input<'_>) -> Result<Outcome, ReadError>
 
 /// How far a subcomputation is.
 #[tactic(auto, unfolding(crate::specs::Fields::progress))]
-pub fn progress(input: &mut Input<'_>) -> Result<Progress, ReadError>
-    ensures { Gives (λ x. (x, input.new)) result (field.progress.read input.old) }
+pub fn progress(input: &mut Input<'_>) -> Result<Progress, Fault>
+    ensures { Reads (λ x. (x, input.new)) result (field.progress.read input.old) }
 {
     let tag = input.byte()?;
     if tag == 0 {
@@ -262,13 +263,13 @@ pub fn progress(input: &mut Input<'_>) -> Result<Progress, ReadError>
 }
 
 #[tactic(auto, unfolding(crate::specs::Fields::slot))]
-fn slot(input: &mut Input<'_>) -> Result<Option<i64>, ReadError>
-    ensures { Gives (λ x. (x, input.new)) result (field.slot.read input.old) }
+pub(crate) fn slot(input: &mut Input<'_>) -> Result<Option<i64>, Fault>
+    ensures { Reads (λ x. (x, input.new)) result (field.slot.read input.old) }
 {
     match input.byte()? {
         0 => Ok(None),
         1 => Ok(Some(input.signed()?)),
-        _ => Err(ReadError::Fault(Fault::Field)),
+        _ => Err(Fault::Field),
     }
 }
 
@@ -297,8 +298,8 @@ pub fn slots(input: &mut Input<'_>) -> Result<Listed<Option<i64>>, ReadError>
 
 /// Where a value goes, in a subcomputation with this next frame.
 #[tactic(auto, unfolding(crate::specs::Fields::goes_to))]
-pub fn goes_to(next: &FrameNo, input: &mut Input<'_>) -> Result<Return, ReadError>
-    ensures { Gives (λ x. (x, input.new)) result ((field.goes_to next.now).read input.old) }
+pub fn goes_to(next: &FrameNo, input: &mut Input<'_>) -> Result<Return, Fault>
+    ensures { Reads (λ x. (x, input.new)) result ((field.goes_to next.now).read input.old) }
 {
     match input.byte()? {
         0 => Ok(Return::Whole),
@@ -306,36 +307,47 @@ pub fn goes_to(next: &FrameNo, input: &mut Input<'_>) -> Result<Return, ReadErro
             let frame = below(next, input)?;
             let slot = input.byte()?;
             if slot >= MOST_SLOTS {
-                return Err(ReadError::Fault(Fault::Field));
+                return Err(Fault::Field);
             }
             Ok(Return::Local(frame, slot))
         }
-        _ => Err(ReadError::Fault(Fault::Field)),
+        _ => Err(Fault::Field),
     }
 }
 
 #[tactic(auto, unfolding(crate::specs::Fields::status))]
-fn status(own: &Incarnation, input: &mut Input<'_>) -> Result<Status, ReadError>
-    ensures { Gives (λ x. (x, input.new)) result ((field.status own.now).read input.old) }
+pub(crate) fn status(own: &Incarnation, input: &mut Input<'_>) -> Result<Status, Fault>
+    ensures { Reads (λ x. (x, input.new)) result ((field.status own.now).read input.old) }
 {
     match input.byte()? {
         0 => Ok(Status::Live),
         1 => Ok(Status::Dead),
         2 => Ok(Status::Left(other_worker(own, input)?)),
-        _ => Err(ReadError::Fault(Fault::Field)),
+        _ => Err(Fault::Field),
     }
 }
 
-#[tactic(auto, unfolding(crate::specs::Fields::member))]
-fn member(last: Option<Incarnation>, input: &mut Input<'_>) -> Result<Member, ReadError>
-    ensures { Gives (λ x. (x, input.new)) result ((field.member last).read input.old) }
+/// A worker's incarnation behind the last one.
+pub(crate) fn worker_behind(
+    last: Option<Incarnation>,
+    input: &mut Input<'_>,
+) -> Result<Incarnation, Fault>
+    ensures { Reads (λ x. (x, input.new)) result ((checked field.worker (field.is_above last)).read input.old) }
 {
     let incarnation = worker(input)?;
     if let Some(last) = last {
         if incarnation.word() <= last.word() {
-            return Err(ReadError::Fault(Fault::Field));
+            return Err(Fault::Field);
         }
     }
+    Ok(incarnation)
+}
+
+#[tactic(auto, unfolding(crate::specs::Fields::member))]
+fn member(last: Option<Incarnation>, input: &mut Input<'_>) -> Result<Member, Fault>
+    ensures { Reads (λ x. (x, input.new)) result ((field.member last).read input.old) }
+{
+    let incarnation = worker_behind(last, input)?;
     let status = status(&incarnation, input)?;
     Ok(Member {
         incarnation,
@@ -374,18 +386,29 @@ pub fn members(input: &mut Input<'_>) -> Result<Listed<Member>, ReadError>
     members_of(count, input)
 }
 
-#[tactic(auto, unfolding(crate::specs::Fields::frame))]
-fn frame(next: &FrameNo, last: Option<FrameNo>, input: &mut Input<'_>) -> Result<Frame, ReadError>
-    ensures { Gives (λ x. (x, input.new)) result ((field.frame next.now last).read input.old) }
+/// The number of a frame, below the next one and above the last one.
+pub(crate) fn number_behind(
+    next: &FrameNo,
+    last: Option<FrameNo>,
+    input: &mut Input<'_>,
+) -> Result<FrameNo, Fault>
+    ensures { Reads (λ x. (x, input.new)) result ((checked (field.below next.now) (field.is_above last)).read input.old) }
 {
     let number = below(next, input)?;
     if let Some(last) = last {
         if number.number() <= last.number() {
-            return Err(ReadError::Fault(Fault::Field));
+            return Err(Fault::Field);
         }
     }
+    Ok(number)
+}
+
+#[tactic(auto, unfolding(crate::specs::Fields::frame))]
+fn frame(next: &FrameNo, last: Option<FrameNo>, input: &mut Input<'_>) -> Result<Frame, ReadError>
+    ensures { Gives (λ x. (x, input.new)) result ((field.frame next.now last).read input.old) }
+{
     Ok(Frame {
-        number,
+        number: number_behind(next, last, input)?,
         place: place(input)?,
         thread: thread(input)?,
         slots: slots(input)?,
@@ -407,12 +430,12 @@ fn frames_of(next: &FrameNo, count: u32, input: &mut Input<'_>) -> Result<Listed
 }
 
 /// The count of a finished subcomputation's frames or records is 0.
-fn count(progress: &Progress, input: &mut Input<'_>) -> Result<u32, ReadError>
-    ensures { Gives (λ x. (x, input.new)) result ((checked (number 4) (field.allows progress.now)).read input.old) }
+pub(crate) fn count(progress: &Progress, input: &mut Input<'_>) -> Result<u32, Fault>
+    ensures { Reads (λ x. (x, input.new)) result ((checked (number 4) (field.allows progress.now)).read input.old) }
 {
     let count = input.u32()?;
     match progress {
-        Progress::Finished(_) if count != 0 => Err(ReadError::Fault(Fault::Field)),
+        Progress::Finished(_) if count != 0 => Err(Fault::Field),
         _ => Ok(count),
     }
 }
@@ -430,18 +453,25 @@ pub fn frames(
     frames_of(next, count, input)
 }
 
-#[tactic(auto, unfolding(crate::specs::Fields::stolen))]
-fn stolen(next: &FrameNo, last: Option<GrantId>, input: &mut Input<'_>) -> Result<Record, ReadError>
-    ensures { Gives (λ x. (x, input.new)) result ((field.stolen next.now last).read input.old) }
+/// The name of a grant behind the last one.
+pub(crate) fn grant_behind(last: Option<GrantId>, input: &mut Input<'_>) -> Result<GrantId, Fault>
+    ensures { Reads (λ x. (x, input.new)) result ((checked field.grant (field.is_behind last)).read input.old) }
 {
     let grant = grant(input)?;
     if let Some(last) = last {
         if !last.is_before(grant) {
-            return Err(ReadError::Fault(Fault::Field));
+            return Err(Fault::Field);
         }
     }
+    Ok(grant)
+}
+
+#[tactic(auto, unfolding(crate::specs::Fields::stolen))]
+fn stolen(next: &FrameNo, last: Option<GrantId>, input: &mut Input<'_>) -> Result<Record, ReadError>
+    ensures { Gives (λ x. (x, input.new)) result ((field.stolen next.now last).read input.old) }
+{
     Ok(Record {
-        grant,
+        grant: grant_behind(last, input)?,
         holder: worker(input)?,
         frame: below(next, input)?,
         task: task(input)?,

@@ -1,4 +1,4 @@
-//! The writers of fields. Each adds the bytes of a value behind those already there. A refusal is want of memory alone, and
+//! The writers of fields. Each adds the bytes of a value behind those already there. Being out of memory is the only refusal, and
 //! then it is open how much was added.
 ghost use Rattle.std.specs.Prelude.{◌≡◌, ◌++◌, ℕ, OnOk, Option, None};
 ghost use Rattle.std.specs.List.{flat_map};

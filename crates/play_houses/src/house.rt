@@ -23,7 +23,7 @@ pub struct Desk {
     pub is_brief: bool,
 }
 
-/// Writes a refusal. One for want of memory stops the clearinghouse, and ends the transcript.
+/// Writes a refusal. One when out of memory stops the clearinghouse, and ends the transcript.
 fn write_refused<O: Write>(
     refused: HouseError,
     is_planned: bool,

@@ -93,7 +93,7 @@ impl Setting {
         }
     }
 
-    /// The program that is set; read once more behind a refusal for want of memory.
+    /// The program that is set; read once more behind a refusal when out of memory.
     fn program<O: Write>(&self, alloc: Global, out: &mut O) -> Result<Option<Checked>, Ended> {
         for _ in 0..2 {
             match accepted(alloc, self.text.as_str()) {

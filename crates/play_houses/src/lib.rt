@@ -28,7 +28,7 @@
 //! words behind its number; `ignored`, for a packet that was ignored; `nothing`, where it sends nothing. Of more than 1,000
 //! bytes the count is shown, and of a packet the kind. Behind an opening that is refused the disk is bare.
 //!
-//! Want of memory is a failure of the device (E72), or stops the clearinghouse (E9), and leaves what these leave. So no call is
+//! Being out of memory is a failure of the device (E72), or stops the clearinghouse (E9), and leaves what these leave. So no call is
 //! made again: where the transcript planned no failure, it ends with it.
 #![tactic(auto)]
 

@@ -35,7 +35,7 @@
 //!   victim, and `asker clear`.
 //! - `replies keep THIEF SEQ PACKET` and `replies hear THIEF SEQ`.
 //!
-//! A refusal is answered by its number and offset. Behind E9, for want of memory, the same call is made once more.
+//! A refusal is answered by its number and offset. Behind E9, when out of memory, the same call is made once more.
 #![tactic(auto)]
 
 mod calls;

@@ -55,7 +55,7 @@ impl Setting {
         }
     }
 
-    /// A program is set. Behind a refusal for want of memory it is read once more.
+    /// A program is set. Behind a refusal when out of memory it is read once more.
     pub fn program<O: Write>(
         &mut self,
         alloc: Global,

@@ -21,7 +21,7 @@
 //!
 //! A call answers each packet that it sends, in words behind its number, and then each value that came to a slot; `ignored`,
 //! for a packet that was ignored; `nothing`, where it neither sends nor fills; `nothing ready`, where `run` finds no frame; or the
-//! number of its refusal. Behind E63 or E9, for want of memory, the same call is made once more.
+//! number of its refusal. Behind E63 or E9, when out of memory, the same call is made once more.
 #![tactic(auto)]
 
 mod job;

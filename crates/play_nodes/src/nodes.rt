@@ -37,7 +37,7 @@ fn player_of(players: &mut Vec<Player>, word: u64) -> Option<&mut Player> {
     players.get_mut(at)
 }
 
-/// A worker starts; once more behind a refusal, which is for want of memory.
+/// A worker starts; once more behind a refusal, which is when out of memory.
 fn started<O: Write>(
     alloc: Global,
     job: &'static Job,
@@ -53,7 +53,7 @@ fn started<O: Write>(
     Ok(None)
 }
 
-/// A packet's bytes; once more behind a refusal for want of memory. None where it is too big.
+/// A packet's bytes; once more behind a refusal when out of memory. None where it is too big.
 fn spelled<O: Write>(
     alloc: Global,
     packet: &Packet,
@@ -73,7 +73,7 @@ fn spelled<O: Write>(
     Ok(None)
 }
 
-/// The work behind so many others; once more behind a refusal, which is for want of memory. Whether there is any.
+/// The work behind so many others; once more behind a refusal, which is when out of memory. Whether there is any.
 fn write_ready<O: Write>(
     alloc: Global,
     player: &Player,
@@ -93,7 +93,7 @@ fn write_ready<O: Write>(
     Ok(false)
 }
 
-/// What a node holds; once more behind a refusal, which is for want of memory.
+/// What a node holds; once more behind a refusal, which is when out of memory.
 fn write_subs<O: Write>(alloc: Global, player: &Player, out: &mut O) -> Result<(), Ended> {
     for _ in 0..2 {
         match player.subs(alloc) {
@@ -297,7 +297,7 @@ impl Nodes {
         }
     }
 
-    /// A call of a worker's node, where the words name one; once more behind a refusal for want of memory.
+    /// A call of a worker's node, where the words name one; once more behind a refusal when out of memory.
     fn call<O: Write>(
         &mut self,
         alloc: Global,

@@ -18,7 +18,7 @@
 //! - `beginnings` counts the beginnings of the kept bytes that end inside a field, and shows each other one.
 //! - `part AT COUNT` shows so many of the kept bytes from AT on.
 //!
-//! Behind E9, for want of memory, the same call is made once more.
+//! Behind E9, when out of memory, the same call is made once more.
 #![tactic(auto)]
 
 mod calls;

@@ -18,7 +18,7 @@ fn bytes_of(alloc: Global, text: &str) -> Result<Vec<u8>, AllocError> {
     Ok(bytes)
 }
 
-/// The next event; once more behind a refusal, which is for want of memory.
+/// The next event; once more behind a refusal, which is when out of memory.
 fn next_event<O: Write>(
     alloc: Global,
     script: &mut Script<'_>,
@@ -33,7 +33,7 @@ fn next_event<O: Write>(
     Ok(None)
 }
 
-/// Writes an event's line; once more behind a refusal, which is for want of memory.
+/// Writes an event's line; once more behind a refusal, which is when out of memory.
 fn write_event<O: Write>(alloc: Global, event: &Event, out: &mut O) -> Result<(), Ended> {
     for _ in 0..2 {
         match line(alloc, event) {

@@ -26,7 +26,7 @@ pub enum ReplayFault {
 }
 
 impl ReplayFault {
-    /// The status that a program ends with: 1 for a text, an input or a script that is refused, 3 for want of memory, 4 for a
+    /// The status that a program ends with: 1 for a text, an input or a script that is refused, 3 when out of memory, 4 for a
     /// file.
     pub fn status(self) -> u8
         ensures { result ≡ status_of self }

@@ -8,7 +8,7 @@ use codec::{Body, Roster, decode};
 use event_script::{Event, HouseEvent, NodePlace};
 use ids::{Outcome, Status};
 use std::alloc::Global;
-use world::{Told, Watch, World};
+use world::{EventAnswer, Watch, World};
 
 /// The error of a device call that failed, which stops the clearinghouse.
 const DEVICE: u8 = 72;
@@ -47,7 +47,7 @@ pub struct Recorder {
 }
 
 impl Watch for Recorder {
-    fn sees(&mut self, alloc: Global, event: &Event, told: Told, world: &World<'_>) {
+    fn sees(&mut self, alloc: Global, event: &Event, told: EventAnswer, world: &World<'_>) {
         if self.is_whole && self.take(alloc, event, told, world).is_err() {
             self.is_whole = false;
         }
@@ -85,7 +85,7 @@ impl Recorder {
         &mut self,
         alloc: Global,
         event: &Event,
-        told: Told,
+        told: EventAnswer,
         world: &World<'_>,
     ) -> Result<(), Lost> {
         let at = self.steps.len();
@@ -124,13 +124,13 @@ impl Recorder {
     }
 
     /// What came of an event.
-    fn effect_of(&self, deed: &Deed, told: &Told) -> Effect {
+    fn effect_of(&self, deed: &Deed, told: &EventAnswer) -> Effect {
         match *told {
-            Told::Unfit => Effect::Nothing,
-            Told::Ignored => Effect::Ignored,
-            Told::Refused(error) => Effect::Refused(error.number()),
-            Told::Did(_, _) => Effect::Done,
-            Told::House(refused, _, _) => match refused {
+            EventAnswer::Unfit => Effect::Nothing,
+            EventAnswer::Ignored => Effect::Ignored,
+            EventAnswer::Refused(error) => Effect::Refused(error.number()),
+            EventAnswer::Did(_, _) => Effect::Done,
+            EventAnswer::House(refused, _, _) => match refused {
                 _ if !self.reaches_house(deed) => Effect::Nothing,
                 Some(error) => Effect::Refused(error.number()),
                 None => Effect::Done,
@@ -311,8 +311,8 @@ impl Recorder {
     }
 
     /// The outcome is recorded, if it is so for the first time.
-    fn commit(&mut self, at: usize, told: Told) {
-        if let (Told::House(_, _, Some(outcome)), None) = (told, self.outcome) {
+    fn commit(&mut self, at: usize, told: EventAnswer) {
+        if let (EventAnswer::House(_, _, Some(outcome)), None) = (told, self.outcome) {
             self.outcome = Some((at, outcome));
         }
     }

@@ -22,7 +22,7 @@ use Rattle.run_tables.proofs.Among.{got}
 use Rattle.node_moves.proofs.Changing.{exec_ready_shown}
 use Rattle.node_moves.proofs.Resending.{resend_shown}
 use Rattle.node_moves.proofs.Table.{ask_shown, depart_shown, packet_shown}
-use Rattle.world_steps.specs.Answers.{Outturn, Unfit, answered, same, stepped, with_some}
+use Rattle.world_steps.specs.Answers.{StepResult, Unfit, answered, same, stepped, with_some}
 use Rattle.world_steps.specs.Nodes.{at_node, grant_of, starts, victim_of}
 use Rattle.world_steps.specs.Runs.{CanBegin, Entry, Runs, ends, goes}
 use Rattle.world_steps.specs.Steps.{HouseEnds, HouseHalts, IsCut, Step, ThenCut, ThenStopped, house_crash, settled_by}
@@ -44,7 +44,7 @@ use Rattle.safe_runs.proofs.Stepping.{answered_tied}
 
 -- with what is there, or nothing happens
 module _ (job : JobOf) (base : View) (w : WorldOf) (tied : TiedSince job base w) where
-  with_there : {A : Type 0} (o : Option A) (f : A → Outturn) → ((a : A) → o ≡ Some a → TiedSince job base (f a).world) → TiedSince job base (with_some o w f).world
+  with_there : {A : Type 0} (o : Option A) (f : A → StepResult) → ((a : A) → o ≡ Some a → TiedSince job base (f a).world) → TiedSince job base (with_some o w f).world
   unfolding with_some
   with_there None f all = tied
   with_there (Some a) f all = all a refl
@@ -82,21 +82,21 @@ module _ (job : JobOf) (base : View) (w : WorldOf) (tied : TiedSince job base w)
   falls_tied (IsUp state) is = shut_tied job base w tied Down (record w.disk { file = settled w.disk.file [] }) is_down (λ n r k. settled_keeps w.disk.file [] n r k)
 
   -- a call of the disk fails, and the clearinghouse is stopped
-  stopped_tied : (e : HouseEvent) (k : ℕ) (bytes : List ℕ) (o : Outturn) → ThenStopped (HouseHalts job e w.house k bytes w) o → TiedSince job base o.world
+  stopped_tied : (e : HouseEvent) (k : ℕ) (bytes : List ℕ) (o : StepResult) → ThenStopped (HouseHalts job e w.house k bytes w) o → TiedSince job base o.world
   stopped_tied e k bytes o (before, halts, is) = rw is (shut_tied job base before.world (house_halts job base w tied e w.house refl k bytes before halts) (IsUp (Stopped by.Device)) before.world.disk (is_stopped by.Device) (λ n r kept. kept))
 
   -- an event ends, and then what isn't synced settles
-  ended_tied : (c : CutOf) (o : Outturn) → ThenCut c.bytes (HouseEnds job c.event w.house w) o → TiedSince job base o.world
+  ended_tied : (c : CutOf) (o : StepResult) → ThenCut c.bytes (HouseEnds job c.event w.house w) o → TiedSince job base o.world
   ended_tied c o (before, done, is) =
       rw is (shut_tied job base before.world (house_ends job base w tied c.event w.house refl before done) (IsUp (Stopped by.Device)) (settled_by c.bytes before.world.disk) (is_stopped by.Device) (λ m r kept. settled_keeps before.world.disk.file c.bytes m r kept))
 
-  cut_tied : (c : CutOf) (o : Outturn) → IsCut job c w o → TiedSince job base o.world
+  cut_tied : (c : CutOf) (o : StepResult) → IsCut job c w o → TiedSince job base o.world
   cut_tied c o (inl (none, is)) = rw is tied
   cut_tied c o (inr (can, applies, inl (n, makes, few, cut))) = ended_tied c o cut
   cut_tied c o (inr (can, applies, inr halts)) = stopped_tied c.event c.calls c.bytes o halts
 
   -- an event that is carried out, or in which a call fails
-  pub step_tied : (e : Event) (o : Outturn) → Step job e w o → TiedSince job base o.world
+  pub step_tied : (e : Event) (o : StepResult) → Step job e w o → TiedSince job base o.world
   step_tied (Start a word) o (inl e) = rw e (starts_tied a word)
   step_tied (AtNode a e) o (inl x) = rw (x.2) (with_there (node_in a w.nodes) (λ n. at_node job x.0 a e n w) (λ n there. at_node_tied a n there x.0 e))
   step_tied (Crash a) o (inl e) = rw e (with_there (node_in a w.nodes) _ (λ n there. gone_tied job base tied.view w tied.run tied.since tied.shown a n there))

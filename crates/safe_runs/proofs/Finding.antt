@@ -17,7 +17,7 @@ use Rattle.event_script.specs.declared.event.Event.TheVariants.{Start, AtNode, C
 use Rattle.event_script.specs.declared.event.HouseEvent.{HouseEvent}
 use Rattle.event_script.specs.declared.event.HouseEvent.TheVariants.{Deliver, Tick, Restart}
 use Rattle.run_tables.specs.Tables.{◌∈◌}
-use Rattle.world_steps.specs.Answers.{Answer, Outturn, Unfit, Ignored, Refused, Did, House}
+use Rattle.world_steps.specs.Answers.{Answer, StepResult, Unfit, Ignored, Refused, Did, House}
 use Rattle.world_steps.specs.Houses.{IsRefusedAs, RestartHalts, Restarts}
 use Rattle.world_steps.specs.Runs.{Entry, Runs, ends, goes}
 use Rattle.world_steps.specs.Steps.{DeviceFails, HouseEnds, HouseHalts, IsCut, Step, stopped_answer}
@@ -52,54 +52,54 @@ module _ (job : JobOf) (w : WorldOf) (tied : Tied job w) where
   refused_finds e (inl (s, refused, is)) = rw is (not_refused s refused)
   refused_finds e (inr (spent, is)) = rw is refl
 
-  restart_finds : (o : Outturn) → Restarts job w o → FindsItsStore o.answer
+  restart_finds : (o : StepResult) → Restarts job w o → FindsItsStore o.answer
   restart_finds o (inl (way, is)) = rw is refl
   restart_finds o (inr (e, refused, is)) = rw is (refused_finds e refused)
 
-  halted_finds : (k : ℕ) (bytes : List ℕ) (o : Outturn) → RestartHalts job k bytes w o → FindsItsStore o.answer
+  halted_finds : (k : ℕ) (bytes : List ℕ) (o : StepResult) → RestartHalts job k bytes w o → FindsItsStore o.answer
   halted_finds k bytes o (calls, why, within, is) = rw is refl
 
   -- an opening that ends, wherever the clearinghouse stands, and one in which a call of the disk fails
-  ends_find : (x : HouseAt) (o : Outturn) → HouseEnds job Restart x w o → FindsItsStore o.answer
+  ends_find : (x : HouseAt) (o : StepResult) → HouseEnds job Restart x w o → FindsItsStore o.answer
   ends_find Down o ended = restart_finds o ended
   ends_find (IsUp (Stopped s)) o ended = restart_finds o ended
   ends_find (IsUp (Open h)) o same = rw same refl
 
-  halts_find : (x : HouseAt) (k : ℕ) (bytes : List ℕ) (o : Outturn) → HouseHalts job Restart x k bytes w o → FindsItsStore o.answer
+  halts_find : (x : HouseAt) (k : ℕ) (bytes : List ℕ) (o : StepResult) → HouseHalts job Restart x k bytes w o → FindsItsStore o.answer
   halts_find Down k bytes o halts = halted_finds k bytes o halts
   halts_find (IsUp (Stopped s)) k bytes o halts = halted_finds k bytes o halts
   halts_find (IsUp (Open h)) k bytes o never = absurd never
 
   -- a Cut of an opening
-  cut_finds : (c : CutOf) (o : Outturn) → c.event ≡ Restart → IsCut job c w o → FindsItsStore o.answer
+  cut_finds : (c : CutOf) (o : StepResult) → c.event ≡ Restart → IsCut job c w o → FindsItsStore o.answer
   cut_finds c o is (inl (unfit, same)) = rw same refl
   cut_finds c o is (inr (can, applies, inl (n, makes, few, (before, ended, after)))) =
       rw after (stopped_finds before.answer (ends_find w.house before (subst (λ (e : HouseEvent). HouseEnds job e w.house w before) is ended)))
   cut_finds c o is (inr (can, applies, inr (before, halts, after))) =
       rw after (stopped_finds before.answer (halts_find w.house c.calls c.bytes before (subst (λ (e : HouseEvent). HouseHalts job e w.house c.calls c.bytes w before) is halts)))
 
-  at_house : (e : HouseEvent) (o : Outturn) → HouseEnds job e w.house w o → FindsAt e o.answer
+  at_house : (e : HouseEvent) (o : StepResult) → HouseEnds job e w.house w o → FindsAt e o.answer
   at_house (Deliver i) o ended = tt
   at_house (Tick now) o ended = tt
   at_house Restart o ended = ends_find w.house o ended
 
-  at_house_fails : (e : HouseEvent) (k : ℕ) (bytes : List ℕ) (o : Outturn) → HouseHalts job e w.house k bytes w o → FindsAt e o.answer
+  at_house_fails : (e : HouseEvent) (k : ℕ) (bytes : List ℕ) (o : StepResult) → HouseHalts job e w.house k bytes w o → FindsAt e o.answer
   at_house_fails (Deliver i) k bytes o halts = tt
   at_house_fails (Tick now) k bytes o halts = tt
   at_house_fails Restart k bytes o halts = halts_find w.house k bytes o halts
 
-  at_cut : (c : CutOf) (o : Outturn) (e : HouseEvent) → c.event ≡ e → IsCut job c w o → FindsAt e o.answer
+  at_cut : (c : CutOf) (o : StepResult) (e : HouseEvent) → c.event ≡ e → IsCut job c w o → FindsAt e o.answer
   at_cut c o (Deliver i) is cut = tt
   at_cut c o (Tick now) is cut = tt
   at_cut c o Restart is cut = cut_finds c o is cut
 
-  at_cut_fails : (c : CutOf) (o : Outturn) (e : HouseEvent) → c.event ≡ e → DeviceFails job (Cut c) w o → FindsAt e o.answer
+  at_cut_fails : (c : CutOf) (o : StepResult) (e : HouseEvent) → c.event ≡ e → DeviceFails job (Cut c) w o → FindsAt e o.answer
   at_cut_fails c o (Deliver i) is fails = tt
   at_cut_fails c o (Tick now) is fails = tt
   at_cut_fails c o Restart is (can, opens, some, (before, halts, after)) =
       rw after (stopped_finds before.answer (halts_find w.house 0 c.bytes before (subst (λ (e : HouseEvent). HouseHalts job e w.house 0 c.bytes w before) is halts)))
 
-  step_finds : (e : Event) (o : Outturn) → Step job e w o → OpeningFinds e o.answer
+  step_finds : (e : Event) (o : StepResult) → Step job e w o → OpeningFinds e o.answer
   step_finds (Start p word) o step = tt
   step_finds (AtNode p e) o step = tt
   step_finds (Crash p) o step = tt

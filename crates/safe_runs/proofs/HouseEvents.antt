@@ -19,7 +19,7 @@ use Rattle.run_tables.proofs.Among.{got}
 use Rattle.house_moves.specs.Steps.{HouseAnswerShown, HouseStepShown}
 use Rattle.house_moves.proofs.Moments.{passes_shown}
 use Rattle.house_moves.proofs.Table.{packet_shown}
-use Rattle.world_steps.specs.Answers.{Outturn, house_same}
+use Rattle.world_steps.specs.Answers.{StepResult, house_same}
 use Rattle.world_steps.specs.Houses.{Ends, Halts, Opens, RestartHalts, Restarts, calls_of, halted, made}
 use Rattle.world_steps.specs.Steps.{HouseEnds, HouseHalts}
 use Rattle.world_steps.specs.World.{Down, HouseAt, IsUp, WorldOf}
@@ -45,12 +45,12 @@ module _ (job : JobOf) (base : View) (w : WorldOf) (tied : TiedSince job base w)
   packet_promises p h (house.Does s) e = packet_keeps job p h s e
 
   module _ (h : HouseOf) (is : w.house ≡ IsUp (Open h)) where
-    ends_tied : (a : house.Answer) → HouseAnswerShown job v h a → Promises h a → (o : Outturn) → Ends job h a w o → TiedSince job base o.world
+    ends_tied : (a : house.Answer) → HouseAnswerShown job v h a → Promises h a → (o : StepResult) → Ends job h a w o → TiedSince job base o.world
     ends_tied house.Ignored step keeps o e = rw e tied
     ends_tied (house.Refused f) step keeps o e = rw e tied
     ends_tied (house.Does s) step keeps o e = rw (e.2) (stepped_tied job base v w tied.run tied.since tied.shown h is s step keeps.holds keeps.commits e.0 e.1)
 
-    halts_tied : (a : house.Answer) → HouseAnswerShown job v h a → Promises h a → (k : ℕ) (bytes : List ℕ) (o : Outturn) → Halts job h a k bytes w o → TiedSince job base o.world
+    halts_tied : (a : house.Answer) → HouseAnswerShown job v h a → Promises h a → (k : ℕ) (bytes : List ℕ) (o : StepResult) → Halts job h a k bytes w o → TiedSince job base o.world
     halts_tied house.Ignored step keeps k bytes o e = absurd e
     halts_tied (house.Refused f) step keeps k bytes o e = absurd e
     halts_tied (house.Does s) step keeps k bytes o e = rw (e.3) (halted_tied job base v w tied.run tied.since tied.shown h is s step keeps.holds keeps.commits e.0 k bytes by.Device e.1 e.2)
@@ -61,7 +61,7 @@ module _ (job : JobOf) (base : View) (w : WorldOf) (tied : TiedSince job base w)
     moment_here : (now : ℕ) → HouseStepShown job v h (passes job now h)
     moment_here now = passes_shown job v tied.run h (own job base v w tied.run tied.since tied.shown h is).shown now
 
-    open_ends : (e : HouseEvent) (o : Outturn) → HouseEnds job e (IsUp (Open h)) w o → TiedSince job base o.world
+    open_ends : (e : HouseEvent) (o : StepResult) → HouseEnds job e (IsUp (Open h)) w o → TiedSince job base o.world
     open_ends (Deliver i) o ends = by_packet (slice_get w.net i) refl
       where
         by_packet : (q : Option PacketOf) → slice_get w.net i ≡ q → TiedSince job base o.world
@@ -70,7 +70,7 @@ module _ (job : JobOf) (base : View) (w : WorldOf) (tied : TiedSince job base w)
     open_ends (Tick now) o ends = ends_tied (house.Does (passes job now h)) (moment_here now) (moment_keeps job now h) o ends
     open_ends Restart o ends = rw ends tied
 
-    open_halts : (e : HouseEvent) (k : ℕ) (bytes : List ℕ) (o : Outturn) → HouseHalts job e (IsUp (Open h)) k bytes w o → TiedSince job base o.world
+    open_halts : (e : HouseEvent) (k : ℕ) (bytes : List ℕ) (o : StepResult) → HouseHalts job e (IsUp (Open h)) k bytes w o → TiedSince job base o.world
     open_halts (Deliver i) k bytes o halts = by_packet (slice_get w.net i) refl
       where
         by_packet : (q : Option PacketOf) → slice_get w.net i ≡ q → TiedSince job base o.world
@@ -88,14 +88,14 @@ module _ (job : JobOf) (base : View) (w : WorldOf) (tied : TiedSince job base w)
         by_shut _ is_down c = c
         by_shut _ (is_stopped s) c = c
 
-    restarts_tied : (o : Outturn) → Restarts job w o → TiedSince job base o.world
+    restarts_tied : (o : StepResult) → Restarts job w o → TiedSince job base o.world
     restarts_tied o (inl (way, e)) = rw e (opened_tied job base v w tied.run tied.since tied.shown closed way)
     restarts_tied o (inr (f, refused, e)) = rw e (rw_house (shut_tied job base w tied house (made w.disk opening) shut (λ n r k. read_keeps w.disk n r k)))
       where
         rw_house : TiedSince job base (record w { house = house; disk = made w.disk opening }) → TiedSince job base (record w { disk = made w.disk opening })
         rw_house t = subst (λ (x : HouseAt). TiedSince job base (record w { house = x; disk = made w.disk opening })) (sym is) t
 
-    restart_halts_tied : (k : ℕ) (bytes : List ℕ) (o : Outturn) → RestartHalts job k bytes w o → TiedSince job base o.world
+    restart_halts_tied : (k : ℕ) (bytes : List ℕ) (o : StepResult) → RestartHalts job k bytes w o → TiedSince job base o.world
     restart_halts_tied k bytes o (calls, why, within, e) = rw e (by_calls why)
       where
         stops : (d : Device) → DiskShown job v d Down → TiedSince job base (record w { house = IsUp (Stopped by.Device); disk = d; net = w.net ++ [] })
@@ -106,7 +106,7 @@ module _ (job : JobOf) (base : View) (w : WorldOf) (tied : TiedSince job base w)
         by_calls (inr (way, opens)) = stops (halted w.disk calls k bytes) (let some : k < length (calls_of way) = rw opens at within in rw opens (half_opened job base v w tied.run tied.since tied.shown closed way k bytes some))
 
   -- an event that ends, wherever the clearinghouse stands
-  pub house_ends : (e : HouseEvent) (x : HouseAt) → w.house ≡ x → (o : Outturn) → HouseEnds job e x w o → TiedSince job base o.world
+  pub house_ends : (e : HouseEvent) (x : HouseAt) → w.house ≡ x → (o : StepResult) → HouseEnds job e x w o → TiedSince job base o.world
   house_ends e (IsUp (Open h)) is o ends = open_ends h is e o ends
   house_ends (Deliver i) (IsUp (Stopped s)) is o ends = rw ends tied
   house_ends (Tick now) (IsUp (Stopped s)) is o ends = rw ends tied
@@ -116,7 +116,7 @@ module _ (job : JobOf) (base : View) (w : WorldOf) (tied : TiedSince job base w)
   house_ends Restart Down is o ends = restarts_tied Down is is_down o ends
 
   -- one in which a call of the disk fails
-  pub house_halts : (e : HouseEvent) (x : HouseAt) → w.house ≡ x → (k : ℕ) (bytes : List ℕ) (o : Outturn) → HouseHalts job e x k bytes w o → TiedSince job base o.world
+  pub house_halts : (e : HouseEvent) (x : HouseAt) → w.house ≡ x → (k : ℕ) (bytes : List ℕ) (o : StepResult) → HouseHalts job e x k bytes w o → TiedSince job base o.world
   house_halts e (IsUp (Open h)) is k bytes o halts = open_halts h is e k bytes o halts
   house_halts (Deliver i) (IsUp (Stopped s)) is k bytes o halts = absurd halts
   house_halts (Tick now) (IsUp (Stopped s)) is k bytes o halts = absurd halts

@@ -40,7 +40,7 @@ use Rattle.actor_agreement.proofs.House.{packet_right as house_packet_right}
 use Rattle.actor_agreement.proofs.Leaving.{depart_right, resend_right}
 use Rattle.actor_agreement.proofs.Sent.{both_sent, none_sent}
 use Rattle.actor_agreement.proofs.Table.{ask_right, packet_right, start_right}
-use Rattle.world_steps.specs.Answers.{Outturn, Unfit, answered, house_same, same, stepped, with_some}
+use Rattle.world_steps.specs.Answers.{StepResult, Unfit, answered, house_same, same, stepped, with_some}
 use Rattle.world_steps.specs.Houses.{Ends, Halts, RestartHalts, Restarts, silence}
 use Rattle.world_steps.specs.Nodes.{at_node, can_start, grant_of, starts, victim_of}
 use Rattle.world_steps.specs.Safe.{filling_of}
@@ -97,7 +97,7 @@ module _ (job : JobOf) (w : WorldOf) (ok : IsJob job) (tied : Tied job w) (right
   stops_right d = housed job w right (IsUp (Stopped by.Device)) d [] tt (none_sent job)
 
   -- with what is there, or nothing happens
-  with_there : {A : Type 0} (o : Option A) (f : A → Outturn) → ((a : A) → o ≡ Some a → WorldIsRight job (f a).world) → WorldIsRight job (with_some o w f).world
+  with_there : {A : Type 0} (o : Option A) (f : A → StepResult) → ((a : A) → o ≡ Some a → WorldIsRight job (f a).world) → WorldIsRight job (with_some o w f).world
   unfolding with_some
   with_there None f all = right
   with_there (Some a) f all = all a refl
@@ -172,17 +172,17 @@ module _ (job : JobOf) (w : WorldOf) (ok : IsJob job) (tied : Tied job w) (right
   }
 
   -- what an open clearinghouse answers
-  ends_right : (h : HouseOf) (a : house.Answer) → HouseAnswerIsRight job a → (o : Outturn) → Ends job h a w o → WorldIsRight job o.world
+  ends_right : (h : HouseOf) (a : house.Answer) → HouseAnswerIsRight job a → (o : StepResult) → Ends job h a w o → WorldIsRight job o.world
   ends_right h house.Ignored k o e = rw e right
   ends_right h (house.Refused f) k o e = rw e right
   ends_right h (house.Does s) k o e = rw (e.2) (housed job w right (IsUp (Open s.after)) _ s.sent k.after k.sent)
 
-  halts_right : (h : HouseOf) (a : house.Answer) (k : ℕ) (bytes : List ℕ) (o : Outturn) → Halts job h a k bytes w o → WorldIsRight job o.world
+  halts_right : (h : HouseOf) (a : house.Answer) (k : ℕ) (bytes : List ℕ) (o : StepResult) → Halts job h a k bytes w o → WorldIsRight job o.world
   halts_right h house.Ignored k bytes o e = absurd e
   halts_right h (house.Refused f) k bytes o e = absurd e
   halts_right h (house.Does s) k bytes o e = rw (e.3) (stops_right _)
 
-  open_ends : (e : HouseEvent) (h : HouseOf) → w.house ≡ IsUp (Open h) → (o : Outturn) → HouseEnds job e (IsUp (Open h)) w o → WorldIsRight job o.world
+  open_ends : (e : HouseEvent) (h : HouseOf) → w.house ≡ IsUp (Open h) → (o : StepResult) → HouseEnds job e (IsUp (Open h)) w o → WorldIsRight job o.world
   open_ends (at_house.Deliver i) h is o ends = by_packet (slice_get w.net i) refl
     where
       by_packet : (q : Option PacketOf) → slice_get w.net i ≡ q → WorldIsRight job o.world
@@ -191,7 +191,7 @@ module _ (job : JobOf) (w : WorldOf) (ok : IsJob job) (tied : Tied job w) (right
   open_ends (at_house.Tick now) h is o ends = ends_right h (house.Does (passes job now h)) (passes_right job h (replies h is) now) o ends
   open_ends at_house.Restart h is o ends = rw ends right
 
-  open_halts : (e : HouseEvent) (h : HouseOf) (k : ℕ) (bytes : List ℕ) (o : Outturn) → HouseHalts job e (IsUp (Open h)) k bytes w o → WorldIsRight job o.world
+  open_halts : (e : HouseEvent) (h : HouseOf) (k : ℕ) (bytes : List ℕ) (o : StepResult) → HouseHalts job e (IsUp (Open h)) k bytes w o → WorldIsRight job o.world
   open_halts (at_house.Deliver i) h k bytes o halts = by_packet (slice_get w.net i) refl
     where
       by_packet : (q : Option PacketOf) → slice_get w.net i ≡ q → WorldIsRight job o.world
@@ -201,14 +201,14 @@ module _ (job : JobOf) (w : WorldOf) (ok : IsJob job) (tied : Tied job w) (right
   open_halts at_house.Restart h k bytes o halts = absurd halts
 
   -- an opening begins with no answers
-  restarts_right : (o : Outturn) → Restarts job w o → WorldIsRight job o.world
+  restarts_right : (o : StepResult) → Restarts job w o → WorldIsRight job o.world
   restarts_right o (inl (way, e)) = rw e (housed job w right (IsUp (Open (begins silence (next_epoch (kept_in way.sequence way.found))).after)) _ [] (λ r m. absurd m) (none_sent job))
   restarts_right o (inr (f, refused, e)) = rw e (shut job w right w.house _ right.house)
 
-  restart_halts_right : (k : ℕ) (bytes : List ℕ) (o : Outturn) → RestartHalts job k bytes w o → WorldIsRight job o.world
+  restart_halts_right : (k : ℕ) (bytes : List ℕ) (o : StepResult) → RestartHalts job k bytes w o → WorldIsRight job o.world
   restart_halts_right k bytes o (calls, why, within, e) = rw e (stops_right _)
 
-  house_ends : (e : HouseEvent) (x : HouseAt) → w.house ≡ x → (o : Outturn) → HouseEnds job e x w o → WorldIsRight job o.world
+  house_ends : (e : HouseEvent) (x : HouseAt) → w.house ≡ x → (o : StepResult) → HouseEnds job e x w o → WorldIsRight job o.world
   house_ends e (IsUp (Open h)) is o ends = open_ends e h is o ends
   house_ends (at_house.Deliver i) (IsUp (Stopped s)) is o ends = rw ends right
   house_ends (at_house.Tick now) (IsUp (Stopped s)) is o ends = rw ends right
@@ -217,7 +217,7 @@ module _ (job : JobOf) (w : WorldOf) (ok : IsJob job) (tied : Tied job w) (right
   house_ends (at_house.Tick now) Down is o ends = rw ends right
   house_ends at_house.Restart Down is o ends = restarts_right o ends
 
-  house_halts : (e : HouseEvent) (x : HouseAt) (k : ℕ) (bytes : List ℕ) (o : Outturn) → HouseHalts job e x k bytes w o → WorldIsRight job o.world
+  house_halts : (e : HouseEvent) (x : HouseAt) (k : ℕ) (bytes : List ℕ) (o : StepResult) → HouseHalts job e x k bytes w o → WorldIsRight job o.world
   house_halts e (IsUp (Open h)) k bytes o halts = open_halts e h k bytes o halts
   house_halts (at_house.Deliver i) (IsUp (Stopped s)) k bytes o halts = absurd halts
   house_halts (at_house.Tick now) (IsUp (Stopped s)) k bytes o halts = absurd halts
@@ -231,18 +231,18 @@ module _ (job : JobOf) (w : WorldOf) (ok : IsJob job) (tied : Tied job w) (right
   falls_right (IsUp state) = shut job w right Down _ tt
 
   -- a Cut
-  stopped_right : (e : HouseEvent) (k : ℕ) (bytes : List ℕ) (o : Outturn) → ThenStopped (HouseHalts job e w.house k bytes w) o → WorldIsRight job o.world
+  stopped_right : (e : HouseEvent) (k : ℕ) (bytes : List ℕ) (o : StepResult) → ThenStopped (HouseHalts job e w.house k bytes w) o → WorldIsRight job o.world
   stopped_right e k bytes o (before, halts, is) = rw is (shut job before.world (house_halts e w.house k bytes before halts) (IsUp (Stopped by.Device)) before.world.disk tt)
 
-  ended_right : (c : CutOf) (o : Outturn) → ThenCut c.bytes (HouseEnds job c.event w.house w) o → WorldIsRight job o.world
+  ended_right : (c : CutOf) (o : StepResult) → ThenCut c.bytes (HouseEnds job c.event w.house w) o → WorldIsRight job o.world
   ended_right c o (before, done, is) = rw is (shut job before.world (house_ends c.event w.house refl before done) (IsUp (Stopped by.Device)) (settled_by c.bytes before.world.disk) tt)
 
-  cut_right : (c : CutOf) (o : Outturn) → IsCut job c w o → WorldIsRight job o.world
+  cut_right : (c : CutOf) (o : StepResult) → IsCut job c w o → WorldIsRight job o.world
   cut_right c o (inl (none, is)) = rw is right
   cut_right c o (inr (can, applies, inl (n, makes, few, cut))) = ended_right c o cut
   cut_right c o (inr (can, applies, inr halts)) = stopped_right c.event c.calls c.bytes o halts
 
-  pub step_right : (e : Event) (o : Outturn) → Step job e w o → WorldIsRight job o.world
+  pub step_right : (e : Event) (o : StepResult) → Step job e w o → WorldIsRight job o.world
   step_right (Start a word) o (inl e) = rw e (starts_right a word)
   step_right (AtNode a e) o (inl x) = rw (x.2) (with_there (node_in a w.nodes) (λ n. at_node job x.0 a e n w) (λ n there. at_node_right a n there x.0 e))
   step_right (Crash a) o (inl e) = rw e (with_there (node_in a w.nodes) _ (λ n there. crashes_right a))

@@ -5,7 +5,7 @@ ghost use Rattle.agreement.specs.Agreement.{IsReceived};
 ghost use Rattle.node_core.specs.declared.parts.Fill.{Fill};
 ghost use Rattle.event_script.specs.declared.event.Event.{Event};
 ghost use Rattle.world_steps.specs.Agrees.{Agrees};
-ghost use Rattle.world_steps.specs.Answers.{Outturn};
+ghost use Rattle.world_steps.specs.Answers.{StepResult};
 ghost use Rattle.world_steps.specs.Safe.{filling_of};
 ghost use Rattle.world_steps.specs.Steps.{Step};
 ghost use Rattle.world_steps.specs.World.{WorldOf, first_over};
@@ -16,7 +16,7 @@ ghost use Rattle.safe_runs.specs.Right.{WorldIsRight};
 /// Does nothing.
 pub fn steps_agree()
     ensures first { (job : JobOf) (d : Device) → WorldIsRight job (first_over d) }
-    ensures step { (job : JobOf) (w : WorldOf) (e : Event) (o : Outturn)
+    ensures step { (job : JobOf) (w : WorldOf) (e : Event) (o : StepResult)
         → IsJob job
         → Tied job w
         → WorldIsRight job w

@@ -5,7 +5,7 @@ ghost use Rattle.disk.specs.Device.{Device};
 ghost use Rattle.serial_meaning.specs.Job.{JobOf, meaning_of};
 ghost use Rattle.event_script.specs.declared.event.Event.{Event};
 ghost use Rattle.run_tables.specs.Tables.{◌∈◌};
-ghost use Rattle.world_steps.specs.Answers.{Outturn};
+ghost use Rattle.world_steps.specs.Answers.{StepResult};
 ghost use Rattle.world_steps.specs.Runs.{CanBegin, Entry, Runs};
 ghost use Rattle.world_steps.specs.Safe.{FilledOnce, Stays};
 ghost use Rattle.world_steps.specs.Steps.{Step};
@@ -17,7 +17,7 @@ ghost use Rattle.safe_runs.specs.Shown.{Tied, TiedSince};
 /// one. Does nothing.
 pub fn steps_are_moves()
     ensures first { (job : JobOf) (d : Device) → CanBegin job d → Tied job (first_over d) }
-    ensures step { (job : JobOf) (w : WorldOf) (e : Event) (o : Outturn) → (tied : Tied job w) → Step job e w o → TiedSince job tied.view o.world }
+    ensures step { (job : JobOf) (w : WorldOf) (e : Event) (o : StepResult) → (tied : Tied job w) → Step job e w o → TiedSince job tied.view o.world }
     ensures runs { (job : JobOf) (d : Device) (entries : List Entry) (worlds : List WorldOf) (v : WorldOf)
         → CanBegin job d
         → Runs job (first_over d) entries worlds

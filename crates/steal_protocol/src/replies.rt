@@ -94,7 +94,7 @@ impl Replies {
         }
     }
 
-    /// Keeps an answer in the place of the last one to its thief; refused for want of memory alone, which changes nothing.
+    /// Keeps an answer in the place of the last one to its thief; refused only when out of memory, which changes nothing.
     pub fn keep(&mut self, reply: Reply) -> Result<(), AllocError>
         ensures ok { OnOk result (self.new ≡ put_reply reply self.old) }
         ensures err { OnErr result (self.new ≡ self.old) }

@@ -9,7 +9,7 @@ use Rattle.run_tables.specs.Tables.{◌∈◌}
 use Rattle.safe_runs.proofs.Events.{first_tied}
 use Rattle.safe_runs.proofs.Finding.{openings_find}
 use Rattle.safe_runs.proofs.Sound.{all_safe, each_safe}
-use Rattle.world_steps.specs.Answers.{Outturn}
+use Rattle.world_steps.specs.Answers.{StepResult}
 use Rattle.world_steps.specs.Calls.{StarvesBehind, WorldOn}
 use Rattle.world_steps.specs.Runs.{last_of}
 use Rattle.world_steps.specs.Safe.{SafeWorld}
@@ -38,7 +38,7 @@ module _ (job : JobOf) where
   }
 
   -- an event that finds no memory
-  starved_safe : (e : Event) (w : WorldOf) (o : Outturn) → SafeWorld job w → Starves job e w o → SafeWorld job o.world
+  starved_safe : (e : Event) (w : WorldOf) (o : StepResult) → SafeWorld job w → Starves job e w o → SafeWorld job o.world
   starved_safe (Start a word) w o s (can, is) = rw is s
   starved_safe (AtNode a e) w o s (there, is) = rw is s
   starved_safe (AtHouse e) w o s (applies, is) = rw is (stopped_safe w _ s)
@@ -46,7 +46,7 @@ module _ (job : JobOf) where
   starved_safe (Crash a) w o s never = absurd never
   starved_safe HouseCrash w o s never = absurd never
 
-  behind_safe : (e : Event) (w : WorldOf) (o : Outturn) → SafeWorld job w → StarvesBehind e w o → SafeWorld job o.world
+  behind_safe : (e : Event) (w : WorldOf) (o : StepResult) → SafeWorld job w → StarvesBehind e w o → SafeWorld job o.world
   behind_safe (Start a word) w o s never = absurd never
   behind_safe (AtNode a e) w o s (up, there, is) = rw is s
   behind_safe (AtHouse e) w o s never = absurd never

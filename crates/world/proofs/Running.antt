@@ -10,7 +10,7 @@ use Rattle.event_script.specs.declared.event.Event.{Event}
 use Rattle.event_script.proofs.Lefts.{length_parts}
 use Rattle.disk.specs.Device.{Device}
 use Rattle.serial_meaning.specs.Job.{JobOf}
-use Rattle.world_steps.specs.Answers.{Outturn}
+use Rattle.world_steps.specs.Answers.{StepResult}
 use Rattle.world_steps.specs.Calls.{IsStarved, WorldOn}
 use Rattle.world_steps.specs.Runs.{Entry, IsFormattedFor, Runs, ends, goes, last_of}
 use Rattle.world_steps.specs.Steps.{Step}
@@ -34,7 +34,7 @@ pub first_under_way : (job : JobOf) (d : Device) (v : WorldOf) → IsFormattedFo
 first_under_way job d v formatted is = record { disk = d; formatted = formatted; entries = []; worlds = []; runs = ends; carried = refl; at = sym is }
 
 -- one more
-pub on_under_way : (job : JobOf) (past : List Event) (v w : WorldOf) (e : Event) (o : Outturn)
+pub on_under_way : (job : JobOf) (past : List Event) (v w : WorldOf) (e : Event) (o : StepResult)
     → IsUnderWay job past v → Step job e v o → w ≡ o.world → IsUnderWay job (past ++ e ∷ []) w
 on_under_way job past v w e o u step is =
     let x : Entry = record { event = e; answer = o.answer } in
@@ -56,16 +56,16 @@ run_stops Stops job events past done lacks e w v u front next stops =
 
 -- it finds no memory, as a step tells it
 
-pub starved_stops : (job : JobOf) (e : Event) (on : WorldOn) (o : Outturn) (v : WorldOn) → on.job ≡ job → IsStarved e on v.is_placed o → v.world ≡ o.world → StopsIn job e on.world v
+pub starved_stops : (job : JobOf) (e : Event) (on : WorldOn) (o : StepResult) (v : WorldOn) → on.job ≡ job → IsStarved e on v.is_placed o → v.world ≡ o.world → StopsIn job e on.world v
 starved_stops job e on o v same (inl s) is = (o, inl (rw (← same) s), is)
 starved_stops job e on o v same (inr s) is = (o, inr (s.1, s.2), is)
 
-pub one_starved : (job : JobOf) (events past : List Event) (done : ℕ) (lacks : NoMemory) (e : Event) (on : WorldOn) (o : Outturn) (v : WorldOn)
+pub one_starved : (job : JobOf) (events past : List Event) (done : ℕ) (lacks : NoMemory) (e : Event) (on : WorldOn) (o : StepResult) (v : WorldOn)
     → on.job ≡ job → IsUnderWay job past on.world → past ≡ take done events → slice_get events done ≡ Some e → IsStarved e on v.is_placed o → v.world ≡ o.world → IsRunTo (StopsIn job) job events done (Some lacks) v
 one_starved job events past done lacks e on o v same u front next s is = run_stops (StopsIn job) job events past done lacks e on.world v u front next (starved_stops job e on o v same s is)
 
 -- so it is of a replay
-pub script_starved : (job : JobOf) (events past : List Event) (done : ℕ) (lacks : NoMemory) (e : Event) (on : WorldOn) (o : Outturn) (v : WorldOn)
+pub script_starved : (job : JobOf) (events past : List Event) (done : ℕ) (lacks : NoMemory) (e : Event) (on : WorldOn) (o : StepResult) (v : WorldOn)
     → on.job ≡ job → IsUnderWay job past on.world → past ≡ take done events → slice_get events done ≡ Some e → IsStarved e on v.is_placed o → v.world ≡ o.world → IsRunTo (StopsReading job) job events done (Some lacks) v
 script_starved job events past done lacks e on o v same u front next s is = run_stops (StopsReading job) job events past done lacks e on.world v u front next (inl (starved_stops job e on o v same s is))
 
@@ -74,7 +74,7 @@ pub bytes_starved : (job : JobOf) (events past : List Event) (done : ℕ) (lacks
     → IsUnderWay job past w.world → past ≡ take done events → slice_get events done ≡ Some e → is_cut e ≡ true → IsRunTo (StopsReading job) job events done (Some lacks) w
 bytes_starved job events past done lacks e w u front next cut = run_stops (StopsReading job) job events past done lacks e w.world w u front next (inr (cut, refl))
 
-pub next_under_way : (job : JobOf) (past : List Event) (own : JobOf) (v w : WorldOf) (e : Event) (o : Outturn)
+pub next_under_way : (job : JobOf) (past : List Event) (own : JobOf) (v w : WorldOf) (e : Event) (o : StepResult)
     → own ≡ job → IsUnderWay job past v → Step own e v o → w ≡ o.world → IsUnderWay job (past ++ e ∷ []) w
 next_under_way job past own v w e o same u step is = on_under_way job past v w e o u (rw (← same) step) is
 
@@ -103,7 +103,7 @@ length_past past e done more is one = omega (arith, is, one, length-append past 
 
 -- a script goes on by one more event
 
-pub script_goes_on : (job own : JobOf) (text : List ℕ) (past left new : List Event) (e : Event) (done more : ℕ) (v w : WorldOf) (o : Outturn)
+pub script_goes_on : (job own : JobOf) (text : List ℕ) (past left new : List Event) (e : Event) (done more : ℕ) (v w : WorldOf) (o : StepResult)
     → own ≡ job → script text ≡ Ok (past ++ left) → length past ≡ done → IsUnderWay job past v
     → left ≡ e ∷ new → Step own e v o → w ≡ o.world → more ≡ done + 1
     → (longer : List Event) × (script text ≡ Ok (longer ++ new)) × (length longer ≡ more) × IsUnderWay job longer w

@@ -5,7 +5,7 @@ use Rattle.run_tables.specs.Tables.{◌∈◌}
 use Rattle.serial_meaning.specs.Job.{JobOf}
 use Rattle.event_script.specs.Left.{is_cut}
 use Rattle.event_script.specs.declared.event.Event.{Event}
-use Rattle.world_steps.specs.Answers.{Outturn}
+use Rattle.world_steps.specs.Answers.{StepResult}
 use Rattle.world_steps.specs.Runs.{Entry, IsFormattedFor, Runs, last_of}
 use Rattle.world_steps.specs.Steps.{Starves}
 use Rattle.world_steps.specs.World.{WorldOf, first_over}
@@ -18,7 +18,7 @@ use Rattle.safe_runs.specs.Promises.{AllSafe}
 -- an event of a run finds no memory: the world is as it was, but a clearinghouse that was to answer is stopped. An event that takes
 -- none by itself does so only for what was sent and put into slots before, and then not all of that has its place in the end
 abbrev pub StopsIn : JobOf → Event → (last : WorldOf) → (on : WorldOn) → Type 0
-StopsIn job e last on = (o : Outturn) × (Starves job e last o ⊎ ((on.is_placed ≡ false) × StarvesBehind e last o)) × (on.world ≡ o.world)
+StopsIn job e last on = (o : StepResult) × (Starves job e last o ⊎ ((on.is_placed ≡ false) × StarvesBehind e last o)) × (on.world ≡ o.world)
 
 -- in a replay the bytes of a Cut may find none too, before the Cut is an event of the world: then nothing changes
 abbrev pub StopsReading : JobOf → Event → (last : WorldOf) → (on : WorldOn) → Type 0
@@ -43,7 +43,7 @@ pub record IsRunTo (Stops : Event → (last : WorldOf) → (on : WorldOn) → Ty
 pub record IsSafeRunTo (Stops : Event → (last : WorldOf) → (on : WorldOn) → Type 0) (job : JobOf) (events : List Event) (done : ℕ) (stopped : Option NoMemory) (on : WorldOn) : Type 0 where
   pub run : IsRunTo Stops job events done stopped on
   pub safe : AllSafe job (first_over run.disk ∷ run.worlds)
-  -- and so is the one in which it ended, also where that was for want of memory
+  -- and so is the one in which it ended, also where that was when out of memory
   pub last : SafeWorld job on.world
   -- and each opening of the clearinghouse found the job's store on its disk
   pub openings : (x : Entry) → x ∈ run.entries → OpeningFinds x.event x.answer

@@ -3,7 +3,7 @@ ghost use Rattle.std.specs.Prelude.{◌≡◌, ◌+◌, ◌<◌, ◌^◌, IfErr,
 ghost use Rattle.disk.specs.Device.{Device};
 ghost use Rattle.event_script.specs.Scripts.{script};
 ghost use Rattle.event_script.specs.declared.event.Event.{Event as EventOf};
-ghost use Rattle.world_steps.specs.Answers.{Outturn};
+ghost use Rattle.world_steps.specs.Answers.{StepResult};
 ghost use Rattle.world_steps.specs.Calls.{IsStarved};
 ghost use Rattle.world_steps.specs.Runs.{IsFormattedFor};
 ghost use Rattle.world_steps.specs.Steps.{Step as StepOf};
@@ -146,8 +146,8 @@ impl<'a> RunEnd<'a> {
     fn carry_on<W: Watch>(&mut self, alloc: Global, event: &Event, watch: &mut W) -> bool
         requires { self.old.done + 1 < 2 ^ 64 }
         ensures job { self.new.world.job ≡ self.old.world.job }
-        ensures carried { result ≡ true → (o : Outturn) × StepOf self.old.world.job event.now self.old.world.world o × (self.new.world.world ≡ o.world) × (self.new.done ≡ self.old.done + 1) × (self.new.stopped ≡ self.old.stopped) }
-        ensures starved { result ≡ false → (o : Outturn) × IsStarved event.now self.old.world self.new.world.is_placed o × (self.new.world.world ≡ o.world) × (self.new.done ≡ self.old.done) × (lacks : NoMemoryOf) × (self.new.stopped ≡ Some lacks) }
+        ensures carried { result ≡ true → (o : StepResult) × StepOf self.old.world.job event.now self.old.world.world o × (self.new.world.world ≡ o.world) × (self.new.done ≡ self.old.done + 1) × (self.new.stopped ≡ self.old.stopped) }
+        ensures starved { result ≡ false → (o : StepResult) × IsStarved event.now self.old.world self.new.world.is_placed o × (self.new.world.world ≡ o.world) × (self.new.done ≡ self.old.done) × (lacks : NoMemoryOf) × (self.new.stopped ≡ Some lacks) }
     {
         match self.world.step(alloc, event, None) {
             Ok(told) => {

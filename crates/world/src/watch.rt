@@ -2,12 +2,12 @@
 
 use event_script::Event;
 use std::alloc::Global;
-use world_steps::{Told, World};
+use world_steps::{EventAnswer, World};
 
 /// Who looks on while a run goes: to tell it, to count, or to draw it. Nothing of the run hangs on it.
 pub trait Watch {
     /// An event was carried out. It sees what was told of the event, and the world after it.
-    fn sees(&mut self, alloc: Global, event: &Event, told: Told, world: &World<'_>);
+    fn sees(&mut self, alloc: Global, event: &Event, told: EventAnswer, world: &World<'_>);
 }
 
 /// Nobody looks on.
@@ -15,12 +15,12 @@ pub trait Watch {
 pub struct Unwatched;
 
 impl Watch for Unwatched {
-    fn sees(&mut self, _alloc: Global, _event: &Event, _told: Told, _world: &World<'_>) {}
+    fn sees(&mut self, _alloc: Global, _event: &Event, _told: EventAnswer, _world: &World<'_>) {}
 }
 
 /// Who looks on only where there is somebody.
 impl<W: Watch> Watch for Option<W> {
-    fn sees(&mut self, alloc: Global, event: &Event, told: Told, world: &World<'_>) {
+    fn sees(&mut self, alloc: Global, event: &Event, told: EventAnswer, world: &World<'_>) {
         if let Some(watch) = self {
             watch.sees(alloc, event, told, world);
         }
@@ -35,7 +35,7 @@ pub struct Both<A: Drop, B: Drop> {
 }
 
 impl<A: Watch + Drop, B: Watch + Drop> Watch for Both<A, B> {
-    fn sees(&mut self, alloc: Global, event: &Event, told: Told, world: &World<'_>) {
+    fn sees(&mut self, alloc: Global, event: &Event, told: EventAnswer, world: &World<'_>) {
         self.first.sees(alloc, event, told, world);
         self.second.sees(alloc, event, told, world);
     }

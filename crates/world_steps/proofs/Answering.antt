@@ -1,5 +1,5 @@
 -- What a call of an open clearinghouse answered comes to at its place, and what holds between calls holds again.
-use Rattle.std.proofs.Common.{◌≡◌, ◌⊎◌, inl, inr, ℕ, ◌+◌, ◌^◌, false, List, [], Option, None, Some, Result, Ok, Err, IfOk, OnErr, IsTrue, refl, sym, ap, subst, ◌∙◌, arith}
+use Rattle.std.proofs.Common.{◌≡◌, inl, inr, ℕ, ◌+◌, false, List, [], Option, None, Some, Result, Ok, Err, refl, sym, ap, subst, ◌∙◌, arith}
 use Rattle.codec.specs.Table.{PacketOf, reading}
 use Rattle.disk.specs.Device.{Device, stop_after}
 use Rattle.disk.specs.File.{bytes_of}
@@ -8,25 +8,21 @@ use Rattle.disk.specs.declared.memory.MemDisk.{MemDisk}
 use Rattle.checkpoint.specs.Calls.{Call, Passed, Stopped as HasStopped, after}
 use Rattle.checkpoint.specs.Commit.{IsCommit}
 use Rattle.checkpoint.specs.Store.{Opened}
-use Rattle.checkpoint.specs.declared.record.Record.{Record}
-use Rattle.serial_meaning.specs.Job.{JobOf}
 use Rattle.clearinghouse.specs.Calls.{on_bytes, passes, tick}
 use Rattle.clearinghouse.specs.Cases.{on_packet, on_read}
 use Rattle.clearinghouse.proofs.Keeping.{moment_keeps, packet_keeps}
-use Rattle.clearinghouse.specs.House.{HouseOf, Kept, State, Open, Stopped, kept_of}
+use Rattle.clearinghouse.specs.House.{HouseOf, Kept, Open, Stopped, kept_of}
 use Rattle.clearinghouse.specs.Laws.{Commits, Keeps}
-use Rattle.clearinghouse.specs.Meeting.{Carries, Committed, Fails, FailsToCommit, Halted, HouseOn, IsHouseOn, IsOpen, Meets, Stores, record_of}
+use Rattle.clearinghouse.specs.Meeting.{Carries, Committed, Fails, FailsToCommit, HouseOn, IsHouseOn, IsOpen, Meets, Stores, record_of}
 use Rattle.clearinghouse.specs.Steps.{Answer as HouseAnswer, StepOf, Ignored, Refused, Does}
 use Rattle.clearinghouse.specs.declared.error.HouseError.{HouseError}
 use Rattle.clearinghouse.specs.declared.error.HouseError.TheVariants as error
 use Rattle.clearinghouse.specs.declared.parts.HouseStep.{HouseStep}
 use Rattle.clearinghouse.specs.declared.parts.Stop.TheVariants as by
-use Rattle.world_steps.specs.Coming.{AnswerComes, Answered, GoesBy, IsReply, Lacks, Stays, StepComes, StopsBy, replying, seat_up}
+use Rattle.world_steps.specs.Coming.{AnswerComes, Answered, IsReply, Stays, replying, seat_up}
 use Rattle.world_steps.specs.Houses.{MakesCalls}
-use Rattle.world_steps.specs.Seats.{SeatOf}
-use Rattle.world_steps.specs.World.{IsUp}
 use Rattle.world_steps.specs.declared.parts.NoMemory.{NoMemory}
-use Rattle.world_steps.specs.declared.seat.Reply.{Reply}
+use Rattle.world_steps.specs.declared.seat.HouseReply.{HouseReply}
 
 abbrev pub planned : MemDisk → ℕ → Option (List ℕ)
 planned m = stop_after (device_of m).arming
@@ -146,7 +142,7 @@ module _ (h : HouseOf) (old : HouseOn MemDisk) (is : IsOpen old.job old.store h)
       stores_at None stores = stores
       stores_at (Some k) stores = stores
 
-  answered : (a : HouseAnswer) (result : Result HouseStep HouseError) (reply : Result Reply NoMemory) (new : HouseOn MemDisk) → ((s : StepOf) → a ≡ Does s → Keeps h s) → Meets device_of planned a result old new → IsReply result reply → Answered h a reply old new
+  answered : (a : HouseAnswer) (result : Result HouseStep HouseError) (reply : Result HouseReply NoMemory) (new : HouseOn MemDisk) → ((s : StepOf) → a ≡ Does s → Keeps h s) → Meets device_of planned a result old new → IsReply result reply → Answered h a reply old new
   answered a (Ok step) reply new keeps meets replies = subst (λ r. Answered h a r old new) (sym replies) (told a step new keeps meets)
   answered a (Err error.Memory) (Ok r) new keeps meets replies = absurd replies
   answered a (Err error.Memory) (Err lacks) new keeps meets replies = lacked a lacks new meets
@@ -159,12 +155,12 @@ module _ (h : HouseOf) (old : HouseOn MemDisk) (is : IsOpen old.job old.store h)
   answered a (Err error.RosterFull) reply new keeps meets replies = subst (λ r. Answered h a r old new) (sym replies) (was_refused error.RosterFull a new meets.0 meets.1)
 
 -- so it is with each clearinghouse of which what holds between calls holds
-pub answered_by : (h : HouseOf) (old new : HouseOn MemDisk) (a : HouseAnswer) (result : Result HouseStep HouseError) (reply : Result Reply NoMemory) → IsHouseOn old old.state → old.state ≡ Open h → ((s : StepOf) → a ≡ Does s → Keeps h s) → Meets device_of planned a result old new → IsReply result reply → Answered h a reply old new
+pub answered_by : (h : HouseOf) (old new : HouseOn MemDisk) (a : HouseAnswer) (result : Result HouseStep HouseError) (reply : Result HouseReply NoMemory) → IsHouseOn old old.state → old.state ≡ Open h → ((s : StepOf) → a ≡ Does s → Keeps h s) → Meets device_of planned a result old new → IsReply result reply → Answered h a reply old new
 answered_by h old new a result reply holds stands_open keeps meets told_so =
     answered h old (subst (λ s. IsHouseOn old s) stands_open holds) stands_open a result reply new keeps meets told_so
 
 -- a packet comes, and a moment
-pub hears : (h : HouseOf) (old new : HouseOn MemDisk) (bytes : List ℕ) (p : PacketOf) (result : Result HouseStep HouseError) (reply : Result Reply NoMemory) → IsHouseOn old old.state → old.state ≡ Open h → reading bytes ≡ Ok p → Meets device_of planned (on_bytes old.job bytes old.state) result old new → IsReply result reply → Answered h (on_packet old.job p h) reply old new
+pub hears : (h : HouseOf) (old new : HouseOn MemDisk) (bytes : List ℕ) (p : PacketOf) (result : Result HouseStep HouseError) (reply : Result HouseReply NoMemory) → IsHouseOn old old.state → old.state ≡ Open h → reading bytes ≡ Ok p → Meets device_of planned (on_bytes old.job bytes old.state) result old new → IsReply result reply → Answered h (on_packet old.job p h) reply old new
 hears h old new bytes p result reply holds stands_open read meets replies =
     let same : on_bytes old.job bytes old.state ≡ on_packet old.job p h = ap (λ s. on_bytes old.job bytes s) stands_open ∙ ap (λ r. on_read old.job r h) read in
     answered_by h old new (on_packet old.job p h) result reply holds stands_open (packet_keeps old.job p h) (subst (λ a. Meets device_of planned a result old new) same meets) replies
@@ -172,7 +168,7 @@ hears h old new bytes p result reply holds stands_open read meets replies =
 step_of : (s t : StepOf) → Does s ≡ Does t → s ≡ t
 step_of s t same = cc
 
-pub wakes : (h : HouseOf) (old new : HouseOn MemDisk) (now : ℕ) (result : Result HouseStep HouseError) (reply : Result Reply NoMemory) → IsHouseOn old old.state → old.state ≡ Open h → Meets device_of planned (tick old.job now old.state) result old new → IsReply result reply → Answered h (Does (passes old.job now h)) reply old new
+pub wakes : (h : HouseOf) (old new : HouseOn MemDisk) (now : ℕ) (result : Result HouseStep HouseError) (reply : Result HouseReply NoMemory) → IsHouseOn old old.state → old.state ≡ Open h → Meets device_of planned (tick old.job now old.state) result old new → IsReply result reply → Answered h (Does (passes old.job now h)) reply old new
 wakes h old new now result reply holds stands_open meets replies =
     answered_by h old new (Does (passes old.job now h)) result reply holds stands_open
     (λ s same. subst (Keeps h) (step_of (passes old.job now h) s same) (moment_keeps old.job now h))

@@ -14,11 +14,11 @@ use Rattle.clearinghouse.specs.House.{HouseOf}
 use Rattle.disk.specs.Device.{Device}
 use Rattle.serial_meaning.proofs.Fib.{Pointer}
 use Rattle.serial_meaning.specs.Job.{JobOf, meaning_of}
-use Rattle.serial_meaning.specs.Places.{Call, outcome_at, slot_at, value_within}
+use Rattle.serial_meaning.specs.Places.{Call, slot_at, value_within}
 use Rattle.agreement.specs.Agreement.{IsReceived, TaskAgrees}
 use Rattle.agreement.specs.Agreement.{Agrees as ContentAgrees}
 use Rattle.node_core.specs.declared.parts.Fill.{Fill}
-use Rattle.world_steps.specs.Agrees.{BodyAgrees, WasGranted}
+use Rattle.world_steps.specs.Agrees.{BodyAgrees}
 use Rattle.world_steps.specs.Lost.{Carried, Found, HasWork, IsLive, NothingLost, SomeWork, Wanted, awaited, cut_off, frozen, its_host, itself, live, of_root}
 use Rattle.world_steps.specs.Safe.{FilledOnce, SafeWorld, Stays, filling_of}
 use Rattle.world_steps.specs.World.{Down, Holder, WorldOf, recorded}

@@ -15,12 +15,12 @@ use Rattle.node_state.specs.Node.{NodeOf}
 use Rattle.event_script.specs.declared.event.NodeEvent.{NodeEvent}
 use Rattle.event_script.specs.declared.event.NodeEvent.TheVariants.{Deliver, Exec, Ask, Resend, Depart}
 use Rattle.event_script.specs.declared.event.Event.TheVariants.{AtNode}
-use Rattle.world_steps.specs.Answers.{Did, Ignored, Outturn, Refused, Unfit, answered, same, stepped, with_some}
+use Rattle.world_steps.specs.Answers.{Did, Ignored, StepResult, Refused, Unfit, answered, same, stepped, with_some}
 use Rattle.world_steps.specs.Calls.{Came, Carries, IsStarved, MayLack, WorldOn, delivered_in, is_there, told_of}
 use Rattle.world_steps.specs.declared.parts.NoMemory.{NoMemory}
-use Rattle.world_steps.specs.declared.parts.Told.{Told}
-use Rattle.world_steps.specs.declared.parts.Told.TheVariants as told
-use Rattle.world_steps.specs.Nodes.{Allowed, at_node, comes, grant_of, victim_of}
+use Rattle.world_steps.specs.declared.parts.EventAnswer.{EventAnswer}
+use Rattle.world_steps.specs.declared.parts.EventAnswer.TheVariants as told
+use Rattle.world_steps.specs.Nodes.{Allowed, grant_of, victim_of}
 use Rattle.world_steps.specs.Places.{AreOf, ups}
 use Rattle.world_steps.specs.Steps.{MayStarveAt, Step}
 use Rattle.world_steps.specs.World.{WorldOf, node_in, put_node, with_used}
@@ -49,42 +49,15 @@ chosen n m choice o here there may = let same : m ≡ n = cc in (choice, subst (
 pub unchosen : (n : NodeOf) (o : Option NodeOf) → o ≡ None → o ≡ Some n → (x : Option Choice) × MayChoose n x
 unchosen n o none there = absurd cc
 
--- a call leaves the node's job
-abbrev job_of : NodeOn → JobOf
-job_of on = on.job
-
-meets_job : (a : node.Answer) (r : Result NodeStep NodeError) (old new : NodeOn) → Meets a r old new → new.job ≡ old.job
-meets_job node.Ignored (Ok step) old new m = ap job_of m.1
-meets_job (node.Refused e) (Ok step) old new m = absurd m
-meets_job (node.Does s) (Ok step) old new m = ap job_of m.1
-meets_job a (Err error.Memory) old new m = ap job_of m
-meets_job a (Err (error.Bytes fault)) old new m = ap job_of m.1
-meets_job a (Err error.Stale) old new m = ap job_of m.1
-meets_job a (Err error.Pending) old new m = ap job_of m.1
-meets_job a (Err error.TooBig) old new m = ap job_of m.1
-meets_job a (Err error.HopSpent) old new m = ap job_of m.1
-meets_job a (Err error.NoHeir) old new m = ap job_of m.1
-meets_job a (Err error.NotJoined) old new m = ap job_of m.1
-meets_job a (Err error.Busy) old new m = ap job_of m.1
-meets_job a (Err error.Spent) old new m = ap job_of m.1
-
-pub keeps_job : (e : NodeEvent) (p : Option PacketOf) (r : Result NodeStep NodeError) (old new : NodeOn) → Carries e p r old new → new.job ≡ old.job
-keeps_job (Deliver i) None r old new m = absurd m
-keeps_job (Deliver i) (Some p) r old new m = meets_job _ r old new m.2
-keeps_job (Exec f) p r old new m = meets_job _ r old new m
-keeps_job (Ask v) p r old new m = meets_job _ r old new m
-keeps_job Resend p r old new m = meets_job _ r old new m
-keeps_job (Depart heir) p r old new m = meets_job _ r old new m
-
 -- a node that started, in the world after it
 pub start_world : (job : JobOf) (a word : ℕ) (w u v z : WorldOf) (n : NodeOn) (step : NodeStep) → u ≡ w → v ≡ record (with_used word u) { nodes = put_node a n.node u.nodes } → z ≡ record v { net = v.net ++ step.sent; fills = v.fills ++ step.fills }
     → n.node ≡ (start job word).after → step.sent ≡ (start job word).sent → step.fills ≡ [] → z ≡ (stepped a (start job word) (with_used word w)).world
 start_world job a word w u v z n step p q r after sent fills = rw (r, q, p, after, sent, fills) refl
 
--- what a node's call did, which was taken out and put back
+-- what a node's call did at its place
 pub came : (on : WorldOn) (places : List (Option NodeOn)) (a b : ℕ) (n m : NodeOn) (p : Option NodeOn) (e : NodeEvent) (packet : Option PacketOf) (r : Result NodeStep NodeError)
     → length places ≡ 64 → a < 64 → b ≡ a → on.world.nodes ≡ ups places → AreOf on.job places → p ≡ Some n → p ≡ slice_index_or places b p → packet ≡ delivered_in e on.world.net → Carries e packet r n m → (IsErrOf r error.Memory → MayLack e n)
-    → Came on (record on.world { nodes = ups (slice_set (slice_set places b None) b (Some m)) }) a e r
+    → Came on (record on.world { nodes = ups (slice_set places b (Some m)) }) a e r
 came on places a b n m p e packet r many within same is all some read found did lacks = record {
   old = n;
   new = m;
@@ -97,7 +70,7 @@ came on places a b n m p e packet r many within same is all some read found did 
 }
 
 -- what an answer makes of a world, by the step that was told of it: nothing; or a node is put, and what it sent and filled is kept
-abbrev pub Done : (w v : WorldOf) → NodeStep → Outturn → Type 0
+abbrev pub Done : (w v : WorldOf) → NodeStep → StepResult → Type 0
 Done w v step o =
     ((step.ignored ≡ true) × (o ≡ same Ignored w) × (v ≡ w))
     ⊎ ((step.ignored ≡ false) × (o ≡ record { world = record v { net = v.net ++ step.sent; fills = v.fills ++ step.fills }; answer = Did step.sent step.fills }))
@@ -123,7 +96,7 @@ refused ans error.NotJoined old new m = ap node_of m.1
 refused ans error.Busy old new m = ap node_of m.1
 refused ans error.Spent old new m = ap node_of m.1
 
--- and is what was to be answered, but for want of memory
+-- and is what was to be answered, but when out of memory
 refused_so : (ans : node.Answer) (x : NodeError) (old new : NodeOn) → (x ≡ error.Memory → ⊥) → Meets ans (Err x) old new → ans ≡ node.Refused x
 refused_so ans error.Memory old new not m = absurd (not refl)
 refused_so ans (error.Bytes fault) old new not m = m.0
@@ -141,7 +114,7 @@ module _ (on : WorldOn) (v : WorldOf) (a : ℕ) where
   abbrev AnsweredBy : NodeEvent → node.Answer → Type 0
   AnsweredBy e ans = Step on.job (AtNode a e) on.world (answered a ans on.world)
 
-  by_some : {A : Type 0} (o : Option A) (x : A) (f : A → Outturn) → o ≡ Some x → f x ≡ with_some o on.world f
+  by_some : {A : Type 0} (o : Option A) (x : A) (f : A → StepResult) → o ≡ Some x → f x ≡ with_some o on.world f
   unfolding with_some
   by_some o x f is = rw is refl
 
@@ -183,7 +156,7 @@ module _ (on : WorldOn) (v : WorldOf) (a : ℕ) where
       meets = subst (λ (job : JobOf). Meets (call.depart job heir c.old.node) r c.old c.new) c.own c.did;
     }
 
-  pub did_step : (e : NodeEvent) (step : NodeStep) → Came on v a e (Ok step) → (o : Outturn) × Step on.job (AtNode a e) on.world o × Done on.world v step o
+  pub did_step : (e : NodeEvent) (step : NodeStep) → Came on v a e (Ok step) → (o : StepResult) × Step on.job (AtNode a e) on.world o × Done on.world v step o
   did_step e step c = let m = met (Ok step) e c in (_, m.step, done a on.world v m.answer step c.old c.new c.put c.same m.meets)
 
   pub refused_step : (e : NodeEvent) (x : NodeError) → (x ≡ error.Memory → ⊥) → Came on v a e (Err x) → Step on.job (AtNode a e) on.world (same (Refused x) on.world) × (v ≡ on.world)
@@ -191,7 +164,7 @@ module _ (on : WorldOn) (v : WorldOf) (a : ℕ) where
       let m = met (Err x) e c in
       (subst (AnsweredBy e) (refused_so m.answer x c.old c.new not m.meets) m.step, c.same (refused m.answer x c.old c.new m.meets))
 
-  -- want of memory comes only where it may
+  -- being out of memory comes only where it may
   pub lacks_step : (e : NodeEvent) → Came on v a e (Err error.Memory) → ((n : NodeOf) × (node_in a on.world.nodes ≡ Some n) × MayStarveAt on.job e n on.world) × (v ≡ on.world)
   lacks_step e c = let m = met (Err error.Memory) e c in ((c.old.node, c.up, may e c), c.same (refused m.answer error.Memory c.old c.new m.meets))
     where
@@ -206,7 +179,7 @@ module _ (on : WorldOn) (v : WorldOf) (a : ℕ) where
       may Resend c = subst (λ (job : JobOf). MayStarve (call.resend job c.old.node)) c.own (c.lacks refl)
       may (Depart heir) c = subst (λ (job : JobOf). MayStarve (call.depart job heir c.old.node)) c.own (c.lacks refl)
 
-  none_of : {A : Type 0} (o : Option A) (f : A → Outturn) → o ≡ None → same Unfit on.world ≡ with_some o on.world f
+  none_of : {A : Type 0} (o : Option A) (f : A → StepResult) → o ≡ None → same Unfit on.world ≡ with_some o on.world f
   unfolding with_some
   none_of o f is = rw is refl
 
@@ -250,24 +223,24 @@ moved on before v a e r job world c = record {
 }
 
 module _ (before : WorldOn) (v : WorldOf) (a : ℕ) (e : NodeEvent) (step : NodeStep) (c : Came before v a e (Ok step)) where
-  abbrev IsTold : WorldOf → Told → Type 0
-  IsTold z t = (o : Outturn) × Step before.job (AtNode a e) before.world o × (z ≡ o.world) × (t ≡ told_of o.answer)
+  abbrev IsTold : WorldOf → EventAnswer → Type 0
+  IsTold z t = (o : StepResult) × Step before.job (AtNode a e) before.world o × (z ≡ o.world) × (t ≡ told_of o.answer)
 
   -- what is told where a packet is ignored
   pub ignored_told : step.ignored ≡ true → IsTold v told.Ignored
   ignored_told is = let d = did_step before v a e step c in by d.0 d.1 d.2
     where
-      by : (o : Outturn) → Step before.job (AtNode a e) before.world o → Done before.world v step o → IsTold v told.Ignored
-      by o s (inl d) = (o, s, d.2 ∙ ap (λ (x : Outturn). x.world) (sym d.1), ap (λ (x : Outturn). told_of x.answer) (sym d.1))
+      by : (o : StepResult) → Step before.job (AtNode a e) before.world o → Done before.world v step o → IsTold v told.Ignored
+      by o s (inl d) = (o, s, d.2 ∙ ap (λ (x : StepResult). x.world) (sym d.1), ap (λ (x : StepResult). told_of x.answer) (sym d.1))
       by o s (inr d) = absurd cc
 
   -- and where it isn't
-  pub did_told : step.ignored ≡ false → (z : WorldOf) (t : Told) → z ≡ record v { net = v.net ++ step.sent; fills = v.fills ++ step.fills } → t ≡ told.Did (length step.sent) (length step.fills) → IsTold z t
+  pub did_told : step.ignored ≡ false → (z : WorldOf) (t : EventAnswer) → z ≡ record v { net = v.net ++ step.sent; fills = v.fills ++ step.fills } → t ≡ told.Did (length step.sent) (length step.fills) → IsTold z t
   did_told is z t kept told = let d = did_step before v a e step c in by d.0 d.1 d.2
     where
-      by : (o : Outturn) → Step before.job (AtNode a e) before.world o → Done before.world v step o → IsTold z t
+      by : (o : StepResult) → Step before.job (AtNode a e) before.world o → Done before.world v step o → IsTold z t
       by o s (inl d) = absurd cc
-      by o s (inr d) = (o, s, kept ∙ ap (λ (x : Outturn). x.world) (sym d.1), told ∙ ap (λ (x : Outturn). told_of x.answer) (sym d.1))
+      by o s (inr d) = (o, s, kept ∙ ap (λ (x : StepResult). x.world) (sym d.1), told ∙ ap (λ (x : StepResult). told_of x.answer) (sym d.1))
 
 -- a test that is met has its first part met
 pub first_met : (b c : Bool) → true ≡ b && c → b ≡ true
@@ -281,11 +254,11 @@ second_met false c is = absurd cc
 
 module _ (before : WorldOn) (v : WorldOf) (a : ℕ) (e : NodeEvent) (x : NodeError) (c : Came before v a e (Err x)) where
   -- what is told of a refusal
-  pub refused_told : (r : Result Told NoMemory) → IfOk r (λ t. (t ≡ told.Refused x) × (x ≡ error.Memory → ⊥)) → IfOk r (λ t. (o : Outturn) × Step before.job (AtNode a e) before.world o × (v ≡ o.world) × (t ≡ told_of o.answer))
+  pub refused_told : (r : Result EventAnswer NoMemory) → IfOk r (λ t. (t ≡ told.Refused x) × (x ≡ error.Memory → ⊥)) → IfOk r (λ t. (o : StepResult) × Step before.job (AtNode a e) before.world o × (v ≡ o.world) × (t ≡ told_of o.answer))
   refused_told (Err lacks) m = tt
   refused_told (Ok t) m = let d = refused_step before v a e x m.1 c in (_, d.0, d.1, m.0)
 
   -- and where there is no memory
-  pub lacks_told : (r : Result Told NoMemory) (placed : Bool) → OnErr r (x ≡ error.Memory) → OnErr r ((o : Outturn) × IsStarved (AtNode a e) before placed o × (v ≡ o.world))
+  pub lacks_told : (r : Result EventAnswer NoMemory) (placed : Bool) → OnErr r (x ≡ error.Memory) → OnErr r ((o : StepResult) × IsStarved (AtNode a e) before placed o × (v ≡ o.world))
   lacks_told (Ok t) placed m = tt
   lacks_told (Err lacks) placed m = let d = lacks_step before v a e (subst (λ y. Came before v a e (Err y)) m c) in (_, inl (d.0, refl), d.1)

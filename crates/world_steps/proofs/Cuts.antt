@@ -32,7 +32,7 @@ use Rattle.clearinghouse.specs.declared.parts.Stop.TheVariants as by
 use Rattle.event_script.specs.declared.event.Event.{Event}
 use Rattle.event_script.specs.declared.event.Event.TheVariants.{AtHouse, Cut}
 use Rattle.event_script.specs.declared.event.HouseEvent.TheVariants as at_house
-use Rattle.world_steps.specs.Answers.{Outturn, with_some}
+use Rattle.world_steps.specs.Answers.{StepResult, with_some}
 use Rattle.world_steps.specs.Houses.{Opens, goes_to, halted, made, opened_by}
 use Rattle.world_steps.specs.Steps.{HouseEnds, Step, cut_short, settled_by, stopped}
 use Rattle.world_steps.specs.World.{HouseAt, IsUp, WorldOf, recorded}
@@ -84,7 +84,7 @@ way_of job d second n r bytes store own begins body = record {
 
 -- a clearinghouse that is stopped can be opened, and has this outcome then
 abbrev Finds : JobOf → WorldOf → Option Outcome → Type 0
-Finds job w outcome = (o : Outturn) × Step job (AtHouse at_house.Restart) w o × (recorded o.world ≡ outcome)
+Finds job w outcome = (o : StepResult) × Step job (AtHouse at_house.Restart) w o × (recorded o.world ≡ outcome)
 
 module _ (p : Pointer) where
   abbrev before : WorldOf
@@ -94,7 +94,7 @@ module _ (p : Pointer) where
   cut calls bytes = Cut (record { calls = calls; bytes = bytes; event = at_house.Deliver 4 })
 
   -- it is stopped by the call after so many others
-  abbrev halts : ℕ → List ℕ → Outturn
+  abbrev halts : ℕ → List ℕ → StepResult
   halts calls bytes = stopped (goes_to (Stopped by.Device) (halted before.disk second_commit calls bytes) [] (Some error.Device) before)
 
   cut_halts : (calls : ℕ) (bytes : List ℕ) → calls < 6 → Step (job_on_2 p) (cut calls bytes) before (halts calls bytes)
@@ -114,12 +114,12 @@ module _ (p : Pointer) where
   kept : (calls : ℕ) (bytes : List ℕ) → calls ≤ 4 → Keeps (halts calls bytes).world.disk.file 1 begun
   kept calls bytes few = subst (λ (d : Device). Keeps (halted d second_commit calls bytes).file 1 begun) (sym disk_is) (still_kept calls bytes few)
 
-  none_found : (calls : ℕ) (bytes : List ℕ) → calls ≤ 4 → (o : Outturn) → Step (job_on_2 p) (AtHouse at_house.Restart) (halts calls bytes).world o → recorded o.world ≡ None
+  none_found : (calls : ℕ) (bytes : List ℕ) → calls ≤ 4 → (o : StepResult) → Step (job_on_2 p) (AtHouse at_house.Restart) (halts calls bytes).world o → recorded o.world ≡ None
   none_found calls bytes few o (inl (inl s)) =
       let same = (one_kept (halts calls bytes).world.disk.file s.0.reads.0 s.0.sequence 1 s.0.found begun s.0.reads.1 (kept calls bytes few)).1 in
-      ap (λ (x : Outturn). recorded x.world) s.1 ∙ ap (λ (r : Record). r.outcome) same
-  none_found calls bytes few o (inl (inr s)) = ap (λ (x : Outturn). recorded x.world) s.2
-  none_found calls bytes few o (inr s) = ap (λ (x : Outturn). recorded x.world) s.3.3
+      ap (λ (x : StepResult). recorded x.world) s.1 ∙ ap (λ (r : Record). r.outcome) same
+  none_found calls bytes few o (inl (inr s)) = ap (λ (x : StepResult). recorded x.world) s.2
+  none_found calls bytes few o (inr s) = ap (λ (x : StepResult). recorded x.world) s.3.3
 
   opens_again : (calls : ℕ) (bytes : List ℕ) → calls ≤ 4 → Finds (job_on_2 p) (halts calls bytes).world None
   opens_again calls bytes few =

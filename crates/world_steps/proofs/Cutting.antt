@@ -1,5 +1,5 @@
 -- An event at the clearinghouse's place is cut off: its disk is armed before it, and crashed after it.
-use Rattle.std.proofs.Common.{◌≡◌, ◌⊎◌, inl, inr, ℕ, ◌+◌, ◌<◌, ◌≤◌, true, List, [], ◌++◌, length, Option, None, Some, IsSome, IsTrue, refl, sym, ap, subst, ◌∙◌, arith}
+use Rattle.std.proofs.Common.{◌≡◌, ◌⊎◌, inl, inr, ℕ, ◌<◌, ◌≤◌, List, [], ◌++◌, length, Option, None, Some, IsSome, IsTrue, refl, sym, ap, subst, ◌∙◌, arith}
 use Rattle.std.proofs.lemmas.Bool.{cases_lt}
 use Rattle.std.proofs.lemmas.List.{append-nil}
 use Rattle.codec.specs.Table.{PacketOf}
@@ -17,15 +17,15 @@ use Rattle.clearinghouse.specs.declared.parts.Stop.TheVariants as by
 use Rattle.event_script.specs.declared.event.Cut.{Cut as CutOf}
 use Rattle.event_script.specs.declared.event.HouseEvent.{HouseEvent}
 use Rattle.event_script.specs.declared.event.HouseEvent.TheVariants.{Deliver, Tick, Restart}
-use Rattle.world_steps.specs.Answers.{House, Outturn, house_same}
-use Rattle.world_steps.specs.Coming.{AnswerComes, Comes, IfAnswered, RestartComes, StepComes, answer_to, replying}
+use Rattle.world_steps.specs.Answers.{House, StepResult, house_same}
+use Rattle.world_steps.specs.Coming.{AnswerComes, Comes, IfAnswered, RestartComes, StepComes, replying}
 use Rattle.world_steps.specs.Houses.{Ends, Halts, IsRefusedAs, MakesCalls, Opens, RestartHalts, Restarts, calls_of, goes_to, halted, house_answer, made}
 use Rattle.world_steps.specs.Seats.{IsCutOff, IsFound, IsStill, SeatOf, Seats, replied}
 use Rattle.world_steps.specs.Steps.{AnswerMakes, Applies, HouseEnds, HouseHalts, IfApplies, Makes, RestartMakes, ThenCut, ThenStopped, cut_short, settled_by, stopped}
 use Rattle.world_steps.specs.World.{Down, HouseAt, IsUp, WorldOf, recorded_at}
-use Rattle.world_steps.specs.declared.seat.Reply.{Reply}
+use Rattle.world_steps.specs.declared.seat.HouseReply.{HouseReply}
 use Rattle.world_steps.proofs.Devices.{LacksAt, StoppedAt, commit_lacks, device_is, few_passed, few_stopped, halted_armed, made_armed, planned_late, settled_is, still-settled, stopped_at}
-use Rattle.world_steps.proofs.Unarmed.{StillAfter, by_found, opening_lacks_first, calls_still, read_still, seat_in, seats_in, told_goes, told_same, way_still}
+use Rattle.world_steps.proofs.Unarmed.{StillAfter, by_found, opening_lacks_first, calls_still, read_still, seat_in, seats_in, way_still}
 
 -- an arming leaves the file, and so what is read of it
 makes_armed : (job : JobOf) (h : HouseOf) (commits : Option Kept) (d : Device) (k : ℕ) (bytes : List ℕ) (calls : List Call) → MakesCalls job h commits (armed d k bytes) calls → MakesCalls job h commits d calls
@@ -48,14 +48,14 @@ crashed_armed d k bytes still = device_is (crashed (armed d k bytes)) d (still-s
 abbrev stopping : SeatOf → SeatOf
 stopping s = record s { house = IsUp (Stopped by.Device); disk = crashed s.disk }
 
-told_stopped : (e : Option HouseError) (sent : List PacketOf) (state : HouseAt) (w : WorldOf) (d : Device) (r : Reply) (mid : SeatOf) → r ≡ replying e sent → crashed mid.disk ≡ d →
+told_stopped : (e : Option HouseError) (sent : List PacketOf) (state : HouseAt) (w : WorldOf) (d : Device) (r : HouseReply) (mid : SeatOf) → r ≡ replying e sent → crashed mid.disk ≡ d →
     replied r (stopping mid) w ≡ stopped (record { world = record w { house = state; disk = d; net = w.net ++ sent }; answer = House e sent (recorded_at state) })
 told_stopped e sent state w d r mid told disk =
     ap (λ x. replied x (stopping mid) w) told
     ∙ ap (λ x. record { world = record w { house = IsUp (Stopped by.Device); disk = x; net = w.net ++ sent }; answer = House e sent None }) disk
 
-module _ (job : JobOf) (w : WorldOf) (k : ℕ) (bytes : List ℕ) (r : Reply) (mid : SeatOf) (still : IsStill w.disk) where
-  abbrev o : Outturn
+module _ (job : JobOf) (w : WorldOf) (k : ℕ) (bytes : List ℕ) (r : HouseReply) (mid : SeatOf) (still : IsStill w.disk) where
+  abbrev o : StepResult
   o = replied r (stopping mid) w
 
   abbrev there : SeatOf
@@ -63,7 +63,7 @@ module _ (job : JobOf) (w : WorldOf) (k : ℕ) (bytes : List ℕ) (r : Reply) (m
 
   -- it ends, and makes no more calls than are let through; or the call after so many others fails, and then that is the one that is
   -- to fail, or the read of an opening
-  abbrev Either : (ℕ → Type 0) → (Outturn → Type 0) → (ℕ → Outturn → Type 0) → Type 0 → Type 0
+  abbrev Either : (ℕ → Type 0) → (StepResult → Type 0) → (ℕ → StepResult → Type 0) → Type 0 → Type 0
   Either makes ends halts first = ((n : ℕ) × makes n × (n ≤ k) × ThenCut bytes ends o) ⊎ ((i : ℕ) × (i ≤ k) × ((i ≡ k) ⊎ (first × (i ≡ 0))) × ThenStopped (halts i) o)
 
   -- where nothing changes the disk is as it was
@@ -71,12 +71,12 @@ module _ (job : JobOf) (w : WorldOf) (k : ℕ) (bytes : List ℕ) (r : Reply) (m
   unchanged same = ap (λ (s : SeatOf). crashed s.disk) same ∙ crashed_armed w.disk k bytes still ∙ settled_is w.disk bytes still.settled
 
   -- of an answer that changes nothing
-  stays_cut : (e : Option HouseError) (ends : Outturn → Type 0) → ends (house_same e w) → r ≡ replying e [] → mid ≡ there → ThenCut bytes ends o
+  stays_cut : (e : Option HouseError) (ends : StepResult → Type 0) → ends (house_same e w) → r ≡ replying e [] → mid ≡ there → ThenCut bytes ends o
   stays_cut e ends so told same =
       (house_same e w, so, told_stopped e [] w.house w (settled_by bytes w.disk) r mid told (unchanged same) ∙ ap (λ (net : List PacketOf). cut_short bytes (record { world = record w { net = net }; answer = House e [] (recorded_at w.house) })) (append-nil w.net))
 
   -- of calls that passed
-  goes_cut : (calls : List Call) (state : State) (sent : List PacketOf) (ends : Outturn → Type 0) → ends (goes_to state (made w.disk calls) sent None w) → StillAfter w.disk calls → r ≡ replying None sent → Passed calls (stop_after there.disk.arming) there.disk mid.disk → ThenCut bytes ends o
+  goes_cut : (calls : List Call) (state : State) (sent : List PacketOf) (ends : StepResult → Type 0) → ends (goes_to state (made w.disk calls) sent None w) → StillAfter w.disk calls → r ≡ replying None sent → Passed calls (stop_after there.disk.arming) there.disk mid.disk → ThenCut bytes ends o
   goes_cut calls state sent ends so after_all told passed =
       (goes_to state (made w.disk calls) sent None w, so, told_stopped None sent (IsUp state) w (settled_by bytes (made w.disk calls)) r mid told (made_armed w.disk k bytes still.unarmed calls mid.disk after_all passed ∙ settled_is (made w.disk calls) bytes after_all))
 
@@ -94,7 +94,7 @@ module _ (job : JobOf) (w : WorldOf) (k : ℕ) (bytes : List ℕ) (r : Reply) (m
         | inr lacks ↦ inr (lacking at.at lacks)
       ]
 
-  stops_cut : (calls : List Call) (halts : ℕ → Outturn → Type 0) (first : Type 0) → ((i : ℕ) → LacksAt calls i w.disk.file → first × (i ≡ 0)) → ((i : ℕ) → i < length calls → halts i (goes_to (Stopped by.Device) (halted w.disk calls i bytes) [] (Some error.Device) w)) → r ≡ replying (Some error.Device) [] → HasStopped calls (stop_after there.disk.arming) there.disk mid.disk → (i : ℕ) × (i ≤ k) × ((i ≡ k) ⊎ (first × (i ≡ 0))) × ThenStopped (halts i) o
+  stops_cut : (calls : List Call) (halts : ℕ → StepResult → Type 0) (first : Type 0) → ((i : ℕ) → LacksAt calls i w.disk.file → first × (i ≡ 0)) → ((i : ℕ) → i < length calls → halts i (goes_to (Stopped by.Device) (halted w.disk calls i bytes) [] (Some error.Device) w)) → r ≡ replying (Some error.Device) [] → HasStopped calls (stop_after there.disk.arming) there.disk mid.disk → (i : ℕ) × (i ≤ k) × ((i ≡ k) ⊎ (first × (i ≡ 0))) × ThenStopped (halts i) o
   stops_cut calls halts first lacking so told stops =
       let at = stopped_at calls (stop_after there.disk.arming) there.disk mid.disk stops in (
         at.at,
@@ -147,12 +147,12 @@ module _ (job : JobOf) (w : WorldOf) (k : ℕ) (bytes : List ℕ) (r : Reply) (m
       its (inr (way, is)) = inr (way_armed job w.disk k bytes way, is)
 
   -- an event that makes no opening has no first read, and an opening has one
-  never_first : {makes : ℕ → Type 0} {ends : Outturn → Type 0} {halts : ℕ → Outturn → Type 0} {first : Type 0} → Either makes ends halts ⊥ → Either makes ends halts first
+  never_first : {makes : ℕ → Type 0} {ends : StepResult → Type 0} {halts : ℕ → StepResult → Type 0} {first : Type 0} → Either makes ends halts ⊥ → Either makes ends halts first
   never_first (inl ends) = inl ends
   never_first (inr (i, few, inl is, halts)) = inr (i, few, inl is, halts)
   never_first (inr (i, few, inr none, halts)) = absurd none.0
 
-  always_first : {makes : ℕ → Type 0} {ends : Outturn → Type 0} {halts : ℕ → Outturn → Type 0} → Either makes ends halts (Unit {0}) → Either makes ends halts (Restart ≡ Restart)
+  always_first : {makes : ℕ → Type 0} {ends : StepResult → Type 0} {halts : ℕ → StepResult → Type 0} → Either makes ends halts (Unit {0}) → Either makes ends halts (Restart ≡ Restart)
   always_first (inl ends) = inl ends
   always_first (inr (i, few, inl is, halts)) = inr (i, few, inl is, halts)
   always_first (inr (i, few, inr first, halts)) = inr (i, few, inr (refl, first.1), halts)
@@ -167,7 +167,7 @@ module _ (job : JobOf) (w : WorldOf) (k : ℕ) (bytes : List ℕ) (r : Reply) (m
   cut_at (Tick now) p Down found applies comes = absurd applies
   cut_at Restart p Down found applies comes = always_first (restart_cut comes)
 
-cut_of : (job : JobOf) (c : CutOf) (w : WorldOf) (o : Outturn) → IsTrue w.disk.can_cut → Applies job c.event w.house w →
+cut_of : (job : JobOf) (c : CutOf) (w : WorldOf) (o : StepResult) → IsTrue w.disk.can_cut → Applies job c.event w.house w →
     ((n : ℕ) × Makes job c.event w.house n w × (n ≤ c.calls) × ThenCut c.bytes (HouseEnds job c.event w.house w) o) ⊎ ((i : ℕ) × (i ≤ c.calls) × ((i ≡ c.calls) ⊎ ((c.event ≡ Restart) × (i ≡ 0))) × ThenStopped (HouseHalts job c.event w.house i c.bytes w) o) →
     IsCutOff job c w o
 cut_of job c w o can applies (inl ends) = inl (inr (can, applies, inl ends))
@@ -185,7 +185,7 @@ cut_of job c w o can applies (inr (i, few, inr first, halts)) = by_order (cases_
         inl (inr (can, applies, inr (subst (λ n. ThenStopped (HouseHalts job c.event w.house n c.bytes w) o) same at_first)))
 
 -- so it is with each event that applies
-pub cuts : (c : CutOf) (p : Option PacketOf) (r : Reply) (old mid : SeatOf) (w : WorldOf) → IsStill old.disk → Seats old w → IsFound c.event p w → Applies old.job c.event old.house w → Comes c.event p old.house r (record old { disk = armed old.disk c.calls c.bytes }) mid → IsCutOff old.job c w (replied r (stopping mid) w)
+pub cuts : (c : CutOf) (p : Option PacketOf) (r : HouseReply) (old mid : SeatOf) (w : WorldOf) → IsStill old.disk → Seats old w → IsFound c.event p w → Applies old.job c.event old.house w → Comes c.event p old.house r (record old { disk = armed old.disk c.calls c.bytes }) mid → IsCutOff old.job c w (replied r (stopping mid) w)
 cuts c p r old mid w still seats found applies comes =
     let here = seats_in old w seats in
     let kept : IsStill w.disk = subst IsStill (sym seats.disk) still in

@@ -20,13 +20,13 @@ use Rattle.event_script.specs.declared.event.HouseEvent.TheVariants as at_house
 use Rattle.event_script.specs.declared.event.NodeEvent.{NodeEvent}
 use Rattle.event_script.specs.declared.event.NodeEvent.TheVariants.{Deliver, Exec, Ask, Resend, Depart}
 use Rattle.subcomputation.proofs.Others.{put_other}
-use Rattle.world_steps.specs.Answers.{Outturn, Unfit, answered, same, stepped, with_some}
+use Rattle.world_steps.specs.Answers.{StepResult, Unfit, answered, same, stepped, with_some}
 use Rattle.world_steps.specs.Houses.{Ends, Halts, RestartHalts, Restarts, house_answer}
 use Rattle.world_steps.specs.Nodes.{at_node}
 use Rattle.world_steps.specs.Steps.{CarriedOut, DeviceFails, HouseEnds, HouseHalts, IfApplies, Step, ThenCut, ThenStopped, house_crash}
 use Rattle.world_steps.specs.World.{Down, HouseAt, IsUp, WorldOf, is_used, name_of_word, node_in, with_used}
 
-pub record Grown (w : WorldOf) (o : Outturn) : Type 0 where
+pub record Grown (w : WorldOf) (o : StepResult) : Type 0 where
   pub sent : List PacketOf
   pub net : o.world.net ≡ w.net ++ sent
   pub filled : List Fill
@@ -37,17 +37,17 @@ nothing : {A : Type 0} (xs : List A) → xs ≡ xs ++ []
 nothing [] = refl
 nothing (x ∷ xs) = λ i. x ∷ nothing xs i
 
-no_more : (w : WorldOf) (o : Outturn) → o.world.net ≡ w.net → o.world.fills ≡ w.fills → o.world.used ≡ w.used → Grown w o
+no_more : (w : WorldOf) (o : StepResult) → o.world.net ≡ w.net → o.world.fills ≡ w.fills → o.world.used ≡ w.used → Grown w o
 no_more w o p q r = record { sent = []; net = p ∙ nothing w.net; filled = []; fills = q ∙ nothing w.fills; used = λ word was. subst (λ (words : List ℕ). is_some (item_in name_of_word (name_of_word word) words) ≡ true) (sym r) was }
 
-is : (w : WorldOf) (o x : Outturn) → o ≡ x → Grown w x → Grown w o
+is : (w : WorldOf) (o x : StepResult) → o ≡ x → Grown w x → Grown w o
 is w o x p grown = subst (Grown w) (sym p) grown
 
-choose : (w : WorldOf) (b : Bool) (x y : Outturn) → Grown w x → Grown w y → Grown w (cond b x y)
+choose : (w : WorldOf) (b : Bool) (x y : StepResult) → Grown w x → Grown w y → Grown w (cond b x y)
 choose w true x y p q = p
 choose w false x y p q = q
 
-by_some : {A : Type 0} (w : WorldOf) (o : Option A) (f : A → Outturn) → ((a : A) → Grown w (f a)) → Grown w (with_some o w f)
+by_some : {A : Type 0} (w : WorldOf) (o : Option A) (f : A → StepResult) → ((a : A) → Grown w (f a)) → Grown w (with_some o w f)
 unfolding with_some
 by_some w None f p = no_more w _ refl refl refl
 by_some w (Some a) f p = p a
@@ -78,12 +78,12 @@ started : (word a : ℕ) (s : node.StepOf) (w : WorldOf) → Grown w (stepped a 
 started word a s w = record { sent = s.sent; net = refl; filled = s.fills; fills = refl; used = λ other was. stays word other w.used was }
 
 -- to be stopped leaves them
-then_stopped : (w : WorldOf) (P : Outturn → Type 0) (o : Outturn) → ((x : Outturn) → P x → Grown w x) → ThenStopped P o → Grown w o
+then_stopped : (w : WorldOf) (P : StepResult → Type 0) (o : StepResult) → ((x : StepResult) → P x → Grown w x) → ThenStopped P o → Grown w o
 then_stopped w P o p s =
     let before = p s.0 s.1 in
     is w o _ s.2 (record { sent = before.sent; net = before.net; filled = before.filled; fills = before.fills; used = before.used })
 
-then_cut : (w : WorldOf) (bytes : List ℕ) (P : Outturn → Type 0) (o : Outturn) → ((x : Outturn) → P x → Grown w x) → ThenCut bytes P o → Grown w o
+then_cut : (w : WorldOf) (bytes : List ℕ) (P : StepResult → Type 0) (o : StepResult) → ((x : StepResult) → P x → Grown w x) → ThenCut bytes P o → Grown w o
 then_cut w bytes P o p s =
     let before = p s.0 s.1 in
     is w o _ s.2 (record { sent = before.sent; net = before.net; filled = before.filled; fills = before.fills; used = before.used })
@@ -104,24 +104,24 @@ module _ (job : JobOf) where
   applied P unfit G None p q is = q is
   applied P unfit G (Some x) p q is = p x is
 
-  ends : (h : _) (a : house.Answer) (w : WorldOf) (o : Outturn) → Ends job h a w o → Grown w o
+  ends : (h : _) (a : house.Answer) (w : WorldOf) (o : StepResult) → Ends job h a w o → Grown w o
   ends h house.Ignored w o s = is w o _ s (no_more w _ refl refl refl)
   ends h (house.Refused e) w o s = is w o _ s (no_more w _ refl refl refl)
   ends h (house.Does d) w o s = is w o _ s.2 (record { sent = d.sent; net = refl; filled = []; fills = nothing w.fills; used = λ word was. was })
 
-  halts : (h : _) (a : house.Answer) (k : ℕ) (bytes : List ℕ) (w : WorldOf) (o : Outturn) → Halts job h a k bytes w o → Grown w o
+  halts : (h : _) (a : house.Answer) (k : ℕ) (bytes : List ℕ) (w : WorldOf) (o : StepResult) → Halts job h a k bytes w o → Grown w o
   halts h house.Ignored k bytes w o s = absurd s
   halts h (house.Refused e) k bytes w o s = absurd s
   halts h (house.Does d) k bytes w o s = is w o _ s.3 (record { sent = []; net = refl; filled = []; fills = nothing w.fills; used = λ word was. was })
 
-  restarts : (w : WorldOf) (o : Outturn) → Restarts job w o → Grown w o
+  restarts : (w : WorldOf) (o : StepResult) → Restarts job w o → Grown w o
   restarts w o (inl s) = is w o _ s.1 (record { sent = []; net = refl; filled = []; fills = nothing w.fills; used = λ word was. was })
   restarts w o (inr s) = is w o _ s.2 (no_more w _ refl refl refl)
 
-  restart_halts : (k : ℕ) (bytes : List ℕ) (w : WorldOf) (o : Outturn) → RestartHalts job k bytes w o → Grown w o
+  restart_halts : (k : ℕ) (bytes : List ℕ) (w : WorldOf) (o : StepResult) → RestartHalts job k bytes w o → Grown w o
   restart_halts k bytes w o s = is w o _ s.3 (record { sent = []; net = refl; filled = []; fills = nothing w.fills; used = λ word was. was })
 
-  house_ends : (e : HouseEvent) (h : HouseAt) (w : WorldOf) (o : Outturn) → HouseEnds job e h w o → Grown w o
+  house_ends : (e : HouseEvent) (h : HouseAt) (w : WorldOf) (o : StepResult) → HouseEnds job e h w o → Grown w o
   house_ends e (IsUp (Open h)) w o s = applied _ _ _ (house_answer job e h w) (λ a. ends h a w o) (λ p. is w o _ p (no_more w _ refl refl refl)) s
   house_ends at_house.Restart (IsUp (Stopped t)) w o s = restarts w o s
   house_ends at_house.Restart Down w o s = restarts w o s
@@ -130,7 +130,7 @@ module _ (job : JobOf) where
   house_ends (at_house.Tick now) (IsUp (Stopped t)) w o s = is w o _ s (no_more w _ refl refl refl)
   house_ends (at_house.Tick now) Down w o s = is w o _ s (no_more w _ refl refl refl)
 
-  house_halts : (e : HouseEvent) (h : HouseAt) (k : ℕ) (bytes : List ℕ) (w : WorldOf) (o : Outturn) → HouseHalts job e h k bytes w o → Grown w o
+  house_halts : (e : HouseEvent) (h : HouseAt) (k : ℕ) (bytes : List ℕ) (w : WorldOf) (o : StepResult) → HouseHalts job e h k bytes w o → Grown w o
   house_halts e (IsUp (Open h)) k bytes w o s = applied _ _ _ (house_answer job e h w) (λ a. halts h a k bytes w o) (λ p. absurd p) s
   house_halts at_house.Restart (IsUp (Stopped t)) k bytes w o s = restart_halts k bytes w o s
   house_halts at_house.Restart Down k bytes w o s = restart_halts k bytes w o s
@@ -139,7 +139,7 @@ module _ (job : JobOf) where
   house_halts (at_house.Tick now) (IsUp (Stopped t)) k bytes w o s = absurd s
   house_halts (at_house.Tick now) Down k bytes w o s = absurd s
 
-  carried : (e : Event) (w : WorldOf) (o : Outturn) → CarriedOut job e w o → Grown w o
+  carried : (e : Event) (w : WorldOf) (o : StepResult) → CarriedOut job e w o → Grown w o
   carried (Start a word) w o s =
       is w o _ s (choose w (is_worker word && not (is_used word w) && not (is_some (node_in a w.nodes))) _ (same Unfit w) (started word a (start job word) w) (no_more w _ refl refl refl))
   carried (AtNode a e) w o s = is w o _ s.2 (by_some w (node_in a w.nodes) _ (λ n. at_node_grows s.0 a e n w))
@@ -150,7 +150,7 @@ module _ (job : JobOf) where
   carried (Cut c) w o (inr (_, _, inl s)) = then_cut w c.bytes _ o (house_ends c.event w.house w) s.3
   carried (Cut c) w o (inr (_, _, inr s)) = then_stopped w _ o (house_halts c.event w.house c.calls c.bytes w) s
 
-  fails : (e : Event) (w : WorldOf) (o : Outturn) → DeviceFails job e w o → Grown w o
+  fails : (e : Event) (w : WorldOf) (o : StepResult) → DeviceFails job e w o → Grown w o
   fails (Start a word) w o s = absurd s
   fails (AtNode a e) w o s = absurd s
   fails (Crash a) w o s = absurd s
@@ -158,6 +158,6 @@ module _ (job : JobOf) where
   fails HouseCrash w o s = absurd s
   fails (Cut c) w o s = then_stopped w _ o (house_halts c.event w.house 0 c.bytes w) s.3
 
-  pub grows : (e : Event) (w : WorldOf) (o : Outturn) → Step job e w o → Grown w o
+  pub grows : (e : Event) (w : WorldOf) (o : StepResult) → Step job e w o → Grown w o
   grows e w o (inl s) = carried e w o s
   grows e w o (inr s) = fails e w o s

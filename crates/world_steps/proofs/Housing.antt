@@ -10,12 +10,12 @@ use Rattle.event_script.specs.declared.event.Event.{Event}
 use Rattle.event_script.specs.declared.event.Event.TheVariants.{AtHouse, HouseCrash, Cut}
 use Rattle.event_script.specs.declared.event.HouseEvent.{HouseEvent}
 use Rattle.event_script.specs.declared.event.HouseEvent.TheVariants.{Deliver, Tick, Restart}
-use Rattle.world_steps.specs.Answers.{House, Outturn, house_same}
+use Rattle.world_steps.specs.Answers.{House, StepResult, house_same}
 use Rattle.world_steps.specs.Houses.{house_answer}
 use Rattle.world_steps.specs.Seats.{Happens, IsCutOff, SeatOf, Seats, fallen, replied}
 use Rattle.world_steps.specs.Steps.{Applies, HouseEnds, IfApplies, Step, house_crash}
 use Rattle.world_steps.specs.World.{Down, HouseAt, IsUp, WorldOf, recorded_at}
-use Rattle.world_steps.specs.declared.seat.Reply.{Reply}
+use Rattle.world_steps.specs.declared.seat.HouseReply.{HouseReply}
 
 -- an error has what holds anyway
 pub err_holds : {T E P : Type 0} (r : Result T E) → P → OnErr r P
@@ -74,16 +74,16 @@ stopped_world s {n} {v} {w} is disk n_is =
     ∙ ap {A = WorldOf} (λ u. record u { house = IsUp (Stopped by.Memory) }) is)
 
 -- what came of an event, and what it left
-pub happened : {s : SeatOf} {job : JobOf} {w : WorldOf} (n : SeatOf) (e : HouseEvent) (r : Reply) → IsIn s job w → Happens s.job e w (replied r n w) → Step job (AtHouse e) w (replied r n w)
+pub happened : {s : SeatOf} {job : JobOf} {w : WorldOf} (n : SeatOf) (e : HouseEvent) (r : HouseReply) → IsIn s job w → Happens s.job e w (replied r n w) → Step job (AtHouse e) w (replied r n w)
 happened {s} {job} {w} n e r i is = subst (λ j. Happens j e w (replied r n w)) i.own is
 
-pub was_cut : {s : SeatOf} {job : JobOf} {w : WorldOf} (n : SeatOf) (c : CutOf) (bytes : List ℕ) (r : Reply) → bytes ≡ c.bytes → IsIn s job w → IsCutOff s.job (record c { bytes = bytes }) w (replied r n w) → Step job (Cut c) w (replied r n w)
+pub was_cut : {s : SeatOf} {job : JobOf} {w : WorldOf} (n : SeatOf) (c : CutOf) (bytes : List ℕ) (r : HouseReply) → bytes ≡ c.bytes → IsIn s job w → IsCutOff s.job (record c { bytes = bytes }) w (replied r n w) → Step job (Cut c) w (replied r n w)
 was_cut {s} {job} {w} n c bytes r same i is = subst (λ bs. IsCutOff job (record c { bytes = bs }) w (replied r n w)) same (subst (λ j. IsCutOff j (record c { bytes = bytes }) w (replied r n w)) i.own is)
 
 pub can_be_cut : {s : SeatOf} {job : JobOf} {w : WorldOf} → IsIn s job w → IsTrue s.disk.can_cut → IsTrue w.disk.can_cut
 can_be_cut i is = subst {A = Device} (λ d. IsTrue d.can_cut) (sym i.disk) is
 
-pub left : {v w u : WorldOf} (n : SeatOf) (r : Reply) → v ≡ w → u ≡ record v { house = n.house; disk = n.disk; net = v.net ++ r.sent } → u ≡ record w { house = n.house; disk = n.disk; net = w.net ++ r.sent }
+pub left : {v w u : WorldOf} (n : SeatOf) (r : HouseReply) → v ≡ w → u ≡ record v { house = n.house; disk = n.disk; net = v.net ++ r.sent } → u ≡ record w { house = n.house; disk = n.disk; net = w.net ++ r.sent }
 left n r is u_is = u_is ∙ ap {A = WorldOf} (λ x. record x { house = n.house; disk = n.disk; net = x.net ++ r.sent }) is
 
 -- the clearinghouse and its disk are these now
@@ -93,7 +93,7 @@ put_seat n w = record w { house = n.house; disk = n.disk }
 pub seat_put : {v w : WorldOf} (n : SeatOf) → v ≡ w → put_seat n v ≡ put_seat n w
 seat_put n is = ap (put_seat n) is
 
-abbrev pub silent_in : SeatOf → WorldOf → Outturn
+abbrev pub silent_in : SeatOf → WorldOf → StepResult
 silent_in n w = record { world = put_seat n w; answer = House None [] (recorded_at n.house) }
 
 -- it lost its memory

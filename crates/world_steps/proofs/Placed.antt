@@ -1,6 +1,5 @@
 -- The places of nodes: what stands at one, and how the nodes that are up change with it.
 use Rattle.std.proofs.Common.{◌≡◌, refl, sym, ap, ◌∙◌, ℕ, zero, suc, ◌+◌, ◌<◌, cond, not, List, [], ◌∷◌, length, replicate, Option, None, Some, IfSome, slice_get, slice_set, Less, Equal, Greater, arith}
-use Rattle.std.proofs.lemmas.List.{length-set}
 use Rattle.std.specs.Cmp.{nat_cmp_is}
 use Rattle.std.specs.List.{AllByRecursion}
 use Rattle.std.specs.Ordering.{is_eq, match_ordering, nat_cmp}
@@ -15,18 +14,10 @@ use Rattle.world_steps.proofs.Samples.{all_at}
 
 -- what is read at a place and set there
 module _ {X : Type 0} where
-  pub length_set : (xs : List X) (a : ℕ) (x : X) → length (slice_set xs a x) ≡ length xs
-  length_set xs a x = length-set xs a x
-
   pub get_set : (xs : List X) (a : ℕ) (x : X) → a < length xs → slice_get (slice_set xs a x) a ≡ Some x
   get_set [] a x within = absurd (omega arith)
   get_set (y ∷ ys) zero x within = refl
   get_set (y ∷ ys) (suc a) x within = get_set ys a x (omega arith)
-
-  pub set_twice : (xs : List X) (a : ℕ) (x y : X) → slice_set (slice_set xs a x) a y ≡ slice_set xs a y
-  set_twice [] a x y = refl
-  set_twice (z ∷ zs) zero x y = refl
-  set_twice (z ∷ zs) (suc a) x y = ap (λ ys. z ∷ ys) (set_twice zs a x y)
 
   pub set_same : (xs : List X) (a : ℕ) (x : X) → slice_get xs a ≡ Some x → slice_set xs a x ≡ xs
   set_same [] a x is = refl
@@ -137,9 +128,6 @@ taken_at places a within = taken_from 0 a a places (omega arith) within
 -- nodes of a job
 abbrev IsOf : JobOf → Option NodeOn → Type 0
 IsOf job p = IfSome p (λ n. n.job ≡ job)
-
-pub are_of_set : (job : JobOf) (places : List (Option NodeOn)) (a : ℕ) (x : Option NodeOn) → AreOf job places → IfSome x (λ n. n.job ≡ job) → AreOf job (slice_set places a x)
-are_of_set job places a x all is = all_set (IsOf job) places a x all is
 
 pub are_of_at : (job : JobOf) (places : List (Option NodeOn)) (a : ℕ) (n : NodeOn) → AreOf job places → slice_get places a ≡ Some (Some n) → n.job ≡ job
 are_of_at job places a n all is = all_at (IsOf job) places all a (Some n) is

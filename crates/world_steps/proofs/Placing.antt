@@ -1,12 +1,12 @@
 -- What a world's code sees of its places, by the definitions.
-use Rattle.std.proofs.Common.{◌≡◌, refl, sym, ap, subst, ◌∙◌, true, ℕ, ◌<◌, List, length, Option, None, Some, IfSome, is_some, slice_get, slice_index_or, slice_set}
+use Rattle.std.proofs.Common.{◌≡◌, refl, sym, ap, subst, ◌∙◌, true, ℕ, ◌<◌, List, length, Option, None, Some, is_some, slice_get, slice_index_or, slice_set}
 use Rattle.std.proofs.lemmas.Option.{slice_get_read}
 use Rattle.ids.specs.Named.{put_in}
 use Rattle.node_core.specs.Meeting.{NodeOn}
 use Rattle.serial_meaning.specs.Job.{JobOf}
 use Rattle.world_steps.specs.Places.{AreOf, node_there, ups}
 use Rattle.world_steps.specs.World.{WorldOf, name_of_word, node_in, put_node, with_used, without_node}
-use Rattle.world_steps.proofs.Placed.{are_of_at, are_of_set, length_set, node_at, node_of, put_at, set_same, set_twice, taken_at}
+use Rattle.world_steps.proofs.Placed.{are_of_at, node_at, node_of, put_at, set_same, taken_at}
 
 -- whether a node is up at a place, by what is read there
 pub up_at : (places : List (Option NodeOn)) (a b : ℕ) (p : Option NodeOn) → length places ≡ 64 → a < 64 → b ≡ a → p ≡ slice_index_or places b p → is_some p ≡ is_some (node_in a (ups places))
@@ -49,23 +49,15 @@ seen_at places a b p many within same is = by p ∙ sym (node_at places a ∙ ap
 pub none_up_at : (places : List (Option NodeOn)) (a b : ℕ) → length places ≡ 64 → a < 64 → b ≡ a → None ≡ slice_index_or places b None → node_in a (ups places) ≡ None
 none_up_at places a b many within same is = node_at places a ∙ ap node_of (reads places a b None many within same is)
 
--- a node is taken out, and put back
-pub back : (places : List (Option NodeOn)) (a b : ℕ) (n : NodeOn) → length places ≡ 64 → a < 64 → b ≡ a → ups (slice_set (slice_set places b None) b (Some n)) ≡ put_node a n.node (ups places)
-back places a b n many within same =
-    ap ups (set_twice places b None (Some n)) ∙ (ap (λ at. ups (slice_set places at (Some n))) same ∙ put_at places a n (rw many within))
+-- a node changes at its place
+pub back : (places : List (Option NodeOn)) (a b : ℕ) (n : NodeOn) → length places ≡ 64 → a < 64 → b ≡ a → ups (slice_set places b (Some n)) ≡ put_node a n.node (ups places)
+back places a b n many within same = ap (λ at. ups (slice_set places at (Some n))) same ∙ put_at places a n (rw many within)
 
-pub back_same : (places : List (Option NodeOn)) (a b : ℕ) (n m : NodeOn) → length places ≡ 64 → a < 64 → b ≡ a → Some n ≡ slice_index_or places b (Some n) → m.node ≡ n.node → ups (slice_set (slice_set places b None) b (Some m)) ≡ ups places
+pub back_same : (places : List (Option NodeOn)) (a b : ℕ) (n m : NodeOn) → length places ≡ 64 → a < 64 → b ≡ a → Some n ≡ slice_index_or places b (Some n) → m.node ≡ n.node → ups (slice_set places b (Some m)) ≡ ups places
 back_same places a b n m many within same is unmoved =
     back places a b m many within same
     ∙ (ap (λ node. put_node a node (ups places)) unmoved
     ∙ (sym (put_at places a n (rw many within)) ∙ ap ups (set_same places a (Some n) (reads places a b (Some n) many within same is))))
-
--- and all is of the job still
-pub back_of : (job : JobOf) (places : List (Option NodeOn)) (b : ℕ) (n : NodeOn) → AreOf job places → n.job ≡ job → AreOf job (slice_set (slice_set places b None) b (Some n))
-back_of job places b n all own = rw (set_twice places b None (Some n)) (are_of_set job places b (Some n) all own)
-
-pub back_many : (places : List (Option NodeOn)) (b : ℕ) (n : NodeOn) → length places ≡ 64 → length (slice_set (slice_set places b None) b (Some n)) ≡ 64
-back_many places b n many = length_set (slice_set places b None) b (Some n) ∙ (length_set places b None ∙ many)
 
 -- the same of what is read
 pub node_seen : (places : List (Option NodeOn)) (a b : ℕ) (n : NodeOn) (p : Option NodeOn) → length places ≡ 64 → a < 64 → b ≡ a → p ≡ Some n → p ≡ slice_index_or places b p → node_in a (ups places) ≡ Some n.node

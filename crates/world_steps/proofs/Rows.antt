@@ -32,7 +32,7 @@ use Rattle.event_script.specs.declared.event.HouseEvent.{HouseEvent}
 use Rattle.event_script.specs.declared.event.HouseEvent.TheVariants as at_house
 use Rattle.event_script.specs.declared.event.NodeEvent.{NodeEvent}
 use Rattle.event_script.specs.declared.event.NodeEvent.TheVariants.{Deliver, Exec, Ask}
-use Rattle.world_steps.specs.Answers.{Outturn, house_same, with_some}
+use Rattle.world_steps.specs.Answers.{StepResult, house_same, with_some}
 use Rattle.world_steps.specs.Houses.{Opens, goes_to, house_answer, made, opened_by}
 use Rattle.world_steps.specs.Nodes.{comes, starts}
 use Rattle.world_steps.specs.Runs.{CanBegin, Entry, Runs, ends, goes, last_of}
@@ -42,7 +42,7 @@ use Rattle.world_steps.proofs.Formatted.{blank, first_commit, first_committed, f
 use Rattle.world_steps.proofs.Samples.{filled, granted, job_of, open_with, returned, root, root_task, roster, to}
 
 -- an event of the clearinghouse that ends, with these calls of its disk
-abbrev pub answered : List Call → Option Answer → WorldOf → Outturn
+abbrev pub answered : List Call → Option Answer → WorldOf → StepResult
 answered calls None w = house_same None w
 answered calls (Some Ignored) w = house_same None w
 answered calls (Some (Refused e)) w = house_same (Some e) w
@@ -52,16 +52,16 @@ module _ (p : Pointer) where
   abbrev pub job : JobOf
   job = job_of p
 
-  abbrev pub at_open : List Call → HouseEvent → HouseAt → WorldOf → Outturn
+  abbrev pub at_open : List Call → HouseEvent → HouseAt → WorldOf → StepResult
   at_open calls e (IsUp (Open h)) w = answered calls (house_answer job e h w) w
   at_open calls e (IsUp (Stopped s)) w = house_same None w
   at_open calls e Down w = house_same None w
 
-  abbrev pub delivers : List Call → ℕ → WorldOf → Outturn
+  abbrev pub delivers : List Call → ℕ → WorldOf → StepResult
   delivers calls i w = at_open calls (at_house.Deliver i) w.house w
 
   -- what comes to the node of place 0, which has no frame to grant
-  abbrev pub at_0 : NodeEvent → WorldOf → Outturn
+  abbrev pub at_0 : NodeEvent → WorldOf → StepResult
   at_0 e w = comes job None 0 e w
 
   abbrev pub frame : ℕ → NodeEvent
@@ -72,40 +72,40 @@ module _ (p : Pointer) where
   way = record { sequence = 0; found = _; reads = (false, formatted_store); own = refl; begins = refl; calls = first_commit; commit = first_committed }
 
   -- what the events lead to, one after the other
-  abbrev pub o1 : Outturn
+  abbrev pub o1 : StepResult
   o1 = opened_by way (first_over blank)
 
-  abbrev pub o2 : Outturn
+  abbrev pub o2 : StepResult
   o2 = starts job 0 3 o1.world
 
-  abbrev pub o3 : Outturn
+  abbrev pub o3 : StepResult
   o3 = delivers [] 0 o2.world
 
-  abbrev pub o4 : Outturn
+  abbrev pub o4 : StepResult
   o4 = at_0 (Deliver 1) o3.world
 
-  abbrev pub o5 : Outturn
+  abbrev pub o5 : StepResult
   o5 = at_0 (Ask asked.House) o4.world
 
-  abbrev pub o6 : Outturn
+  abbrev pub o6 : StepResult
   o6 = delivers [] 2 o5.world
 
-  abbrev pub o7 : Outturn
+  abbrev pub o7 : StepResult
   o7 = at_0 (Deliver 3) o6.world
 
-  abbrev pub o8 : Outturn
+  abbrev pub o8 : StepResult
   o8 = at_0 (frame 0) o7.world
 
-  abbrev pub o9 : Outturn
+  abbrev pub o9 : StepResult
   o9 = at_0 (frame 3) o8.world
 
-  abbrev pub o10 : Outturn
+  abbrev pub o10 : StepResult
   o10 = at_0 (frame 2) o9.world
 
-  abbrev pub o11 : Outturn
+  abbrev pub o11 : StepResult
   o11 = at_0 (frame 1) o10.world
 
-  abbrev pub o12 : Outturn
+  abbrev pub o12 : StepResult
   o12 = delivers second_commit 4 o11.world
 
   step1 : Step job (AtHouse at_house.Restart) (first_over blank) o1
@@ -155,7 +155,7 @@ module _ (p : Pointer) where
   step12 = inl (second_commit, second_committed, refl)
 
   -- an event and what it came to
-  abbrev entry : Event → Outturn → Entry
+  abbrev entry : Event → StepResult → Entry
   entry e o = record { event = e; answer = o.answer }
 
   abbrev entries : List Entry

@@ -1,13 +1,12 @@
 -- What comes of an event at the clearinghouse's place, as a step of a world: over a disk that isn't armed.
-use Rattle.std.proofs.Common.{◌≡◌, ◌⊎◌, inl, inr, ℕ, ◌+◌, ◌<◌, ◌≤◌, List, [], ◌∷◌, ◌++◌, length, take, true, false, Option, None, Some, IsTrue, refl, sym, ap, subst, ◌∙◌, arith}
+use Rattle.std.proofs.Common.{◌≡◌, ◌⊎◌, inl, inr, ℕ, ◌<◌, List, [], ◌++◌, length, take, true, false, Option, None, Some, IsTrue, refl, sym, ap, subst, ◌∙◌, arith}
 use Rattle.std.proofs.lemmas.List.{append-nil}
 use Rattle.std.specs.Prelude.{IsSome, slice_get}
 use Rattle.codec.specs.Table.{PacketOf}
 use Rattle.disk.specs.Device.{Device, Unarmed, stop_after}
 use Rattle.disk.specs.File.{synced}
 use Rattle.checkpoint.specs.Calls.{Call, Stopped as HasStopped, after}
-use Rattle.checkpoint.specs.Commit.{IsCommit, opening, publishing}
-use Rattle.checkpoint.specs.Pair.{is_open, place, slot}
+use Rattle.checkpoint.specs.Commit.{opening, publishing}
 use Rattle.serial_meaning.specs.Job.{JobOf}
 use Rattle.clearinghouse.specs.Calls.{next_epoch}
 use Rattle.clearinghouse.specs.House.{HouseOf, Kept, State, Open, Stopped, opened}
@@ -18,13 +17,13 @@ use Rattle.clearinghouse.specs.declared.error.HouseError.TheVariants as error
 use Rattle.clearinghouse.specs.declared.parts.Stop.TheVariants as by
 use Rattle.event_script.specs.declared.event.HouseEvent.{HouseEvent}
 use Rattle.event_script.specs.declared.event.HouseEvent.TheVariants.{Deliver, Tick, Restart}
-use Rattle.world_steps.specs.Answers.{House, Outturn, house_same}
+use Rattle.world_steps.specs.Answers.{House, StepResult, house_same}
 use Rattle.world_steps.specs.Coming.{AnswerComes, Comes, IfAnswered, RestartComes, Stays, StepComes, answer_to, replying}
-use Rattle.world_steps.specs.Houses.{Ends, Halts, MakesCalls, Opens, RestartHalts, Restarts, calls_of, goes_to, halted, house_answer, made, opened_by}
+use Rattle.world_steps.specs.Houses.{Ends, MakesCalls, Opens, RestartHalts, Restarts, calls_of, goes_to, halted, house_answer, made}
 use Rattle.world_steps.specs.Seats.{Happens, IsFound, IsStill, SeatOf, Seats, replied}
 use Rattle.world_steps.specs.Steps.{HouseEnds, HouseHalts, IfApplies}
 use Rattle.world_steps.specs.World.{Down, HouseAt, IsUp, WorldOf, recorded_at}
-use Rattle.world_steps.specs.declared.seat.Reply.{Reply}
+use Rattle.world_steps.specs.declared.seat.HouseReply.{HouseReply}
 use Rattle.world_steps.proofs.Devices.{LacksAt, StoppedAt, after-can_cut, after-unarmed, commit_lacks, halted_unarmed, made_unarmed, none_planned, opened_lacks, opening_lacks, stopped_at, synced-settled, synced-synced}
 
 -- a commit leaves a file that is on the disk for good
@@ -59,12 +58,12 @@ abbrev pub seat_in : JobOf → WorldOf → SeatOf
 seat_in job w = record { job = job; house = w.house; disk = w.disk }
 
 -- what is told where nothing changes but the disk
-pub told_same : (job : JobOf) (e : Option HouseError) (w : WorldOf) (d : Device) (r : Reply) (new : SeatOf) → r ≡ replying e [] → new ≡ record (seat_in job w) { disk = d } → replied r new w ≡ house_same e (record w { disk = d })
+pub told_same : (job : JobOf) (e : Option HouseError) (w : WorldOf) (d : Device) (r : HouseReply) (new : SeatOf) → r ≡ replying e [] → new ≡ record (seat_in job w) { disk = d } → replied r new w ≡ house_same e (record w { disk = d })
 told_same job e w d r new reply same =
     ap (λ x. replied x new w) reply ∙ ap (λ x. replied (replying e []) x w) same
     ∙ ap (λ (net : List PacketOf). record { world = record w { disk = d; net = net }; answer = House e [] (recorded_at w.house) }) (append-nil w.net)
 
-pub told_goes : (job : JobOf) (state : State) (e : Option HouseError) (sent : List PacketOf) (w : WorldOf) (d : Device) (r : Reply) (new : SeatOf) → r ≡ replying e sent → new ≡ record (seat_in job w) { house = IsUp state; disk = new.disk } → new.disk ≡ d → replied r new w ≡ goes_to state d sent e w
+pub told_goes : (job : JobOf) (state : State) (e : Option HouseError) (sent : List PacketOf) (w : WorldOf) (d : Device) (r : HouseReply) (new : SeatOf) → r ≡ replying e sent → new ≡ record (seat_in job w) { house = IsUp state; disk = new.disk } → new.disk ≡ d → replied r new w ≡ goes_to state d sent e w
 told_goes job state e sent w d r new reply same disk =
     ap (λ x. replied x new w) reply ∙ ap (λ x. replied (replying e sent) x w) same
     ∙ ap (λ x. goes_to state x sent e w) disk
@@ -108,9 +107,9 @@ read_fails job d new calls still which at =
       | inr lacks ↦ opening_lacks_first job d calls at.at which lacks
     ]
 
-module _ (job : JobOf) (w : WorldOf) (r : Reply) (new : SeatOf) (still : IsStill w.disk) where
+module _ (job : JobOf) (w : WorldOf) (r : HouseReply) (new : SeatOf) (still : IsStill w.disk) where
   -- it ends, or the read of an opening fails
-  abbrev o : Outturn
+  abbrev o : StepResult
   o = replied r new w
 
   step_happens : (h : HouseOf) (s : StepOf) → StepComes h s r (seat_in job w) new → Ends job h (Does s) w o
@@ -163,7 +162,7 @@ stopped_still d new calls still stops =
     let at = stopped_at calls (stop_after d.arming) d new stops in
     halted_still d new calls at.at [] still (halted_unarmed d new calls still.unarmed still.can_cut at)
 
-module _ (r : Reply) (old new : SeatOf) (still : IsStill old.disk) where
+module _ (r : HouseReply) (old new : SeatOf) (still : IsStill old.disk) where
   stays_still : (e : Option HouseError) → Stays e r old new → IsStill new.disk
   stays_still e stays = subst (λ (s : SeatOf). IsStill s.disk) (sym stays.1) still
 
@@ -199,7 +198,7 @@ pub seats_in : (s : SeatOf) (w : WorldOf) → Seats s w → s ≡ seat_in s.job 
 seats_in s w seats = ap (λ h. record s { house = h }) (sym seats.house) ∙ ap (λ d. record s { house = w.house; disk = d }) (sym seats.disk)
 
 -- so it is with each event
-pub happens : (e : HouseEvent) (p : Option PacketOf) (r : Reply) (old new : SeatOf) (w : WorldOf) → IsStill old.disk → Seats old w → IsFound e p w → Comes e p old.house r old new → Happens old.job e w (replied r new w)
+pub happens : (e : HouseEvent) (p : Option PacketOf) (r : HouseReply) (old new : SeatOf) (w : WorldOf) → IsStill old.disk → Seats old w → IsFound e p w → Comes e p old.house r old new → Happens old.job e w (replied r new w)
 happens e p r old new w still seats found comes =
     let at : Comes e p w.house r (seat_in old.job w) new = subst (λ (s : SeatOf). Comes e p s.house r s new) (seats_in old w seats) comes in
     by_house old.job w r new (subst IsStill (sym seats.disk) still) e p w.house found at

@@ -18,31 +18,31 @@ pub data Answer : Type 0 where
   House : Option HouseError → List PacketOf → Option Outcome → Answer
 
 -- a world and what is told
-pub record Outturn : Type 0 where
+pub record StepResult : Type 0 where
   pub world : WorldOf
   pub answer : Answer
 
 -- nothing changes
-abbrev pub same : Answer → WorldOf → Outturn
+abbrev pub same : Answer → WorldOf → StepResult
 same a w = record { world = w; answer = a }
 
 -- nothing changes by an event of the clearinghouse
-abbrev pub house_same : Option HouseError → WorldOf → Outturn
+abbrev pub house_same : Option HouseError → WorldOf → StepResult
 house_same e w = same (House e [] (recorded_at w.house)) w
 
 -- with what is there; else the event doesn't apply
-unfoldable pub with_some : {A : Type 0} → Option A → WorldOf → (A → Outturn) → Outturn
+unfoldable pub with_some : {A : Type 0} → Option A → WorldOf → (A → StepResult) → StepResult
 with_some None w f = same Unfit w
 with_some (Some a) w f = f a
 
 -- a node's step
-abbrev pub stepped : ℕ → node.StepOf → WorldOf → Outturn
+abbrev pub stepped : ℕ → node.StepOf → WorldOf → StepResult
 stepped a s w = record {
   world = record w { nodes = put_node a s.after w.nodes; net = w.net ++ s.sent; fills = w.fills ++ s.fills };
   answer = Did s.sent s.fills;
 }
 
-abbrev pub answered : ℕ → node.Answer → WorldOf → Outturn
+abbrev pub answered : ℕ → node.Answer → WorldOf → StepResult
 answered a node.Ignored w = same Ignored w
 answered a (node.Refused e) w = same (Refused e) w
 answered a (node.Does s) w = stepped a s w

@@ -14,13 +14,13 @@ use Rattle.event_script.specs.declared.event.Event.{Event}
 use Rattle.event_script.specs.declared.event.Event.TheVariants.{Start, AtNode, Crash, AtHouse, HouseCrash, Cut}
 use Rattle.event_script.specs.declared.event.NodeEvent.{NodeEvent}
 use Rattle.event_script.specs.declared.event.NodeEvent.TheVariants.{Deliver, Exec, Ask, Resend, Depart}
-use Rattle.world_steps.specs.Answers.{Answer, Outturn, same}
+use Rattle.world_steps.specs.Answers.{Answer, StepResult, same}
 use Rattle.world_steps.specs.Answers as answer
 use Rattle.world_steps.specs.Nodes.{grant_of, victim_of}
 use Rattle.world_steps.specs.Steps.{Starves}
 use Rattle.world_steps.specs.World.{WorldOf, node_in, put_node}
-use Rattle.world_steps.specs.declared.parts.Told.{Told}
-use Rattle.world_steps.specs.declared.parts.Told.TheVariants as told
+use Rattle.world_steps.specs.declared.parts.EventAnswer.{EventAnswer}
+use Rattle.world_steps.specs.declared.parts.EventAnswer.TheVariants as told
 
 -- a world of a job, and whether all that was sent and put into slots stands in its place, so that what comes next finds one without
 -- memory
@@ -30,7 +30,7 @@ pub record WorldOn : Type 0 where
   pub is_placed : Bool
 
 -- what is told of an answer: of packets and fills, how many
-abbrev pub told_of : Answer → Told
+abbrev pub told_of : Answer → EventAnswer
 told_of answer.Unfit = told.Unfit
 told_of answer.Ignored = told.Ignored
 told_of (answer.Refused e) = told.Refused e
@@ -58,7 +58,7 @@ is_there Resend net = true
 is_there (Depart heir) net = true
 
 -- an event of a node that is up may find no memory where no place was found for what was sent before
-abbrev pub StarvesBehind : Event → WorldOf → Outturn → Type 0
+abbrev pub StarvesBehind : Event → WorldOf → StepResult → Type 0
 StarvesBehind (Start a word) w o = ⊥
 StarvesBehind (AtNode a e) w o = IsSome (node_in a w.nodes) × IsTrue (is_there e w.net) × (o ≡ same (answer.Refused node.Memory) w)
 StarvesBehind (Crash a) w o = ⊥
@@ -67,7 +67,7 @@ StarvesBehind HouseCrash w o = ⊥
 StarvesBehind (Cut c) w o = ⊥
 
 -- an event finds no memory, for itself, or for what was sent and put into slots before; then that has no place afterwards either
-abbrev pub IsStarved : Event → (old : WorldOn) → (placed : Bool) → Outturn → Type 0
+abbrev pub IsStarved : Event → (old : WorldOn) → (placed : Bool) → StepResult → Type 0
 IsStarved e on placed o = Starves on.job e on.world o ⊎ ((on.is_placed ≡ false) × (placed ≡ false) × StarvesBehind e on.world o)
 
 -- what a call of a node does by an event, with the packet that is delivered

@@ -23,7 +23,7 @@ use Rattle.world_steps.specs.Houses.{IsRefusedAs, MakesCalls, Opens, calls_of, s
 use Rattle.world_steps.specs.Seats.{IsOf, SeatOf, disk_of, house_at}
 use Rattle.world_steps.specs.World.{Down, HouseAt, IsUp}
 use Rattle.world_steps.specs.declared.parts.NoMemory.{NoMemory}
-use Rattle.world_steps.specs.declared.seat.Reply.{Reply}
+use Rattle.world_steps.specs.declared.seat.HouseReply.{HouseReply}
 use Rattle.world_steps.specs.declared.seat.Stand.{Stand}
 
 abbrev pub is_open_at : HouseAt → Bool
@@ -35,11 +35,11 @@ abbrev pub seat_of : JobOf → Stand → SeatOf
 seat_of job s = record { job = job; house = house_at s; disk = disk_of s }
 
 -- what is replied
-abbrev pub replying : Option HouseError → List PacketOf → Reply
+abbrev pub replying : Option HouseError → List PacketOf → HouseReply
 replying e sent = record { refused = e; sent = sent }
 
 -- what an open clearinghouse answered, as a reply
-abbrev pub IsReply : Result HouseStep HouseError → Result Reply NoMemory → Type 0
+abbrev pub IsReply : Result HouseStep HouseError → Result HouseReply NoMemory → Type 0
 IsReply (Ok step) r = r ≡ Ok (replying None step.sent)
 IsReply (Err error.Memory) (Ok r) = ⊥
 IsReply (Err error.Memory) (Err lacks) = Unit {0}
@@ -56,50 +56,50 @@ abbrev pub plan_of : Device → ℕ → Option (List ℕ)
 plan_of d = stop_after d.arming
 
 -- nothing changes
-abbrev pub Stays : Option HouseError → Reply → (old new : SeatOf) → Type 0
+abbrev pub Stays : Option HouseError → HouseReply → (old new : SeatOf) → Type 0
 Stays e r old new = (r ≡ replying e []) × (new ≡ old)
 
 -- these calls passed, or one of them failed
-abbrev pub GoesBy : List Call → State → List PacketOf → Reply → (old new : SeatOf) → Type 0
+abbrev pub GoesBy : List Call → State → List PacketOf → HouseReply → (old new : SeatOf) → Type 0
 GoesBy calls state sent r old new =
     (r ≡ replying None sent) × (new ≡ record old { house = IsUp state; disk = new.disk }) × Passed calls (plan_of old.disk) old.disk new.disk
 
-abbrev pub StopsBy : List Call → Reply → (old new : SeatOf) → Type 0
+abbrev pub StopsBy : List Call → HouseReply → (old new : SeatOf) → Type 0
 StopsBy calls r old new =
     (r ≡ replying (Some error.Device) []) × (new ≡ record old { house = IsUp (Stopped by.Device); disk = new.disk }) × HasStopped calls (plan_of old.disk) old.disk new.disk
 
 -- a step of an open one
-abbrev pub StepComes : HouseOf → StepOf → Reply → (old new : SeatOf) → Type 0
+abbrev pub StepComes : HouseOf → StepOf → HouseReply → (old new : SeatOf) → Type 0
 StepComes h s r old new =
     (calls : List Call) × MakesCalls old.job h s.commits old.disk calls × (GoesBy calls (Open s.after) s.sent r old new ⊎ StopsBy calls r old new)
 
-abbrev pub AnswerComes : HouseOf → HouseAnswer → Reply → (old new : SeatOf) → Type 0
+abbrev pub AnswerComes : HouseOf → HouseAnswer → HouseReply → (old new : SeatOf) → Type 0
 AnswerComes h Ignored r old new = Stays None r old new
 AnswerComes h (Refused e) r old new = Stays (Some e) r old new
 AnswerComes h (Does s) r old new = StepComes h s r old new
 
-abbrev pub IfAnswered : HouseOf → Option HouseAnswer → Reply → (old new : SeatOf) → Type 0
+abbrev pub IfAnswered : HouseOf → Option HouseAnswer → HouseReply → (old new : SeatOf) → Type 0
 IfAnswered h None r old new = Stays None r old new
 IfAnswered h (Some a) r old new = AnswerComes h a r old new
 
 -- one that isn't open is opened; or is refused; or its device failed
-abbrev pub OpensBy : Reply → (old new : SeatOf) → Type 0
+abbrev pub OpensBy : HouseReply → (old new : SeatOf) → Type 0
 OpensBy r old new =
     (way : Opens old.job old.disk) × GoesBy (calls_of way) (Open (opened silence (next_epoch (kept_in way.sequence way.found)))) [] r old new
 
-abbrev pub RefusedBy : Reply → (old new : SeatOf) → Type 0
+abbrev pub RefusedBy : HouseReply → (old new : SeatOf) → Type 0
 RefusedBy r old new =
     (e : HouseError) × IsRefusedAs old.job old.disk e × (r ≡ replying (Some e) []) × (new ≡ record old { disk = new.disk }) × Passed opening (plan_of old.disk) old.disk new.disk
 
-abbrev pub HaltedBy : Reply → (old new : SeatOf) → Type 0
+abbrev pub HaltedBy : HouseReply → (old new : SeatOf) → Type 0
 HaltedBy r old new =
     (calls : List Call) × ((calls ≡ opening) ⊎ ((way : Opens old.job old.disk) × (calls ≡ calls_of way))) × StopsBy calls r old new
 
-abbrev pub RestartComes : Reply → (old new : SeatOf) → Type 0
+abbrev pub RestartComes : HouseReply → (old new : SeatOf) → Type 0
 RestartComes r old new = OpensBy r old new ⊎ (RefusedBy r old new ⊎ HaltedBy r old new)
 
 -- what comes of an event
-abbrev pub Comes : HouseEvent → Option PacketOf → HouseAt → Reply → (old new : SeatOf) → Type 0
+abbrev pub Comes : HouseEvent → Option PacketOf → HouseAt → HouseReply → (old new : SeatOf) → Type 0
 Comes e p (IsUp (Open h)) r old new = IfAnswered h (answer_to old.job e p h) r old new
 Comes Restart p (IsUp (Stopped s)) r old new = RestartComes r old new
 Comes Restart p Down r old new = RestartComes r old new
@@ -125,18 +125,18 @@ abbrev pub Lacks : (old new : SeatOf) → Type 0
 Lacks old new = new ≡ record old { house = IsUp (Stopped by.Memory) }
 
 -- what a call of an open one leads to: what was to come, or there was no memory; and what holds between calls holds again
-pub record AnsweredIf (h : HouseOf) (a : Option HouseAnswer) (r : Result Reply NoMemory) (old new : HouseOn MemDisk) : Type 0 where
+pub record AnsweredIf (h : HouseOf) (a : Option HouseAnswer) (r : Result HouseReply NoMemory) (old new : HouseOn MemDisk) : Type 0 where
   pub comes : IfOk r (λ reply. IfAnswered h a reply (seat_up old) (seat_up new))
   pub lacks : OnErr r (Lacks (seat_up old) (seat_up new))
   pub applies : OnErr r (IsTrue (is_answered a))
   pub stands : IsHouseOn new new.state
   pub job : new.job ≡ old.job
 
-abbrev pub Answered : HouseOf → HouseAnswer → Result Reply NoMemory → (old new : HouseOn MemDisk) → Type 0
+abbrev pub Answered : HouseOf → HouseAnswer → Result HouseReply NoMemory → (old new : HouseOn MemDisk) → Type 0
 Answered h a r old new = AnsweredIf h (Some a) r old new
 
 -- the same of an event, wherever it stands
-pub record HasCome (job : JobOf) (e : HouseEvent) (p : Option PacketOf) (r : Result Reply NoMemory) (old new : Stand) : Type 0 where
+pub record HasCome (job : JobOf) (e : HouseEvent) (p : Option PacketOf) (r : Result HouseReply NoMemory) (old new : Stand) : Type 0 where
   pub comes : IfOk r (λ reply. Comes e p (house_at old) reply (seat_of job old) (seat_of job new))
   pub lacks : OnErr r (Lacks (seat_of job old) (seat_of job new))
   pub applies : OnErr r (IsTrue (applies_at job e p (house_at old)))
@@ -153,6 +153,6 @@ unopened_at error.Device stop = IsUp (Stopped by.Device)
 unopened_at other stop = closed_at stop
 
 -- what stops one of which an event was cut off
-abbrev pub stop_by : Result Reply NoMemory → Stop
+abbrev pub stop_by : Result HouseReply NoMemory → Stop
 stop_by (Ok r) = by.Device
 stop_by (Err lacks) = by.Memory

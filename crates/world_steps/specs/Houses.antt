@@ -20,7 +20,7 @@ use Rattle.clearinghouse.specs.declared.error.HouseError.TheVariants as error
 use Rattle.clearinghouse.specs.declared.parts.Stop.TheVariants as by
 use Rattle.event_script.specs.declared.event.HouseEvent.{HouseEvent}
 use Rattle.event_script.specs.declared.event.HouseEvent.TheVariants.{Deliver, Tick, Restart}
-use Rattle.world_steps.specs.Answers.{House, Outturn, house_same}
+use Rattle.world_steps.specs.Answers.{House, StepResult, house_same}
 use Rattle.world_steps.specs.World.{IsUp, WorldOf, recorded_at}
 
 -- how long a member may be silent
@@ -54,20 +54,20 @@ abbrev pub made : Device → List Call → Device
 made d calls = record (after d calls) { arming = d.arming }
 
 -- the clearinghouse, its disk and the net after an event, and what is told
-abbrev pub goes_to : State → Device → List PacketOf → Option HouseError → WorldOf → Outturn
+abbrev pub goes_to : State → Device → List PacketOf → Option HouseError → WorldOf → StepResult
 goes_to state disk sent e w = record {
   world = record w { house = IsUp state; disk = disk; net = w.net ++ sent };
   answer = House e sent (recorded_at (IsUp state));
 }
 
 -- an event that ends: the step's calls passed, and then its packets go
-abbrev pub Ends : JobOf → HouseOf → HouseAnswer → WorldOf → Outturn → Type 0
+abbrev pub Ends : JobOf → HouseOf → HouseAnswer → WorldOf → StepResult → Type 0
 Ends job h Ignored w o = o ≡ house_same None w
 Ends job h (Refused e) w o = o ≡ house_same (Some e) w
 Ends job h (Does s) w o = (calls : List Call) × MakesCalls job h s.commits w.disk calls × (o ≡ goes_to (Open s.after) (made w.disk calls) s.sent None w)
 
 -- a device call of the event fails, the one after k others: nothing goes, and the clearinghouse is stopped
-abbrev pub Halts : JobOf → HouseOf → HouseAnswer → ℕ → List ℕ → WorldOf → Outturn → Type 0
+abbrev pub Halts : JobOf → HouseOf → HouseAnswer → ℕ → List ℕ → WorldOf → StepResult → Type 0
 Halts job h Ignored k bytes w o = ⊥
 Halts job h (Refused e) k bytes w o = ⊥
 Halts job h (Does s) k bytes w o = (calls : List Call) × MakesCalls job h s.commits w.disk calls × (k < length calls) × (o ≡ goes_to (Stopped by.Device) (halted w.disk calls k bytes) [] (Some error.Device) w)
@@ -86,7 +86,7 @@ abbrev pub calls_of : {job : JobOf} {d : Device} → Opens job d → List Call
 calls_of o = opening ++ o.calls
 
 -- a clearinghouse that isn't open is opened over its disk
-abbrev pub opened_by : {job : JobOf} {d : Device} → Opens job d → WorldOf → Outturn
+abbrev pub opened_by : {job : JobOf} {d : Device} → Opens job d → WorldOf → StepResult
 opened_by o w = goes_to (Open (begins silence (next_epoch (kept_in o.sequence o.found))).after) (made w.disk (calls_of o)) [] None w
 
 -- why it isn't: the checkpoint isn't one of this job, or no epoch or commit is left
@@ -97,13 +97,13 @@ IsRefusedAs job d e = ((s : StoreError) × IsRefused s (bytes_of d.file) job.num
     IsSpentOver = (n : ℕ) × (r : Record) × Reads (bytes_of d.file) n r × (r.job ≡ job.number) × (can_begin (kept_in n r) ≡ false)
 
 -- an opening that ends
-abbrev pub Restarts : JobOf → WorldOf → Outturn → Type 0
+abbrev pub Restarts : JobOf → WorldOf → StepResult → Type 0
 Restarts job w o =
     ((way : Opens job w.disk) × (o ≡ opened_by way w))
     ⊎ ((e : HouseError) × IsRefusedAs job w.disk e × (o ≡ house_same (Some e) (record w { disk = made w.disk opening })))
 
 -- a device call of it fails: its read, or one of its commit. The clearinghouse counts as stopped then
-abbrev pub RestartHalts : JobOf → ℕ → List ℕ → WorldOf → Outturn → Type 0
+abbrev pub RestartHalts : JobOf → ℕ → List ℕ → WorldOf → StepResult → Type 0
 RestartHalts job k bytes w o =
     (calls : List Call)
     × ((calls ≡ opening) ⊎ ((way : Opens job w.disk) × (calls ≡ calls_of way)))

@@ -14,7 +14,7 @@ use Rattle.event_script.specs.declared.event.Asked.TheVariants as asked
 use Rattle.event_script.specs.declared.event.FrameOf.{FrameOf}
 use Rattle.event_script.specs.declared.event.NodeEvent.{NodeEvent}
 use Rattle.event_script.specs.declared.event.NodeEvent.TheVariants.{Deliver, Exec, Ask, Resend, Depart}
-use Rattle.world_steps.specs.Answers.{Did, Outturn, Unfit, answered, same, stepped, with_some}
+use Rattle.world_steps.specs.Answers.{Did, StepResult, Unfit, answered, same, stepped, with_some}
 use Rattle.world_steps.specs.World.{WorldOf, is_used, node_in, with_used, without_node}
 
 -- whom a node asks
@@ -44,14 +44,14 @@ can_start a word w = is_worker word && not (is_used word w) && not (is_some (nod
 
 module _ (job : JobOf) where
   -- a node starts
-  abbrev pub starts : ℕ → ℕ → WorldOf → Outturn
+  abbrev pub starts : ℕ → ℕ → WorldOf → StepResult
   starts a word w =
       if can_start a word w
       then stepped a (call.start job word) (with_used word w)
       else same Unfit w
 
   -- what comes to a node: a packet, if it is there; a ready frame is carried out by its own turn; or another call
-  abbrev pub at_node : Option Choice → ℕ → NodeEvent → NodeOf → WorldOf → Outturn
+  abbrev pub at_node : Option Choice → ℕ → NodeEvent → NodeOf → WorldOf → StepResult
   at_node choice a (Deliver i) n w = with_some (slice_get w.net i) w (λ p. answered a (cases.on_packet job choice p n) w)
   at_node choice a (Exec f) n w = answered a (call.exec_ready job (grant_of f) f.frame n) w
   at_node choice a (Ask v) n w = answered a (call.ask job (victim_of v) n) w
@@ -59,9 +59,9 @@ module _ (job : JobOf) where
   at_node choice a (Depart heir) n w = answered a (call.depart job heir n) w
 
   -- what comes to the node of a place, if one is up there
-  abbrev pub comes : Option Choice → ℕ → NodeEvent → WorldOf → Outturn
+  abbrev pub comes : Option Choice → ℕ → NodeEvent → WorldOf → StepResult
   comes choice a e w = with_some (node_in a w.nodes) w (λ n. at_node choice a e n w)
 
 -- a node loses its whole memory
-abbrev pub crashes : ℕ → WorldOf → Outturn
+abbrev pub crashes : ℕ → WorldOf → StepResult
 crashes a w = with_some (node_in a w.nodes) w (λ n. record { world = record w { nodes = without_node a w.nodes }; answer = Did [] [] })

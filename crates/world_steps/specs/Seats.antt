@@ -1,5 +1,5 @@
 -- The clearinghouse and its disk, apart from the rest of a world.
-use Rattle.std.specs.Prelude.{◌≡◌, ◌++◌, ◌⊎◌, ℕ, IsTrue, List, [], Option, slice_get}
+use Rattle.std.specs.Prelude.{◌≡◌, ◌++◌, ◌⊎◌, IsTrue, [], Option, slice_get}
 use Rattle.codec.specs.Table.{PacketOf}
 use Rattle.disk.specs.Device.{Device, Unarmed}
 use Rattle.disk.specs.File.{settled, synced}
@@ -11,10 +11,10 @@ use Rattle.event_script.specs.declared.event.Cut.{Cut as CutOf}
 use Rattle.event_script.specs.declared.event.Event.TheVariants.{AtHouse, Cut}
 use Rattle.event_script.specs.declared.event.HouseEvent.{HouseEvent}
 use Rattle.event_script.specs.declared.event.HouseEvent.TheVariants.{Deliver, Tick, Restart}
-use Rattle.world_steps.specs.Answers.{House, Outturn}
+use Rattle.world_steps.specs.Answers.{House, StepResult}
 use Rattle.world_steps.specs.Steps.{DeviceFails, HouseEnds, IsCut}
 use Rattle.world_steps.specs.World.{Down, HouseAt, IsUp, WorldOf, recorded_at}
-use Rattle.world_steps.specs.declared.seat.Reply.{Reply}
+use Rattle.world_steps.specs.declared.seat.HouseReply.{HouseReply}
 use Rattle.world_steps.specs.declared.seat.Stand.{Stand}
 use Rattle.world_steps.specs.declared.seat.Stand.TheVariants as stand
 
@@ -61,7 +61,7 @@ IsFound (Tick now) p w = Unit {0}
 IsFound Restart p w = Unit {0}
 
 -- the world after a reply, and what is told of it
-abbrev pub replied : Reply → SeatOf → WorldOf → Outturn
+abbrev pub replied : HouseReply → SeatOf → WorldOf → StepResult
 replied r s w = record {
   world = record w { house = s.house; disk = s.disk; net = w.net ++ r.sent };
   answer = House r.refused r.sent (recorded_at s.house);
@@ -69,11 +69,11 @@ replied r s w = record {
 
 module _ (job : JobOf) where
   -- an event ends, or a device call of it fails
-  abbrev pub Happens : HouseEvent → WorldOf → Outturn → Type 0
+  abbrev pub Happens : HouseEvent → WorldOf → StepResult → Type 0
   Happens e w o = HouseEnds job e w.house w o ⊎ DeviceFails job (AtHouse e) w o
 
   -- the same of a Cut
-  abbrev pub IsCutOff : CutOf → WorldOf → Outturn → Type 0
+  abbrev pub IsCutOff : CutOf → WorldOf → StepResult → Type 0
   IsCutOff c w o = IsCut job c w o ⊎ DeviceFails job (Cut c) w o
 
 -- a clearinghouse that is up loses its memory: what isn't synced stays as it was written last

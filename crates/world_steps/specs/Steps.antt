@@ -21,7 +21,7 @@ use Rattle.event_script.specs.declared.event.HouseEvent.{HouseEvent}
 use Rattle.event_script.specs.declared.event.NodeEvent.{NodeEvent}
 use Rattle.event_script.specs.declared.event.NodeEvent.TheVariants as at_node
 use Rattle.event_script.specs.declared.event.HouseEvent.TheVariants.{Restart}
-use Rattle.world_steps.specs.Answers.{Answer, House, Outturn, house_same, same}
+use Rattle.world_steps.specs.Answers.{Answer, House, StepResult, house_same, same}
 use Rattle.world_steps.specs.Answers as told
 use Rattle.world_steps.specs.Houses.{Ends, Halts, IsRefusedAs, MakesCalls, Opens, RestartHalts, Restarts, calls_of, house_answer}
 use Rattle.world_steps.specs.Nodes.{Allowed, can_start, comes, crashes, grant_of, starts, victim_of}
@@ -31,7 +31,7 @@ use Rattle.world_steps.specs.World.{Down, HouseAt, IsUp, WorldOf, node_in}
 abbrev pub house_down : WorldOf → WorldOf
 house_down w = record w { house = Down; disk = record w.disk { file = settled w.disk.file [] } }
 
-abbrev pub house_crash : HouseAt → WorldOf → Outturn
+abbrev pub house_crash : HouseAt → WorldOf → StepResult
 house_crash Down w = house_same None w
 house_crash (IsUp state) w = house_same None (house_down w)
 
@@ -44,19 +44,19 @@ abbrev pub stopped_answer : Answer → Answer
 stopped_answer (House e sent outcome) = House e sent None
 stopped_answer other = other
 
-abbrev pub stopped : Outturn → Outturn
+abbrev pub stopped : StepResult → StepResult
 stopped o = record { world = record o.world { house = IsUp (Stopped by.Device) }; answer = stopped_answer o.answer }
 
 -- a call of the device fails in an event, which settles what isn't synced, and the clearinghouse is stopped then
-abbrev pub ThenStopped : (Outturn → Type 0) → Outturn → Type 0
-ThenStopped P o = (before : Outturn) × P before × (o ≡ stopped before)
+abbrev pub ThenStopped : (StepResult → Type 0) → StepResult → Type 0
+ThenStopped P o = (before : StepResult) × P before × (o ≡ stopped before)
 
 -- an event ends, and then the clearinghouse is stopped and what isn't synced becomes the Cut's bytes
-abbrev pub cut_short : List ℕ → Outturn → Outturn
+abbrev pub cut_short : List ℕ → StepResult → StepResult
 cut_short bytes o = record { world = record o.world { house = IsUp (Stopped by.Device); disk = settled_by bytes o.world.disk }; answer = stopped_answer o.answer }
 
-abbrev pub ThenCut : List ℕ → (Outturn → Type 0) → Outturn → Type 0
-ThenCut bytes P o = (before : Outturn) × P before × (o ≡ cut_short bytes before)
+abbrev pub ThenCut : List ℕ → (StepResult → Type 0) → StepResult → Type 0
+ThenCut bytes P o = (before : StepResult) × P before × (o ≡ cut_short bytes before)
 
 module _ (job : JobOf) where
   -- what comes to an open clearinghouse, if it applies
@@ -65,14 +65,14 @@ module _ (job : JobOf) where
   IfApplies P unfit (Some a) = P a
 
   -- an event of the clearinghouse that ends
-  abbrev pub HouseEnds : HouseEvent → HouseAt → WorldOf → Outturn → Type 0
+  abbrev pub HouseEnds : HouseEvent → HouseAt → WorldOf → StepResult → Type 0
   HouseEnds e (IsUp (Open h)) w o = IfApplies (λ a. Ends job h a w o) (o ≡ house_same None w) (house_answer job e h w)
   HouseEnds Restart (IsUp (Stopped s)) w o = Restarts job w o
   HouseEnds Restart Down w o = Restarts job w o
   HouseEnds other house w o = o ≡ house_same None w
 
   -- a device call of it fails, the one after k others
-  abbrev pub HouseHalts : HouseEvent → HouseAt → ℕ → List ℕ → WorldOf → Outturn → Type 0
+  abbrev pub HouseHalts : HouseEvent → HouseAt → ℕ → List ℕ → WorldOf → StepResult → Type 0
   HouseHalts e (IsUp (Open h)) k bytes w o = IfApplies (λ a. Halts job h a k bytes w o) ⊥ (house_answer job e h w)
   HouseHalts Restart (IsUp (Stopped s)) k bytes w o = RestartHalts job k bytes w o
   HouseHalts Restart Down k bytes w o = RestartHalts job k bytes w o
@@ -102,7 +102,7 @@ module _ (job : JobOf) where
 
   -- a Cut of an event that applies, over a device that can be cut: it ends where it makes no more calls than are let through, and
   -- is halted by the next one else; and then the clearinghouse is stopped
-  abbrev pub IsCut : CutOf → WorldOf → Outturn → Type 0
+  abbrev pub IsCut : CutOf → WorldOf → StepResult → Type 0
   IsCut c w o =
       ((Applies c.event w.house w → w.disk.can_cut ≡ false) × (o ≡ house_same None w))
       ⊎ (IsTrue w.disk.can_cut × Applies c.event w.house w
@@ -110,7 +110,7 @@ module _ (job : JobOf) where
       ⊎ ThenStopped (HouseHalts c.event w.house c.calls c.bytes w) o))
 
   -- an event is carried out
-  abbrev pub CarriedOut : Event → WorldOf → Outturn → Type 0
+  abbrev pub CarriedOut : Event → WorldOf → StepResult → Type 0
   CarriedOut (Start a word) w o = o ≡ starts job a word w
   CarriedOut (AtNode a e) w o = (choice : Option Choice) × Allowed e (node_in a w.nodes) choice × (o ≡ comes job choice a e w)
   CarriedOut (Crash a) w o = o ≡ crashes a w
@@ -120,13 +120,13 @@ module _ (job : JobOf) where
 
   -- a device call fails by itself in an event of the clearinghouse. On a device that can be cut only the read of an opening does, its
   -- first call; so in a Cut it does so where at least one call is let through
-  abbrev pub DeviceFails : Event → WorldOf → Outturn → Type 0
+  abbrev pub DeviceFails : Event → WorldOf → StepResult → Type 0
   DeviceFails (AtHouse e) w o = (k : ℕ) × (bytes : List ℕ) × (IsTrue w.disk.can_cut → (e ≡ Restart) × (k ≡ 0)) × HouseHalts e w.house k bytes w o
   DeviceFails (Cut c) w o = IsTrue w.disk.can_cut × (c.event ≡ Restart) × (0 < c.calls) × ThenStopped (HouseHalts c.event w.house 0 c.bytes w) o
   DeviceFails other w o = ⊥
 
   -- in a world an event is answered, and leads to a world
-  abbrev pub Step : Event → WorldOf → Outturn → Type 0
+  abbrev pub Step : Event → WorldOf → StepResult → Type 0
   Step e w o = CarriedOut e w o ⊎ DeviceFails e w o
 
   -- what a node may find no memory for: a packet that is there, and a call of its own that isn't refused before
@@ -139,10 +139,10 @@ module _ (job : JobOf) where
 
   -- an event that applies finds no memory, which ends a run: the world is as it was, but that a clearinghouse that was to answer is
   -- stopped
-  abbrev pub HouseStarves : HouseEvent → WorldOf → Outturn → Type 0
+  abbrev pub HouseStarves : HouseEvent → WorldOf → StepResult → Type 0
   HouseStarves e w o = Applies e w.house w × (o ≡ record { world = record w { house = IsUp (Stopped by.Memory) }; answer = House (Some error.Memory) [] None })
 
-  abbrev pub Starves : Event → WorldOf → Outturn → Type 0
+  abbrev pub Starves : Event → WorldOf → StepResult → Type 0
   Starves (Start a word) w o = IsTrue (can_start a word w) × (o ≡ same (told.Refused node.Memory) w)
   Starves (AtNode a e) w o = ((n : NodeOf) × (node_in a w.nodes ≡ Some n) × MayStarveAt e n w) × (o ≡ same (told.Refused node.Memory) w)
   Starves (AtHouse e) w o = HouseStarves e w o

@@ -13,5 +13,5 @@ pub use laws::{
     a_cut_stops, a_run_can_begin, nothing_is_taken_back, only_an_opening_fails, starts_are_new,
     the_first_world, unfit_changes_nothing,
 };
-pub use parts::{NoMemory, Told};
+pub use parts::{EventAnswer, NoMemory};
 pub use world::World;

@@ -63,13 +63,13 @@ impl<'a> Model for Seat<'a> {
 
 /// What the clearinghouse replies to an event: why it refuses, if it does, and the packets that it sends.
 #[derive(Drop)]
-pub struct Reply {
+pub struct HouseReply {
     pub refused: Option<HouseError>,
     pub sent: Listed<Datagram>,
 }
 
 impl<'a> Seat<'a> {
-    /// It is down, over a disk that was formatted for the job. Refused for want of memory alone.
+    /// It is down, over a disk that was formatted for the job. Refused only when out of memory.
     pub fn new(alloc: Global, job: &'a Job) -> Result<Seat<'a>, NoMemory>
         ensures formatted { IfOk result (λ s. IsFormattedFor job.now s.disk) }
         ensures down { IfOk result (λ s. s ≡ record { job = job.now; house = Down; disk = s.disk }) }
@@ -117,27 +117,24 @@ impl<'a> Seat<'a> {
         }
     }
 
-    /// An event comes, with the packet that it delivers; one that doesn't apply changes nothing. Refused for want of memory alone:
+    /// An event comes, with the packet that it delivers; one that doesn't apply changes nothing. Refused only when out of memory:
     /// then the event applies, and the clearinghouse is stopped.
     pub fn meet(
         &mut self,
         alloc: Global,
         event: HouseEvent,
         packet: Option<&Datagram>,
-    ) -> Result<Reply, NoMemory>
+    ) -> Result<HouseReply, NoMemory>
         ensures ok { IfOk result (λ r. (w : WorldOf) → Seats self.old w → IsFound event (option_copied packet.entry) w → Happens self.old.job event w (replied r self.new w)) }
         ensures job { self.new.job ≡ self.old.job }
         ensures stopped { OnErr result (self.new ≡ record self.old { house = IsUp (Stopped by.Memory) }) }
         ensures applied { OnErr result ((w : WorldOf) → Seats self.old w → IsFound event (option_copied packet.entry) w → Applies self.old.job event self.old.house w) }
     {
-        let stand = mem::replace(&mut self.stand, Stand::Fallen(MemDisk::new(alloc)));
-        let (stand, reply) = come(alloc, self.job, stand, event, packet);
-        self.stand = stand;
-        reply
+        come(alloc, self.job, &mut self.stand, event, packet)
     }
 
     /// An event is cut off: after so many device calls the clearinghouse is stopped, and what isn't on the disk becomes these bytes.
-    /// One that doesn't apply changes nothing. Refused for want of memory alone: then the event applies, and the clearinghouse is
+    /// One that doesn't apply changes nothing. Refused only when out of memory: then the event applies, and the clearinghouse is
     /// stopped.
     pub fn cut(
         &mut self,
@@ -146,7 +143,7 @@ impl<'a> Seat<'a> {
         bytes: Vec<u8>,
         event: HouseEvent,
         packet: Option<&Datagram>,
-    ) -> Result<Reply, NoMemory>
+    ) -> Result<HouseReply, NoMemory>
         ensures ok { IfOk result (λ r. (w : WorldOf) → Seats self.old w → IsFound event (option_copied packet.entry) w → IsCutOff self.old.job (record { calls = calls; bytes = bytes.items; event = event }) w (replied r self.new w)) }
         ensures job { self.new.job ≡ self.old.job }
         ensures stopped { OnErr result (self.new ≡ record self.old { house = IsUp (Stopped by.Memory) }) }
@@ -156,7 +153,8 @@ impl<'a> Seat<'a> {
             return Ok(silent(alloc));
         }
         let stand = mem::replace(&mut self.stand, Stand::Fallen(MemDisk::new(alloc)));
-        let (stand, reply) = come(alloc, self.job, armed(stand, calls, bytes), event, packet);
+        let mut stand = armed(stand, calls, bytes);
+        let reply = come(alloc, self.job, &mut stand, event, packet);
         self.stand = Stand::Halted(stop_by(&reply), crashed(stand));
         reply
     }
@@ -202,7 +200,7 @@ fn stop_of(house: &House<'_, MemDisk>) -> Stop
 }
 
 /// What stops one of which an event was cut off.
-fn stop_by(reply: &Result<Reply, NoMemory>) -> Stop
+fn stop_by(reply: &Result<HouseReply, NoMemory>) -> Stop
     ensures { result ≡ stopping_by reply.now }
 {
     match reply {
@@ -257,31 +255,31 @@ fn armed<'a>(stand: Stand<'a>, calls: u64, bytes: Vec<u8>) -> Stand<'a>
 }
 
 /// Nothing is replied.
-fn silent(alloc: Global) -> Reply
+fn silent(alloc: Global) -> HouseReply
     ensures { result ≡ replying None [] }
 {
-    Reply {
+    HouseReply {
         refused: None,
         sent: Listed::new(alloc),
     }
 }
 
 /// An event is refused.
-fn refused(alloc: Global, error: HouseError) -> Reply
+fn refused(alloc: Global, error: HouseError) -> HouseReply
     ensures { result ≡ replying (Some error) [] }
 {
-    Reply {
+    HouseReply {
         refused: Some(error),
         sent: Listed::new(alloc),
     }
 }
 
 /// What a call of an open clearinghouse answered, as a reply.
-fn reply_of(alloc: Global, answer: Result<HouseStep, HouseError>) -> Result<Reply, NoMemory>
+fn reply_of(alloc: Global, answer: Result<HouseStep, HouseError>) -> Result<HouseReply, NoMemory>
     ensures { IsReply answer result }
 {
     match answer {
-        Ok(step) => Ok(Reply {
+        Ok(step) => Ok(HouseReply {
             refused: None,
             sent: step.sent,
         }),
@@ -291,7 +289,11 @@ fn reply_of(alloc: Global, answer: Result<HouseStep, HouseError>) -> Result<Repl
 }
 
 /// A packet comes to an open clearinghouse.
-fn hear(alloc: Global, house: &mut House<'_, MemDisk>, packet: &Datagram) -> Result<Reply, NoMemory>
+fn hear(
+    alloc: Global,
+    house: &mut House<'_, MemDisk>,
+    packet: &Datagram,
+) -> Result<HouseReply, NoMemory>
     requires stands { IsHouseOn house.old house.old.state }
     ensures { (h : HouseOf) → house.old.state ≡ Open h → Answered h (on_packet house.old.job packet.now h) result house.old house.new }
 {
@@ -300,7 +302,7 @@ fn hear(alloc: Global, house: &mut House<'_, MemDisk>, packet: &Datagram) -> Res
 }
 
 /// A moment comes to an open clearinghouse.
-fn wake(alloc: Global, house: &mut House<'_, MemDisk>, now: u64) -> Result<Reply, NoMemory>
+fn wake(alloc: Global, house: &mut House<'_, MemDisk>, now: u64) -> Result<HouseReply, NoMemory>
     requires stands { IsHouseOn house.old house.old.state }
     ensures { (h : HouseOf) → house.old.state ≡ Open h → Answered h (Does (passes house.old.job now h)) result house.old house.new }
 {
@@ -333,7 +335,7 @@ fn unopened<'a>(stop: Option<Stop>, error: HouseError, disk: MemDisk) -> Stand<'
 }
 
 /// One that isn't open is opened over its disk.
-fn restart<'a>(alloc: Global, job: &'a Job, stand: Stand<'a>) -> (Stand<'a>, Reply)
+fn restart<'a>(alloc: Global, job: &'a Job, stand: Stand<'a>) -> (Stand<'a>, HouseReply)
     requires closed { is_open_at (house_at stand) ≡ false }
     ensures comes { RestartComes result.1 (seat_of job.now stand.entry) (seat_of job.now result.0) }
     ensures own { IsOf job.now result.0 }
@@ -351,7 +353,7 @@ fn come_open(
     house: &mut House<'_, MemDisk>,
     event: HouseEvent,
     packet: Option<&Datagram>,
-) -> Result<Reply, NoMemory>
+) -> Result<HouseReply, NoMemory>
     requires stands { IsHouseOn house.old house.old.state }
     ensures { (h : HouseOf) → house.old.state ≡ Open h → AnsweredIf h (answer_to house.old.job event (option_copied packet.entry) h) result house.old house.new }
 {
@@ -369,21 +371,17 @@ fn come_open(
 fn come_up<'a>(
     alloc: Global,
     job: &'a Job,
-    stand: Stand<'a>,
+    stand: &mut Stand<'a>,
     event: HouseEvent,
     packet: Option<&Datagram>,
-) -> (Stand<'a>, Result<Reply, NoMemory>)
-    requires own { IsOf job.now stand }
-    requires is_open { is_open_at (house_at stand) ≡ true }
-    ensures { HasCome job.now event (option_copied packet.entry) result.1 stand.entry result.0 }
+) -> Result<HouseReply, NoMemory>
+    requires own { IsOf job.now stand.old }
+    requires is_open { is_open_at (house_at stand.old) ≡ true }
+    ensures { HasCome job.now event (option_copied packet.entry) result stand.old stand.new }
 {
     match stand {
-        Stand::Up(house) => {
-            let mut house = house;
-            let reply = come_open(alloc, &mut house, event, packet);
-            (Stand::Up(house), reply)
-        }
-        stand => (stand, Ok(silent(alloc))),
+        Stand::Up(house) => come_open(alloc, house, event, packet),
+        Stand::Fallen(_) | Stand::Halted(_, _) => Ok(silent(alloc)),
     }
 }
 
@@ -391,21 +389,23 @@ fn come_up<'a>(
 fn come<'a>(
     alloc: Global,
     job: &'a Job,
-    stand: Stand<'a>,
+    stand: &mut Stand<'a>,
     event: HouseEvent,
     packet: Option<&Datagram>,
-) -> (Stand<'a>, Result<Reply, NoMemory>)
-    requires own { IsOf job.now stand }
-    ensures { HasCome job.now event (option_copied packet.entry) result.1 stand.entry result.0 }
+) -> Result<HouseReply, NoMemory>
+    requires own { IsOf job.now stand.old }
+    ensures { HasCome job.now event (option_copied packet.entry) result stand.old stand.new }
 {
-    if is_open(&stand) {
+    if is_open(stand) {
         return come_up(alloc, job, stand, event, packet);
     }
     match event {
         HouseEvent::Restart => {
-            let (stand, reply) = restart(alloc, job, stand);
-            (stand, Ok(reply))
+            let closed = mem::replace(stand, Stand::Fallen(MemDisk::new(alloc)));
+            let (opened, reply) = restart(alloc, job, closed);
+            *stand = opened;
+            Ok(reply)
         }
-        HouseEvent::Deliver(_) | HouseEvent::Tick(_) => (stand, Ok(silent(alloc))),
+        HouseEvent::Deliver(_) | HouseEvent::Tick(_) => Ok(silent(alloc)),
     }
 }

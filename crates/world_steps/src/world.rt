@@ -1,7 +1,7 @@
 //! The world, and its steps.
 ghost use Rattle.std.specs.Prelude.{◌≡◌, ◌++◌, ◌&&◌, [], true, false, if◌then◌else◌, is_some, length, IfOk, Option, OnErr, OnOk, Some, None, option_copied, replicate, slice_get};
 ghost use Rattle.disk.specs.Device.{Device};
-ghost use Rattle.world_steps.specs.Answers.{Outturn};
+ghost use Rattle.world_steps.specs.Answers.{StepResult};
 ghost use Rattle.node_core.specs.Cases.{Choice};
 ghost use Rattle.node_core.specs.Choosing.{MayChoose};
 ghost use Rattle.node_core.specs.declared.error.NodeError.TheVariants.{Memory};
@@ -13,13 +13,13 @@ ghost use Rattle.world_steps.specs.Seats.{IsFound};
 ghost use Rattle.world_steps.specs.Runs.{IsFormattedFor};
 ghost use Rattle.world_steps.specs.Steps.{Step as StepOf};
 ghost use Rattle.world_steps.specs.World.{WorldOf, first_over, node_in, put_node, recorded, with_used, without_node};
-ghost use Rattle.world_steps.specs.declared.parts.Told.TheVariants as told;
+ghost use Rattle.world_steps.specs.declared.parts.EventAnswer.TheVariants as told;
 ghost use Rattle.event_script.specs.declared.event.Event.TheVariants as events;
 
 use crate::kept::Kept;
 use crate::nodes::carry_out;
-use crate::parts::{NoMemory, Told, Word};
-use crate::seat::{Reply, Seat};
+use crate::parts::{EventAnswer, NoMemory, Word};
+use crate::seat::{HouseReply, Seat};
 use body_eval::Done;
 use codec::Datagram;
 use event_script::{Cut, Event, HouseEvent, NodeEvent, NodePlace};
@@ -67,7 +67,7 @@ impl<'a> Model for World<'a> {
 impl<'a> World<'a> {
     /// The first world of a job: no node is up, the clearinghouse is down over a disk that was formatted for the job, which can be cut
     /// and isn't armed, and nothing was sent.
-    /// Refused for want of memory alone (E9).
+    /// Refused only when out of memory (E9).
     pub fn new(alloc: Global, job: &'a Job) -> Result<World<'a>, NoMemory>
         ensures { IfOk result (λ w. (d : Device) × IsFormattedFor job.now d × (w ≡ record { job = job.now; world = first_over d; is_placed = true })) }
     {
@@ -118,7 +118,7 @@ impl<'a> World<'a> {
 
     /// The ready frame of the node of a place that comes after so many others, from the deepest level on and in a level the newest
     /// first; none where fewer are ready, or no node is up there. It tells whoever acts for the node what to do next, and no clause
-    /// speaks of it: an event that names the frame is carried out by what the world holds. Refused for want of memory alone (E9).
+    /// speaks of it: an event that names the frame is carried out by what the world holds. Refused only when out of memory (E9).
     pub fn ready(
         &self,
         alloc: Global,
@@ -150,18 +150,18 @@ impl<'a> World<'a> {
 
     /// An event is carried out. For an Exec a turn may be at hand, of the job's program: one that is the ready frame's own, of its
     /// thread on its numbers, is used, and another one is put aside. What doesn't apply, or is refused, changes nothing. A device call
-    /// that fails stops the clearinghouse; only the read of an opening does by itself, for want of memory. E9 where the event finds
+    /// that fails stops the clearinghouse; only the read of an opening does by itself, when out of memory. E9 where the event finds
     /// no memory: the world is as it was, but a clearinghouse that was to answer is stopped.
     pub fn step(
         &mut self,
         alloc: Global,
         event: &Event,
         turn: Option<&Done>,
-    ) -> Result<Told, NoMemory>
+    ) -> Result<EventAnswer, NoMemory>
         requires { IsOfJob self.old.job (option_copied turn) }
         ensures job { self.new.job ≡ self.old.job }
-        ensures step { IfOk result (λ t. (o : Outturn) × StepOf self.old.job event.now self.old.world o × (self.new.world ≡ o.world) × (t ≡ told_of o.answer)) }
-        ensures starved { OnErr result ((o : Outturn) × IsStarved event.now self.old self.new.is_placed o × (self.new.world ≡ o.world)) }
+        ensures step { IfOk result (λ t. (o : StepResult) × StepOf self.old.job event.now self.old.world o × (self.new.world ≡ o.world) × (t ≡ told_of o.answer)) }
+        ensures starved { OnErr result ((o : StepResult) × IsStarved event.now self.old self.new.is_placed o × (self.new.world ≡ o.world)) }
     {
         match event {
             Event::Start(place, word) => self.start(alloc, *place, *word),
@@ -177,13 +177,13 @@ impl<'a> World<'a> {
     }
 
     /// What is told of an event of the clearinghouse that has no answer.
-    fn unheard(&self) -> Told
+    fn unheard(&self) -> EventAnswer
         ensures { result ≡ told.House None 0 (recorded self.now.world) }
     {
-        Told::House(None, 0, self.seat.outcome())
+        EventAnswer::House(None, 0, self.seat.outcome())
     }
 
-    /// All that was sent and put into slots gets its place. Refused for want of memory alone, and only where something has none.
+    /// All that was sent and put into slots gets its place. Refused only when out of memory, and only where something has none.
     fn place(&mut self) -> Result<(), NoMemory>
         ensures job { self.new.job ≡ self.old.job }
         ensures same { self.new.world ≡ self.old.world }
@@ -196,13 +196,13 @@ impl<'a> World<'a> {
     }
 
     /// A node did a step: what it sent and put into slots is kept.
-    fn did(&mut self, step: Step) -> Told
+    fn did(&mut self, step: Step) -> EventAnswer
         requires { self.old.is_placed ≡ true }
         ensures job { self.new.job ≡ self.old.job }
         ensures kept { self.new.world ≡ record self.old.world { net = self.old.world.net ++ step.sent; fills = self.old.world.fills ++ step.fills } }
         ensures told { result ≡ told.Did (length step.sent) (length step.fills) }
     {
-        let told = Told::Did(step.sent.len(), step.fills.len());
+        let told = EventAnswer::Did(step.sent.len(), step.fills.len());
         self.net.hold(step.sent);
         self.fills.hold(step.fills);
         let _ = self.place();
@@ -250,13 +250,13 @@ impl<'a> World<'a> {
     }
 
     /// A node starts at a place with a start word, if it can.
-    fn start(&mut self, alloc: Global, place: NodePlace, word: u64) -> Result<Told, NoMemory>
+    fn start(&mut self, alloc: Global, place: NodePlace, word: u64) -> Result<EventAnswer, NoMemory>
         ensures job { self.new.job ≡ self.old.job }
-        ensures step { IfOk result (λ t. (o : Outturn) × StepOf self.old.job (events.Start place word) self.old.world o × (self.new.world ≡ o.world) × (t ≡ told_of o.answer)) }
-        ensures starved { OnErr result ((o : Outturn) × IsStarved (events.Start place word) self.old self.new.is_placed o × (self.new.world ≡ o.world)) }
+        ensures step { IfOk result (λ t. (o : StepResult) × StepOf self.old.job (events.Start place word) self.old.world o × (self.new.world ≡ o.world) × (t ≡ told_of o.answer)) }
+        ensures starved { OnErr result ((o : StepResult) × IsStarved (events.Start place word) self.old self.new.is_placed o × (self.new.world ≡ o.world)) }
     {
         let Some(incarnation) = self.starts(place, word) else {
-            return Ok(Told::Unfit);
+            return Ok(EventAnswer::Unfit);
         };
         self.place()?;
         let Ok((node, step)) = Node::start(alloc, self.job, incarnation) else {
@@ -273,19 +273,19 @@ impl<'a> World<'a> {
         place: NodePlace,
         event: NodeEvent,
         turn: Option<&Done>,
-    ) -> Result<Told, NoMemory>
+    ) -> Result<EventAnswer, NoMemory>
         requires { IsOfJob self.old.job (option_copied turn) }
         ensures job { self.new.job ≡ self.old.job }
-        ensures step { IfOk result (λ t. (o : Outturn) × StepOf self.old.job (events.AtNode place event) self.old.world o × (self.new.world ≡ o.world) × (t ≡ told_of o.answer)) }
-        ensures starved { OnErr result ((o : Outturn) × IsStarved (events.AtNode place event) self.old self.new.is_placed o × (self.new.world ≡ o.world)) }
+        ensures step { IfOk result (λ t. (o : StepResult) × StepOf self.old.job (events.AtNode place event) self.old.world o × (self.new.world ≡ o.world) × (t ≡ told_of o.answer)) }
+        ensures starved { OnErr result ((o : StepResult) × IsStarved (events.AtNode place event) self.old self.new.is_placed o × (self.new.world ≡ o.world)) }
     {
         self.may_choose(place);
         if !self.fits(place, event) {
-            return Ok(Told::Unfit);
+            return Ok(EventAnswer::Unfit);
         }
         self.place()?;
         match self.come(alloc, place, event, turn) {
-            Ok(step) if step.ignored => Ok(Told::Ignored),
+            Ok(step) if step.ignored => Ok(EventAnswer::Ignored),
             Ok(step) => Ok(self.did(step)),
             Err(error) => refusal(error),
         }
@@ -321,12 +321,10 @@ impl<'a> World<'a> {
         ensures came { Came self.old self.new.world place event result }
     {
         let at = usize::from(place.index());
-        let Some(mut node) = mem::replace(&mut self.nodes[at], None) else {
+        let Some(node) = &mut self.nodes[at] else {
             unreachable!();
         };
-        let answer = carry_out(alloc, &mut node, event, handed(&self.net, event), turn);
-        self.nodes[at] = Some(node);
-        answer
+        carry_out(alloc, node, event, handed(&self.net, event), turn)
     }
 
     /// A node that is up may be asked to choose a frame. Does nothing.
@@ -339,19 +337,19 @@ impl<'a> World<'a> {
     }
 
     /// The node of a place loses its memory, if one is up there.
-    fn crash(&mut self, place: NodePlace) -> Told
+    fn crash(&mut self, place: NodePlace) -> EventAnswer
         ensures job { self.new.job ≡ self.old.job }
-        ensures step { (o : Outturn) × StepOf self.old.job (events.Crash place) self.old.world o × (self.new.world ≡ o.world) × (result ≡ told_of o.answer) }
+        ensures step { (o : StepResult) × StepOf self.old.job (events.Crash place) self.old.world o × (self.new.world ≡ o.world) × (result ≡ told_of o.answer) }
     {
         if !self.is_up(place) {
-            return Told::Unfit;
+            return EventAnswer::Unfit;
         }
         let _ = self.remove(place);
-        Told::Did(0, 0)
+        EventAnswer::Did(0, 0)
     }
 
     /// What the clearinghouse replied is kept.
-    fn replied(&mut self, reply: Reply) -> Told
+    fn replied(&mut self, reply: HouseReply) -> EventAnswer
         requires { self.old.is_placed ≡ true }
         ensures job { self.new.job ≡ self.old.job }
         ensures kept { self.new.world ≡ record self.old.world { net = self.old.world.net ++ reply.sent } }
@@ -360,14 +358,14 @@ impl<'a> World<'a> {
         let sent = reply.sent.len();
         self.net.hold(reply.sent);
         let _ = self.place();
-        Told::House(reply.refused, sent, self.seat.outcome())
+        EventAnswer::House(reply.refused, sent, self.seat.outcome())
     }
 
     /// Something comes to the clearinghouse, if it applies.
-    fn at_house(&mut self, alloc: Global, event: HouseEvent) -> Result<Told, NoMemory>
+    fn at_house(&mut self, alloc: Global, event: HouseEvent) -> Result<EventAnswer, NoMemory>
         ensures job { self.new.job ≡ self.old.job }
-        ensures step { IfOk result (λ t. (o : Outturn) × StepOf self.old.job (events.AtHouse event) self.old.world o × (self.new.world ≡ o.world) × (t ≡ told_of o.answer)) }
-        ensures starved { OnErr result ((o : Outturn) × IsStarved (events.AtHouse event) self.old self.new.is_placed o × (self.new.world ≡ o.world)) }
+        ensures step { IfOk result (λ t. (o : StepResult) × StepOf self.old.job (events.AtHouse event) self.old.world o × (self.new.world ≡ o.world) × (t ≡ told_of o.answer)) }
+        ensures starved { OnErr result ((o : StepResult) × IsStarved (events.AtHouse event) self.old self.new.is_placed o × (self.new.world ≡ o.world)) }
     {
         if !self.seat.applies(event, delivered(&self.net, event)) {
             return Ok(self.unheard());
@@ -381,10 +379,10 @@ impl<'a> World<'a> {
     }
 
     /// An event of the clearinghouse is cut off, if it applies.
-    fn cut(&mut self, alloc: Global, cut: &Cut) -> Result<Told, NoMemory>
+    fn cut(&mut self, alloc: Global, cut: &Cut) -> Result<EventAnswer, NoMemory>
         ensures job { self.new.job ≡ self.old.job }
-        ensures step { IfOk result (λ t. (o : Outturn) × StepOf self.old.job (events.Cut cut.now) self.old.world o × (self.new.world ≡ o.world) × (t ≡ told_of o.answer)) }
-        ensures starved { OnErr result ((o : Outturn) × IsStarved (events.Cut cut.now) self.old self.new.is_placed o × (self.new.world ≡ o.world)) }
+        ensures step { IfOk result (λ t. (o : StepResult) × StepOf self.old.job (events.Cut cut.now) self.old.world o × (self.new.world ≡ o.world) × (t ≡ told_of o.answer)) }
+        ensures starved { OnErr result ((o : StepResult) × IsStarved (events.Cut cut.now) self.old self.new.is_placed o × (self.new.world ≡ o.world)) }
     {
         self.seat.can_cut();
         if !self
@@ -408,7 +406,7 @@ impl<'a> World<'a> {
 }
 
 /// What is told of a refused call of a node.
-fn refusal(error: NodeError) -> Result<Told, NoMemory>
+fn refusal(error: NodeError) -> Result<EventAnswer, NoMemory>
     ensures told { IfOk result (λ t. (t ≡ told.Refused error) × (error ≡ Memory → ⊥)) }
     ensures lacks { OnErr result (error ≡ Memory) }
 {
@@ -422,7 +420,7 @@ fn refusal(error: NodeError) -> Result<Told, NoMemory>
         | NodeError::NoHeir
         | NodeError::NotJoined
         | NodeError::Busy
-        | NodeError::Spent => Ok(Told::Refused(error)),
+        | NodeError::Spent => Ok(EventAnswer::Refused(error)),
     }
 }
 

@@ -55,7 +55,7 @@ fn write_bearers<O: Write>(
     writeln!(out)
 }
 
-/// The heirs of members; once more behind a refusal, which is for want of memory.
+/// The heirs of members; once more behind a refusal, which is when out of memory.
 fn write_heirs<O: Write>(
     alloc: Global,
     members: &[Member],

@@ -37,7 +37,7 @@ fn level(line: &Line<'_>) -> Option<u16> {
     u16::try_from(line.number(2)?).ok()
 }
 
-/// Posts a frame; once more behind a refusal, which is for want of memory.
+/// Posts a frame; once more behind a refusal, which is when out of memory.
 fn post<O: Write>(
     level: u16,
     grant: GrantId,

@@ -1,14 +1,16 @@
-use Rattle.std.proofs.Common.{arith}
-use Rattle.event_script.proofs.Cuts.{parts_at, parts_whole, no_end_more}
+use Rattle.std.proofs.Common.{length, get_or, arith}
+use Rattle.std.proofs.lemmas.Bool.{eqb-true}
+use Rattle.event_script.proofs.Cuts.{none_before, parts_at, parts_whole}
 use Rattle.event_script.proofs.parts.first_part.Goals as goal
 
-pub returns-then-b-end : goal.returns-then-b-end
-returns-then-b-end c =
-    rw (c.split_at.ensures.front, c.split_at-then-b-end.ensures.back)
-    (parts_at c.args.end c.loop-i.i c.args.text.now c.loop-i-test.true c.if-b-end.true c.loop-i.invariant)
+pub returns-in-Some : goal.returns-in-Some
+returns-in-Some c =
+    let found = c.in-Some.ensures in
+    let none = none_before c.args.end c.in-Some.i c.args.text.now (omega (arith, found.0.high)) found.0.before in
+    let here = eqb-true (get_or c.args.text.now c.in-Some.i 0) c.args.end found.1 in
+    rw (c.split_at.ensures.front, c.split_at-in-Some.ensures.back) (parts_at c.args.end c.in-Some.i c.args.text.now found.0.high here none)
 
-pub loop-i-preserved : goal.loop-i-preserved
-loop-i-preserved c = no_end_more c.args.end c.loop-i.i c.args.text.now c.loop-i-test.true c.if-b-end.false c.loop-i.invariant
-
-pub returns : goal.returns
-returns c = parts_whole c.args.end c.loop-i.i c.args.text.now (omega arith) c.loop-i.invariant
+pub returns-in-None : goal.returns-in-None
+returns-in-None c =
+    let none = none_before c.args.end (length c.args.text.now) c.args.text.now (omega arith) c.in-None.ensures in
+    parts_whole c.args.end (length c.args.text.now) c.args.text.now (omega arith) none

@@ -4,4 +4,4 @@ use Rattle.world_steps.proofs.seat.come_up.Goals as goal
 
 pub returns-in-Up : goal.returns-in-Up
 returns-in-Up c =
-    up_comes c.args.event (option_copied c.args.packet) c.come_open-reply.result c.in-Up.house c.come_open-reply.new.house c.args.job.now c.args.stand c.in-Up.is c.requires.own c.requires.is_open c.come_open-reply.ensures
+    up_comes c.args.event (option_copied c.args.packet) c.come_open.result c.in-Up.house c.come_open.new.house c.args.job.now c.args.stand.now c.in-Up.is c.requires.own c.requires.is_open c.come_open.ensures

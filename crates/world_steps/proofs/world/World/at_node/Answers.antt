@@ -1,4 +1,4 @@
-use Rattle.std.proofs.Common.{inl, inr, refl}
+use Rattle.std.proofs.Common.{inr, refl}
 use Rattle.world_steps.proofs.Coming.{did_told, first_met, ignored_told, lacks_told, moved, on_err, refused_told, second_met, unfit_step}
 use Rattle.world_steps.proofs.world.World.at_node.Goals as goal
 

@@ -4,7 +4,7 @@ use Rattle.node_core.specs.Calls.{start}
 use Rattle.node_core.specs.Meeting.{NodeOn}
 use Rattle.node_core.specs.declared.parts.Step.{Step as NodeStep}
 use Rattle.world_steps.specs.Calls.{WorldOn}
-use Rattle.world_steps.specs.declared.parts.Told.TheVariants.{Did}
+use Rattle.world_steps.specs.declared.parts.EventAnswer.TheVariants.{Did}
 use Rattle.world_steps.proofs.Coming.{cond_none, cond_some, is_true, on_err, start_world}
 use Rattle.world_steps.proofs.Stepping.{start_unfit, started}
 use Rattle.world_steps.proofs.world.World.start.Goals as goal
