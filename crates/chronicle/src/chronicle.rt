@@ -237,8 +237,11 @@ impl<'a> Chronicle<'a> {
             let ActorSeat { seat } = seat;
             all.add(&lock, seat);
         }
+        let kept = lock.close(all);
+        let counts = *kept.world().counts();
         Some(Trace {
-            entries: lock.close(all).into_entries(),
+            entries: kept.into_entries(),
+            counts,
         })
     }
 }

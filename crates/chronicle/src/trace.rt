@@ -11,14 +11,16 @@ use event_script::{Event, line};
 use ids::Outcome;
 use std::alloc::{AllocError, Global};
 use std::marker::Model;
+use world_steps::RunCounts;
 
 /// The first line of a script by which nodes have the places 0 to 63.
 const FIRST_LINE: &[u8] = b"# nodes 64\n";
 
-/// All that was committed. Contracts see the entries, in the order in which they were committed.
+/// All that was committed, and what was counted meanwhile. Contracts see the entries, in the order in which they were committed.
 #[derive(Drop)]
 pub struct Trace {
     pub(crate) entries: Vec<Entry>,
+    pub(crate) counts: RunCounts,
 }
 
 impl Model for Trace {
@@ -36,6 +38,11 @@ impl Trace {
         ensures { result.now ≡ self.now }
     {
         self.entries.as_slice()
+    }
+
+    /// What was counted. No clause speaks of it.
+    pub fn counts(&self) -> &RunCounts {
+        &self.counts
     }
 
     /// The outcome that an event of the clearinghouse told first, if one did. It is the job's meaning, where the trace is a safe history

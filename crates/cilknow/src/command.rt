@@ -5,22 +5,24 @@ use crate::explain::{Named, explain};
 use crate::fault::SoloFault;
 use crate::form::{FormFault, form_of};
 use crate::logged::log_text;
+use crate::nodes::ran_on_nodes;
 use crate::solo::solo;
-use crate::stored::{info_in, store_in};
+use crate::stored::info_in;
 use crate::words::{DrawWords, JobWords, RunWords, Subcommand, Words, read_words};
 use checkpoint::Info;
 use chronicle::Trace;
+use event_words::{write_counts, write_turns};
 use jobs::{FileFault, JobFault, job_of, program_of, text_bytes};
-use node_runner::{Open, RunConfig, RunError, Stored, run_job, run_stored};
+use node_runner::{RunConfig, RunError};
 use replaying::{
     ReplayFault, ReplayWords, WordsFault, help_of, replay_files, replay_words, write_replayed,
 };
 use run_picture::{Recorder, write_picture};
-use serial_meaning::{Job, Outcome, SerialError, serial};
+use serial_meaning::{Outcome, SerialError, TurnCounts, serial, serial_counted};
 use std::alloc::Global;
 use std::convert::AsStr;
 use std::fs::File;
-use std::io::{self, Write};
+use std::io::{self, Stderr, Write};
 use std::rt::Files;
 use std::sync::Wait;
 use std::thread::Threads;
@@ -103,18 +105,34 @@ impl From<JobFault> for CommandFault {
     }
 }
 
-/// The serial outcome of a text on an input.
-fn serial_outcome(
-    alloc: Global,
-    text: &[u8],
-    words: JobWords<'_>,
-) -> Result<Outcome, CommandFault> {
-    let job = job_of(alloc, text, words.input, words.job)?;
-    match serial(alloc, &job, words.turns) {
-        Ok(outcome) => Ok(outcome),
-        Err(SerialError::TurnsSpent) => Err(CommandFault::TurnsSpent),
-        Err(SerialError::Memory) => Err(CommandFault::Run(SoloFault::Memory)),
+/// Why a serial outcome isn't there.
+fn unfinished(error: SerialError) -> CommandFault {
+    match error {
+        SerialError::TurnsSpent => CommandFault::TurnsSpent,
+        SerialError::Memory => CommandFault::Run(SoloFault::Memory),
     }
+}
+
+/// The serial outcome of a job. What was counted is told where that is asked for.
+fn answer_serial<R: Files + AllocGlobal, O: Write, E: Write>(
+    rt: &R,
+    words: JobWords<'_>,
+    stats: bool,
+    out: &mut O,
+    err: &mut E,
+) -> Result<(), CommandFault> {
+    let alloc = rt.alloc();
+    let text = text_bytes(rt, words.file)?;
+    let job = job_of(alloc, text.as_slice(), words.input, words.job)?;
+    let outcome = if stats {
+        let mut counts = TurnCounts::new();
+        let outcome = serial_counted(alloc, &job, words.turns, &mut counts).map_err(unfinished)?;
+        let _ = write_turns(err, job.checked().program(), &counts);
+        outcome
+    } else {
+        serial(alloc, &job, words.turns).map_err(unfinished)?
+    };
+    write_outcome(out, outcome).map_err(|_| CommandFault::File)
 }
 
 fn write_outcome<O: Write>(out: &mut O, outcome: Outcome) -> io::Result<()> {
@@ -153,13 +171,21 @@ fn write_line<O: Write>(out: &mut O, text: impl fmt::Display + Drop) -> io::Resu
     out.flush()
 }
 
-/// What a replay comes to.
-fn answer_replay<R: Files + AllocGlobal, O: Write>(
+/// What a replay comes to. What was counted is told where that is asked for, and so the program is read once more, for its threads' names.
+fn answer_replay<R: Files + AllocGlobal + Threads + Clock + Sync, O: Write>(
     rt: &R,
     words: ReplayWords<'_>,
+    stats: bool,
     out: &mut O,
+    err: &mut Stderr,
 ) -> Result<(), CommandFault> {
-    let replayed = replay_words(rt, words, out).map_err(CommandFault::Replay)?;
+    let file = words.file;
+    let replayed = replay_words(rt, words, out, err).map_err(CommandFault::Replay)?;
+    if stats {
+        let text = text_bytes(rt, file)?;
+        let checked = program_of(rt.alloc(), text.as_slice())?;
+        let _ = write_counts(err, checked.program(), &replayed.counts);
+    }
     write_replayed(out, &replayed).map_err(|_| CommandFault::File)
 }
 
@@ -191,52 +217,69 @@ fn answer_draw<R: Files + AllocGlobal, O: Write>(
     written.map_err(|_| CommandFault::File)
 }
 
-/// What a run comes to: by one evaluator where nothing asks for threads, else by nodes on threads.
+/// What a run comes to: by one evaluator where nothing asks for threads, else by nodes on threads. What was counted is told where that is
+/// asked for.
 fn answer_run<R: Files<File = File> + AllocGlobal + Threads + Wait + Clock + Sync, O: Write>(
     rt: &R,
     words: RunWords<'_>,
+    stats: bool,
     out: &mut O,
+    err: &mut Stderr,
 ) -> Result<(), CommandFault> {
     let Some(config) = words.config() else {
         return Err(CommandFault::Usage);
     };
-    let (alloc, is_alone) = (rt.alloc(), words.is_alone());
-    let JobWords {
-        file,
-        turns,
-        job,
-        input,
-    } = words.job;
-    let text = text_bytes(rt, file)?;
-    let outcome = if is_alone {
-        solo(alloc, text.as_slice(), input, job, turns).map_err(CommandFault::Run)?
+    let outcome = if words.is_alone() {
+        ran_alone(rt, words.job, stats, err)?
     } else {
-        let job = job_of(alloc, text.as_slice(), input, job)?;
-        let ran = ran_on_nodes(rt, &job, &config, words.store)?;
-        write_trace(rt, words.trace, &ran.trace)?;
-        write_log(rt, words.log, &ran.trace)?;
-        ran.outcome
+        ran_by_nodes(rt, words, &config, stats, err)?
     };
     write_outcome(out, outcome).map_err(|_| CommandFault::File)
 }
 
-/// A job is run by nodes on threads, over the store in a file where one is named.
-fn ran_on_nodes<R: Files<File = File> + AllocGlobal + Threads + Wait + Clock + Sync>(
+/// The outcome of a job by one evaluator.
+fn ran_alone<R: Files + AllocGlobal, E: Write>(
     rt: &R,
-    job: &Job,
-    config: &RunConfig,
-    store: Option<&str>,
-) -> Result<Stored, CommandFault> {
+    words: JobWords<'_>,
+    stats: bool,
+    err: &mut E,
+) -> Result<Outcome, CommandFault> {
     let alloc = rt.alloc();
-    let Some(path) = store else {
-        let ran = run_job(rt, alloc, job, config, &Open).map_err(CommandFault::Nodes)?;
-        return Ok(Stored {
-            outcome: ran.outcome,
-            trace: Some(ran.trace),
-        });
-    };
-    let mut store = store_in(rt, path, job.number())?;
-    run_stored(rt, alloc, job, &mut store, config, &Open).map_err(CommandFault::Nodes)
+    let text = text_bytes(rt, words.file)?;
+    let mut counts = TurnCounts::new();
+    let outcome = solo(
+        alloc,
+        text.as_slice(),
+        words.input,
+        words.job,
+        words.turns,
+        &mut counts,
+    )
+    .map_err(CommandFault::Run)?;
+    if stats {
+        let checked = program_of(alloc, text.as_slice())?;
+        let _ = write_turns(err, checked.program(), &counts);
+    }
+    Ok(outcome)
+}
+
+/// The outcome of a job by nodes on threads. The trace and the log are written where files are named for them.
+fn ran_by_nodes<R: Files<File = File> + AllocGlobal + Threads + Wait + Clock + Sync>(
+    rt: &R,
+    words: RunWords<'_>,
+    config: &RunConfig,
+    stats: bool,
+    err: &mut Stderr,
+) -> Result<Outcome, CommandFault> {
+    let text = text_bytes(rt, words.job.file)?;
+    let job = job_of(rt.alloc(), text.as_slice(), words.job.input, words.job.job)?;
+    let ran = ran_on_nodes(rt, &job, config, words.store, err)?;
+    write_trace(rt, words.trace, &ran.trace)?;
+    write_log(rt, words.log, &ran.trace)?;
+    if let (true, Some(trace)) = (stats, &ran.trace) {
+        let _ = write_counts(err, job.checked().program(), trace.counts());
+    }
+    Ok(ran.outcome)
 }
 
 /// Writes the script of a run's trace to a file, where one is named.
@@ -273,7 +316,9 @@ fn write_log<R: Files + AllocGlobal>(
 fn answer<R: Files<File = File> + AllocGlobal + Threads + Wait + Clock + Sync, O: Write>(
     rt: &R,
     request: Subcommand<'_>,
+    stats: bool,
     out: &mut O,
+    err: &mut Stderr,
 ) -> Result<(), CommandFault> {
     let alloc = rt.alloc();
     let written = match request {
@@ -287,12 +332,9 @@ fn answer<R: Files<File = File> + AllocGlobal + Threads + Wait + Clock + Sync, O
             let form = form_of(alloc, text.as_slice()).map_err(CommandFault::Form)?;
             write_bytes(out, form.as_slice())
         }
-        Subcommand::Serial(words) => {
-            let text = text_bytes(rt, words.file)?;
-            write_outcome(out, serial_outcome(alloc, text.as_slice(), words)?)
-        }
-        Subcommand::Run(words) => return answer_run(rt, words, out),
-        Subcommand::Replay(words) => return answer_replay(rt, words, out),
+        Subcommand::Serial(words) => return answer_serial(rt, words, stats, out, err),
+        Subcommand::Run(words) => return answer_run(rt, words, stats, out, err),
+        Subcommand::Replay(words) => return answer_replay(rt, words, stats, out, err),
         Subcommand::Draw(words) => return answer_draw(rt, words, out),
         Subcommand::Store(path) => write_info(out, info_in(rt, path)?),
     };
@@ -310,14 +352,13 @@ fn shown<O: Write>(error: clap::Error, out: &mut O) -> Result<(), CommandFault> 
 }
 
 /// Carries out a command line, the program's own name its first word: answers go to `out`, and a fault goes to `err` as one
-/// line, behind which it is explained where the words ask for that. The status to end with is 0 where all was done, and else that of
-/// the fault.
+/// line, behind which it is explained where the words ask for that. Where `err` is a terminal it is told there how far a long replay, or a
+/// long run on nodes, has come. The status to end with is 0 where all was done, and else that of the fault.
 pub fn command<
     R: Files<File = File> + AllocGlobal + Threads + Wait + Clock + Sync,
     S: AsStr,
     O: Write,
-    E: Write,
->(rt: &R, words: &[S], out: &mut O, err: &mut E) -> u8 {
+>(rt: &R, words: &[S], out: &mut O, err: &mut Stderr) -> u8 {
     match read_words(rt.alloc(), words) {
         Ok(Some(line)) => carried_out(rt, line, out, err),
         Ok(None) => refused(CommandFault::Usage, err),
@@ -332,14 +373,19 @@ pub fn command<
 }
 
 /// Carries out what a command line asks for; the status to end with.
-fn carried_out<
-    R: Files<File = File> + AllocGlobal + Threads + Wait + Clock + Sync,
-    O: Write,
-    E: Write,
->(rt: &R, line: Words<'_>, out: &mut O, err: &mut E) -> u8 {
-    let Words { request, explain } = line;
+fn carried_out<R: Files<File = File> + AllocGlobal + Threads + Wait + Clock + Sync, O: Write>(
+    rt: &R,
+    line: Words<'_>,
+    out: &mut O,
+    err: &mut Stderr,
+) -> u8 {
+    let Words {
+        request,
+        explain,
+        stats,
+    } = line;
     let named = Named::by(&request);
-    match answer(rt, request, out) {
+    match answer(rt, request, stats, out, err) {
         Ok(()) => 0,
         Err(fault) if explain => explained(rt, fault, &named, err),
         Err(fault) => refused(fault, err),

@@ -7,6 +7,7 @@ mod fault;
 mod form;
 mod helps;
 mod logged;
+mod nodes;
 mod solo;
 mod stored;
 mod words;

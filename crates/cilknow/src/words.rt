@@ -8,11 +8,12 @@ use replaying::{
 use std::alloc::{AllocError, Global};
 use std::convert::AsStr;
 
-/// A command line: what it asks for, and whether a fault is to be explained.
+/// A command line: what it asks for, whether a fault is to be explained, and whether what was counted is to be told.
 #[derive(Drop)]
 pub struct Words<'a> {
     pub request: Subcommand<'a>,
     pub explain: bool,
+    pub stats: bool,
 }
 
 /// What the words of a command line ask for.
@@ -106,6 +107,14 @@ const AFTER: &str =
 
 const TURNS: &str = "1000000000";
 
+/// The option that asks for what is counted of a run.
+fn stats_word<'a>(alloc: Global) -> Arg<'a> {
+    Arg::new(alloc, "stats")
+        .long("stats")
+        .action(ArgAction::SetTrue)
+        .help("Tells on standard error what was counted: turns, steals, packets, frames")
+}
+
 /// A subcommand that takes a job: a file, the turns, the job's number and the input.
 fn job_words<'a>(
     alloc: Global,
@@ -118,6 +127,7 @@ fn job_words<'a>(
         .after_help(after)
         .arg(file_word(alloc))?
         .arg(explain_word(alloc))?
+        .arg(stats_word(alloc))?
         .arg(number_word(alloc, "turns", TURNS, "At most so many turns"))?
         .arg(number_word(alloc, "job", "1", "The job's number"))?
         .arg(input_word(alloc))
@@ -187,6 +197,7 @@ fn replay_words<'a>(alloc: Global) -> Result<Command<'a>, AllocError> {
         .after_help(helps::REPLAY);
     with_replay_words(alloc, command)?
         .arg(packets_word(alloc))?
+        .arg(stats_word(alloc))?
         .arg(explain_word(alloc))
 }
 
@@ -328,8 +339,13 @@ pub fn read_words<'a, S: AsStr>(alloc: Global, words: &'a [S]) -> Result<Option<
         return Ok(None);
     };
     let explain = inner.get_flag("explain");
+    let stats = matches!(command, "serial" | "run" | "replay") && inner.get_flag("stats");
     match request_of(alloc, command, inner)? {
-        Some(request) => Ok(Some(Words { request, explain })),
+        Some(request) => Ok(Some(Words {
+            request,
+            explain,
+            stats,
+        })),
         None => Ok(None),
     }
 }

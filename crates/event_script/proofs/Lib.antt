@@ -3,4 +3,5 @@ pub mod Digits
 pub mod Pairs
 pub mod Lefts
 pub mod Spaced
+pub mod Ascii
 pub mod Back

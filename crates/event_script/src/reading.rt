@@ -41,6 +41,7 @@ impl<'a> LineRead<'a> {
 }
 
 /// The number that is the only word left.
+#[inline(always)]
 fn only_number(mut words: Parts<'_>) -> Option<u64>
     ensures { result ≡ defined.only_number words.entry }
 {
@@ -48,6 +49,7 @@ fn only_number(mut words: Parts<'_>) -> Option<u64>
     if words.is_empty() { Some(n) } else { None }
 }
 
+#[inline(always)]
 fn frame_of(mut words: Parts<'_>) -> Option<FrameOf>
     ensures { result ≡ defined.frame_of words.entry }
 {
@@ -74,6 +76,7 @@ fn asked(word: &[u8]) -> Option<Asked>
     }
 }
 
+#[inline(always)]
 fn ask(mut words: Parts<'_>) -> Option<NodeEvent>
     ensures { result ≡ defined.ask words.entry }
 {
@@ -93,6 +96,7 @@ fn house_event(mut words: Parts<'_>) -> Option<HouseEvent>
 }
 
 /// The event of the clearinghouse of this name, with the words behind it.
+#[inline(always)]
 fn house_event_of(name: &[u8], words: Parts<'_>) -> Option<HouseEvent>
     ensures { result ≡ defined.house_event (name.now ∷ words.entry) }
 {
@@ -107,6 +111,7 @@ fn house_event_of(name: &[u8], words: Parts<'_>) -> Option<HouseEvent>
     }
 }
 
+#[inline(always)]
 fn node_event(name: &[u8], words: Parts<'_>) -> Option<NodeEvent>
     ensures { result ≡ defined.node_event name.now words.entry }
 {
@@ -126,6 +131,7 @@ fn node_event(name: &[u8], words: Parts<'_>) -> Option<NodeEvent>
 }
 
 /// A place of a world that has so many.
+#[inline(always)]
 fn place(places: u8, word: &[u8]) -> Option<NodePlace>
     requires { places ≤ 64 }
     ensures { result ≡ defined.place places word.now }
@@ -138,6 +144,7 @@ fn place(places: u8, word: &[u8]) -> Option<NodePlace>
     }
 }
 
+#[inline(always)]
 fn at_place(name: &[u8], place: NodePlace, words: Parts<'_>) -> Option<Event>
     ensures { result ≡ defined.at_place name.now place words.entry }
 {
@@ -154,6 +161,7 @@ fn at_place(name: &[u8], place: NodePlace, words: Parts<'_>) -> Option<Event>
     }
 }
 
+#[inline(always)]
 fn placed(places: u8, name: &[u8], mut words: Parts<'_>) -> Option<Event>
     requires { places ≤ 64 }
     ensures { result ≡ defined.placed places name.now words.entry }
@@ -191,15 +199,17 @@ fn event_of<'a>(places: u8, words: Parts<'a>) -> Option<LineRead<'a>>
     }
 }
 
-fn is_ascii(line: &[u8]) -> bool
-    ensures { result ≡ defined.is_ascii line.now }
+/// Whether each byte is ASCII. The loop doesn't stop at one that isn't, so that it takes many bytes in one step.
+pub fn is_ascii(text: &[u8]) -> bool
+    ensures { result ≡ defined.is_ascii text.now }
 {
-    for b in line {
+    let mut ascii = true;
+    for b in text {
         if *b >= 128 {
-            return false;
+            ascii = false;
         }
     }
-    true
+    ascii
 }
 
 fn is_skipped(line: &[u8]) -> bool
@@ -211,14 +221,12 @@ fn is_skipped(line: &[u8]) -> bool
     }
 }
 
-/// What a line is, in a world of so many places.
+/// What a line of ASCII is, in a world of so many places.
 pub fn read<'a>(places: u8, line: &'a [u8]) -> Found<'a>
-    requires { places ≤ 64 }
+    requires few { places ≤ 64 }
+    requires ascii { defined.is_ascii line.now ≡ true }
     ensures { found_line result ≡ defined.line_of places line.now }
 {
-    if !is_ascii(line) {
-        return Found::Refused;
-    }
     if is_skipped(line) {
         return Found::Skipped;
     }

@@ -1,13 +1,13 @@
 //! Scripts of events: one event a line.
 ghost use Rattle.std.specs.Prelude.{◌≡◌, ◌≤◌, ◌<◌, IfOk, IfErr, OnErr, Ok, Err, true};
 ghost use Rattle.event_script.specs.Left.{all_read, events_of, is_cut_next, is_read};
-ghost use Rattle.event_script.specs.Lines.{line_of};
+ghost use Rattle.event_script.specs.Lines.{is_ascii, line_of};
 ghost use Rattle.event_script.specs.Scripts.{script, places};
 ghost use Rattle.event_script.specs.Words.{lines, next_left};
 
 use crate::event::{Event, PLACES};
 use crate::parts::Parts;
-use crate::reading::{Found, read};
+use crate::reading::{Found, is_ascii, read};
 use std::alloc::{AllocError, Global};
 use std::marker::Model;
 use thiserror::Error;
@@ -69,17 +69,21 @@ fn places_of(text: &[u8]) -> u8
     ensures few { result ≡ places (lines text.now) }
     ensures within { result ≤ 64 }
 {
-    match Parts::of(b'\n', text).next() {
+    match Parts::of(b'\n', text).next_line() {
         Some(first) if first == b"# nodes 64".as_slice() => PLACES,
         _ => FEW_PLACES,
     }
 }
 
-/// Whether a line isn't refused.
-fn is_read(places: u8, line: &[u8]) -> bool
-    requires { places ≤ 64 }
+/// Whether a line isn't refused. It is looked at for bytes that aren't ASCII unless all lines are known to have none.
+fn is_read(all_ascii: bool, places: u8, line: &[u8]) -> bool
+    requires few { places ≤ 64 }
+    requires ascii { all_ascii ≡ true → is_ascii line.now ≡ true }
     ensures { result ≡ is_read (line_of places line.now) }
 {
+    if !all_ascii && !is_ascii(line) {
+        return false;
+    }
     match read(places, line) {
         Found::Skipped | Found::Says(_) => true,
         Found::Refused => false,
@@ -99,7 +103,7 @@ fn first_event<'a>(
     ensures cut { OnErr result (is_cut_next (events_of places lines.now) ≡ true) }
 {
     let mut left = lines.again();
-    while let Some(line) = left.next() {
+    while let Some(line) = left.next_line() {
         match read(places, line) {
             Found::Says(told) => return Ok((Some(told.event(alloc)?), left)),
             Found::Skipped => {}
@@ -118,11 +122,12 @@ impl<'a> Script<'a> {
         ensures refused { IfErr result (λ number. script text.now ≡ Err number) }
     {
         let places = places_of(text);
+        let all_ascii = is_ascii(text);
         let mut left = Parts::of(b'\n', text);
         let mut number = 0;
-        while let Some(line) = left.next() {
+        while let Some(line) = left.next_line() {
             number += 1;
-            if !is_read(places, line) {
+            if !is_read(all_ascii, places, line) {
                 return Err(Line { number });
             }
         }

@@ -8,8 +8,10 @@ mod fault;
 mod names;
 mod narrator;
 mod packet;
+mod stats;
 mod telling;
 
 pub use fault::NarratorFault;
 pub use narrator::Narrator;
 pub use packet::write_packet;
+pub use stats::{write_counts, write_turns};

@@ -124,16 +124,21 @@ fn write_grant<O: Write>(out: &mut O, program: &Program, grant: &Grant) -> io::R
 
 /// Writes the thread of a task on its numbers, and where it stands.
 fn write_task<O: Write>(out: &mut O, program: &Program, task: &Task) -> io::Result<()> {
-    match program.threads.get(usize::from(task.thread)) {
-        Some(thread) => out.write_all(thread.name.text.as_slice())?,
-        None => write!(out, "thread {}", task.thread)?,
-    }
+    write_thread(out, program, task.thread)?;
     write!(out, "(")?;
     for (index, number) in task.numbers.as_slice().iter().enumerate() {
         let sign = if index == 0 { "" } else { ", " };
         write!(out, "{sign}{number}")?;
     }
     write!(out, ") at {}", PlaceName(&task.place))
+}
+
+/// Writes the name of a thread, or its number where the program has no such thread.
+pub(crate) fn write_thread<O: Write>(out: &mut O, program: &Program, thread: u8) -> io::Result<()> {
+    match program.threads.get(usize::from(thread)) {
+        Some(found) => out.write_all(found.name.text.as_slice()),
+        None => write!(out, "thread {thread}"),
+    }
 }
 
 /// Writes how often an offered subcomputation has moved, how far it is, and how many frames and records it has.

@@ -8,7 +8,7 @@ use crate::error::NodeError;
 use crate::node::Node;
 use frames::Frames;
 use ids::{FrameNo, GrantId, Hop, Incarnation, Listed, Outcome, Progress};
-use node_state::State;
+use node_state::{Parts, State};
 use std::alloc::{AllocError, Global};
 use sub_rules::numbers_in;
 use subcomputation::Sub;
@@ -62,6 +62,13 @@ impl<'a> Node<'a> {
             return Ok(None);
         };
         Ok(work_in(alloc, post.grant, sub, post.frame)?)
+    }
+
+    /// What it holds.
+    pub fn parts(&self) -> &Parts
+        ensures { result.now ≡ record { node = self.now.node; posts = self.now.posts } }
+    {
+        &self.parts
     }
 
     /// The subcomputations that it holds, by rising grant, each with its state: those of a node that leaves are frozen for its heir.

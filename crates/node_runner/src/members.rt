@@ -1,4 +1,4 @@
-use codec::{Body, decode};
+use codec::{Body, ReadError, decode};
 use event_script::Asked;
 use ids::{Member, Status};
 use rand_core::SeedableRng;
@@ -30,14 +30,18 @@ impl Members {
         self.listed.clear();
     }
 
-    /// A node took a packet: where it is a roster, its members are listed. Bytes that find no memory are passed over, and the next
-    /// roster tells more.
-    pub(crate) fn take(&mut self, alloc: Global, bytes: &[u8]) {
-        let Ok(packet) = decode(alloc, bytes) else {
-            return;
-        };
-        if let Body::Roster(roster) = packet.into_body() {
-            self.listed = roster.members.into_vec();
+    /// A node took a packet: where it is a roster, its members are listed. Bytes that spell none are passed over. Whether there was memory to
+    /// read them: a node that has missed a roster may get no other one, and would ask nobody.
+    pub(crate) fn take(&mut self, alloc: Global, bytes: &[u8]) -> bool {
+        match decode(alloc, bytes) {
+            Ok(packet) => {
+                if let Body::Roster(roster) = packet.into_body() {
+                    self.listed = roster.members.into_vec();
+                }
+                true
+            }
+            Err(ReadError::Fault(_)) => true,
+            Err(ReadError::Memory) => false,
         }
     }
 

@@ -2,6 +2,7 @@ ghost use Rattle.std.specs.Prelude.{◌≡◌};
 ghost use Rattle.chronicle.specs.Seats.{IsSeatIn};
 ghost use Rattle.node_runner.specs.Lines.{IsLineOf};
 
+use crate::counts::End;
 use crate::desk::Desk;
 use crate::fates::Fates;
 use crate::gate::Gate;
@@ -209,6 +210,8 @@ fn goes_on<'a, R: Wait + Clock, G: Gate + Sync>(
         return true;
     }
     node.patience = node.patience.saturating_mul(2).min(MOST_PATIENCE);
+    // (there may be a ready frame that no memory was found to look for)
+    node.may_be_ready = true;
     sends_again(rt, shared, seat, pen, desk, node)
 }
 
@@ -360,8 +363,9 @@ fn delivers<'a, R: Wait, G: Gate + Sync>(
         return false;
     };
     node.has_asked = false;
-    if let EventAnswer::Did(_, _) = told {
-        node.members.take(alloc, &arrived.bytes);
+    if matches!(told, EventAnswer::Did(_, _)) && !node.members.take(alloc, &arrived.bytes) {
+        shared.counts.ends(End::Memory);
+        return false;
     }
     true
 }

@@ -78,6 +78,8 @@ pub struct Parts {
     confirmed: Store<Confirmed>,
     seen: Store<Seen>,
     posts: Posts,
+    // How many stolen frames became ready again. Contracts don't see it.
+    redone: u64,
 }
 
 impl Model for Parts {
@@ -108,6 +110,7 @@ impl Parts {
             confirmed: Store::new(alloc),
             seen: Store::new(alloc),
             posts: Posts::new(alloc),
+            redone: 0,
         }
     }
 
@@ -137,6 +140,11 @@ impl Parts {
         ensures { result ≡ self.now.node.minted }
     {
         self.minted
+    }
+
+    /// How many stolen frames became ready again, since their thieves were lost. No clause speaks of it.
+    pub fn redone(&self) -> u64 {
+        self.redone
     }
 
     /// Its last answer to each thief.
@@ -275,12 +283,14 @@ impl Parts {
         ensures err { OnErr result (self.new ≡ self.old) }
     {
         let posts = posted_again(&self.posts, plan.again())?;
+        let redone = self.redone.saturating_add(plan.again().len() as u64);
         are_whole(&self.subs);
         recovery::recoveries_are_told();
         plan.carry_out(&mut self.subs);
         self.state = State::Member(roster);
         self.asker.settle(victim);
         self.posts = posts;
+        self.redone = redone;
         withdraw_stale(&mut self.posts, &self.subs);
         Ok(())
     }

@@ -7,8 +7,10 @@ use replaying::{ReplayFault, ReplayWords, WordsFault, help_of, replay_words, wri
 use std::alloc::Global;
 use std::convert::AsStr;
 use std::fmt;
-use std::io::{self, Write};
+use std::io::{self, Stderr, Write};
 use std::rt::Files;
+use std::thread::Threads;
+use std::time::Clock;
 use thiserror::Error;
 
 /// Why the program ends without telling what a run came to.
@@ -47,12 +49,13 @@ impl From<WordsFault> for SimFault {
 }
 
 /// What the words of a replay give.
-fn answer<R: Files + AllocGlobal, O: Write>(
+fn answer<R: Files + AllocGlobal + Threads + Clock + Sync, O: Write>(
     rt: &R,
     words: ReplayWords<'_>,
     out: &mut O,
+    err: &mut Stderr,
 ) -> Result<(), SimFault> {
-    let replayed = replay_words(rt, words, out).map_err(SimFault::Replay)?;
+    let replayed = replay_words(rt, words, out, err).map_err(SimFault::Replay)?;
     write_replayed(out, &replayed).map_err(|_| SimFault::Replay(ReplayFault::File))
 }
 
@@ -71,13 +74,13 @@ fn write_help<O: Write>(out: &mut O, help: &clap::Error) -> io::Result<()> {
 }
 
 /// Carries out a command line, the program's own name its first word: what a run came to goes to `out`, and a fault goes to
-/// `err` as one line, behind which it is explained where the words ask for that. The status to end with is 0 where all was done, and
-/// else that of the fault.
-pub fn command<R: Files + AllocGlobal, S: AsStr, O: Write, E: Write>(
+/// `err` as one line, behind which it is explained where the words ask for that. Where `err` is a terminal it is told there how far a long
+/// replay has come. The status to end with is 0 where all was done, and else that of the fault.
+pub fn command<R: Files + AllocGlobal + Threads + Clock + Sync, S: AsStr, O: Write>(
     rt: &R,
     words: &[S],
     out: &mut O,
-    err: &mut E,
+    err: &mut Stderr,
 ) -> u8 {
     match read_words(rt.alloc(), words) {
         Ok(Some(line)) => carried_out(rt, line, out, err),
@@ -112,15 +115,15 @@ fn usage_text<S: AsStr>(alloc: Global, words: &[S], error: &clap::Error) -> Opti
 }
 
 /// Carries out a replay; the status to end with.
-fn carried_out<R: Files + AllocGlobal, O: Write, E: Write>(
+fn carried_out<R: Files + AllocGlobal + Threads + Clock + Sync, O: Write>(
     rt: &R,
     line: Words<'_>,
     out: &mut O,
-    err: &mut E,
+    err: &mut Stderr,
 ) -> u8 {
     let Words { replay, explain } = line;
     let (file, script) = (replay.file, replay.script);
-    match answer(rt, replay, out) {
+    match answer(rt, replay, out, err) {
         Ok(()) => 0,
         Err(fault) if explain => explained(rt, fault, file, script, err),
         Err(fault) => refused(fault, err),

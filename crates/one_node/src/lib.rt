@@ -9,4 +9,4 @@ mod turn;
 
 pub use fault::RunFault;
 pub use laws::runs_end_once;
-pub use run::evaluate;
+pub use run::{evaluate, evaluate_counted};

@@ -5,7 +5,7 @@ use crate::fault::RunFault;
 use crate::turn::turn;
 use agreement::finished_roots_mean;
 use ids::{Outcome, Progress};
-use serial_meaning::Job;
+use serial_meaning::{CountsTurns, Job, Uncounted};
 use std::alloc::Global;
 
 /// The outcome of a job, which is its meaning, in at most so many turns on one node: of the ready frames the newest of the
@@ -15,10 +15,22 @@ use std::alloc::Global;
 pub fn evaluate(alloc: Global, job: &Job, turns: u64) -> Result<Outcome, RunFault>
     ensures { IsRunOf job.now turns result }
 {
+    evaluate_counted(alloc, job, turns, &mut Uncounted)
+}
+
+/// The outcome of a job, as `evaluate` answers it, while somebody counts its turns.
+pub fn evaluate_counted<C: CountsTurns>(
+    alloc: Global,
+    job: &Job,
+    turns: u64,
+    counter: &mut C,
+) -> Result<Outcome, RunFault>
+    ensures { IsRunOf job.now turns result }
+{
     finished_roots_mean();
     let mut run = begun(alloc, job)?;
     for taken in 0..turns {
-        run = turn(alloc, job, run)?;
+        run = turn(alloc, job, run, counter)?;
         if let Progress::Finished(outcome) = run.content.progress {
             return Ok(outcome);
         }

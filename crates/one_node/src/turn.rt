@@ -10,12 +10,17 @@ use agreement::turn_keeps_agreement;
 use body_eval::Done;
 use ids::FrameNo;
 use level_deques::Posts;
-use serial_meaning::Job;
+use serial_meaning::{CountsTurns, Job};
 use std::alloc::{AllocError, Global};
 use sub_rules::{Change, Content, Readied, SubError, exec, numbers_in};
 
-/// One turn of a run that goes on: the newest ready frame of the greatest level runs.
-pub fn turn(alloc: Global, job: &Job, run: Run) -> Result<Run, RunFault>
+/// One turn of a run that goes on: the newest ready frame of the greatest level runs, and is counted.
+pub fn turn<C: CountsTurns>(
+    alloc: Global,
+    job: &Job,
+    run: Run,
+    counter: &mut C,
+) -> Result<Run, RunFault>
     requires { Holds job.now (run_of run) }
     ensures next { IfOk result (λ next. one_turn job.now.program (run_of run) ≡ Some (run_of next)) }
     ensures follows { IfOk result (λ next. Follows job.now (run_of next)) }
@@ -26,6 +31,7 @@ pub fn turn(alloc: Global, job: &Job, run: Run) -> Result<Run, RunFault>
     let newest = posts.deepest().unwrap();
     let frame = newest.frame;
     let done = evaluated(alloc, job, &content, frame)?;
+    counter.counts(done.thread(), newest.level);
     let Change { after, ready, .. } = carried(alloc, content, frame, &done)?;
     after.frames.stand_in_order();
     turn_keeps_agreement();

@@ -4,3 +4,4 @@ pub mod Loop
 pub mod Writing
 pub mod Fitting
 pub mod Skipping
+pub mod Stepping

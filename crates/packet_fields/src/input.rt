@@ -1,4 +1,4 @@
-ghost use Rattle.std.specs.Prelude.{◌≡◌, length, nat_eq};
+ghost use Rattle.std.specs.Prelude.{◌≡◌, ◌≤◌, drop, length, nat_eq, take};
 ghost use Rattle.packet_fields.specs.Format.{Reads, number};
 ghost use Rattle.packet_fields.specs.Fields as field;
 
@@ -47,6 +47,21 @@ impl<'a> Input<'a> {
         ensures { result ≡ length self.now }
     {
         self.rest.len()
+    }
+
+    /// The bytes that come next: so many, or all that are left.
+    pub(crate) fn front(&self, count: usize) -> &'a [u8]
+        ensures { result.now ≡ take count self.now }
+    {
+        self.rest.split_at(count.min(self.rest.len())).0
+    }
+
+    /// Passes over so many bytes, which are left.
+    pub(crate) fn pass(&mut self, count: usize)
+        requires { count ≤ length self.old }
+        ensures { self.new ≡ drop count self.old }
+    {
+        self.rest = self.rest.split_at(count).1;
     }
 
     /// The next byte.

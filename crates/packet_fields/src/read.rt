@@ -3,6 +3,7 @@
 //! refusal it is open how much was read. Only readers of lists take memory, each for what the bytes back, and for a list
 //! once.
 ghost use Rattle.std.specs.Prelude.{◌≡◌, ◌<◌, [], ◌∷◌, nat_lt, IfOk, Some, None};
+ghost use Rattle.std.specs.List.{list_all};
 ghost use Rattle.packet_fields.specs.Format.{Gives, Reads, checked, items, number, plain};
 ghost use Rattle.packet_fields.specs.Fields as field;
 
@@ -14,9 +15,6 @@ use ids::{
     Progress, Record, Return, Status, Task,
 };
 use std::alloc::AllocError;
-
-/// A step has so many bytes.
-const STEP_BYTES: usize = 1;
 
 /// A signed number has so many bytes.
 const NUMBER_BYTES: usize = 8;
@@ -147,25 +145,26 @@ pub fn grant(input: &mut Input<'_>) -> Result<GrantId, Fault>
     GrantId::of(minter, number.number()).ok_or(Fault::Field)
 }
 
-#[tactic(auto, unfolding(crate::specs::Fields::step))]
-pub(crate) fn step(input: &mut Input<'_>) -> Result<u8, Fault>
-    ensures { Reads (λ x. (x, input.new)) result (field.step.read input.old) }
+/// Whether each byte is a step.
+fn are_steps(bytes: &[u8]) -> bool
+    ensures { result ≡ list_all (λ step. nat_lt step 9) bytes.now }
 {
-    let step = input.byte()?;
-    if step > LAST_STEP {
-        return Err(Fault::Field);
-    }
-    Ok(step)
+    bytes.iter().all(|step| *step <= LAST_STEP)
 }
 
-fn steps_of(count: u16, input: &mut Input<'_>) -> Result<Listed<u8>, ReadError>
-    ensures { Gives (λ x. (x, input.new)) result ((plain field.step count).read input.old) }
+/// So many steps, as they lie in the bytes.
+pub(crate) fn steps<'a>(count: u16, input: &mut Input<'a>) -> Result<&'a [u8], Fault>
+    ensures { Reads (λ x. (x.now, input.new)) result ((plain field.step count).read input.old) }
 {
-    let mut steps = with_room(count as usize, STEP_BYTES, input)?;
-    for _ in 0..count {
-        let next = step(input)?;
-        steps.push(next)?;
+    let count = usize::from(count);
+    let steps = input.front(count);
+    if !are_steps(steps) {
+        return Err(Fault::Field);
     }
+    if steps.len() < count {
+        return Err(Fault::Short);
+    }
+    input.pass(count);
     Ok(steps)
 }
 
@@ -178,7 +177,8 @@ pub fn place(input: &mut Input<'_>) -> Result<Place, ReadError>
     if count > MOST_STEPS {
         return Err(ReadError::Fault(Fault::Field));
     }
-    let steps = steps_of(count, input)?;
+    let steps = steps(count, input)?;
+    let steps = Listed::from_vec(Vec::from_slice(input.alloc(), steps)?);
     Place::of(steps).ok_or(ReadError::Fault(Fault::Field))
 }
 

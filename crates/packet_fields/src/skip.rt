@@ -6,22 +6,13 @@ ghost use Rattle.packet_fields.specs.Fields as field;
 
 use crate::fault::Fault;
 use crate::input::Input;
-use crate::read::{count, grant_behind, number_behind, slot, status, step, worker_behind};
+use crate::read::{count, grant_behind, number_behind, slot, status, steps, worker_behind};
 pub use crate::read::{
     actor, below, counted, epoch, goes_to, grant, hop, next_frame, other_worker, outcome, progress,
     raised, thread, worker,
 };
 use ids::limits::{MOST_MEMBERS, MOST_NUMBERS, MOST_SLOTS, MOST_STEPS};
 use ids::{FrameNo, GrantId, Incarnation, Progress};
-
-fn steps_of(count: u16, input: &mut Input<'_>) -> Result<(), Fault>
-    ensures { Reads (λ _. input.new) result (end_of ((plain field.step count).read input.old)) }
-{
-    for _ in 0..count {
-        step(input)?;
-    }
-    Ok(())
-}
 
 /// A place, at most 1,024 steps.
 #[tactic(auto, unfolding(crate::specs::Fields::place, crate::specs::Fields::steps))]
@@ -32,7 +23,8 @@ pub fn place(input: &mut Input<'_>) -> Result<(), Fault>
     if count > MOST_STEPS {
         return Err(Fault::Field);
     }
-    steps_of(count, input)
+    steps(count, input)?;
+    Ok(())
 }
 
 fn numbers_of(count: u8, input: &mut Input<'_>) -> Result<(), Fault>

@@ -2,13 +2,16 @@ ghost use Rattle.std.specs.Prelude.{IfErr, IfOk};
 ghost use Rattle.replaying.specs.Replays.{IsFilesRefusal, IsFilesReplay};
 
 use crate::fault::ReplayFault;
+use crate::noting::replay_files_shown;
 use crate::replayed::{Replayed, replay_script};
 use crate::words::ReplayWords;
 use event_words::Narrator;
 use jobs::{bytes_within, job_of, text_bytes};
-use std::io::Write;
+use std::io::{Stderr, Write};
 use std::rt::Files;
-use world::{Unwatched, Watch};
+use std::thread::Threads;
+use std::time::Clock;
+use world::Watch;
 
 /// Replays the script of a file, which may have any length, on a job, while somebody looks on: the program whose text a file holds, its
 /// input and the job's number. The faults come in this order: the text's file, the text (E2 to E6), its kinds (E10 to E18), the count of
@@ -31,13 +34,15 @@ pub fn replay_files<R: Files + AllocGlobal, W: Watch>(
     replay_script(rt.alloc(), &job, script.as_slice(), watch)
 }
 
-/// Replays the files that words name. Where the words ask for that, each event is told on `out`, a line each (`event_words`); what comes of
-/// the replay is the same. The faults are those of `replay_files`, and behind them a line that can't be written, or for which there is
-/// no memory (E9); the lines before it stay. Nothing is written where the script isn't read to its end.
-pub fn replay_words<R: Files + AllocGlobal, O: Write>(
+/// Replays the files that words name. Where the words ask for that, each event is told on `out`, a line each (`event_words`); else how far the
+/// replay has come is told on `err`, if that is a terminal and the replay takes long. What comes of the replay is the same. The faults are
+/// those of `replay_files`, and behind them a line that can't be written on `out`, or for which there is no memory (E9); the lines before it
+/// stay. Nothing is written on `out` where the script isn't read to its end.
+pub fn replay_words<R: Files + AllocGlobal + Threads + Clock + Sync, O: Write>(
     rt: &R,
     words: ReplayWords<'_>,
     out: &mut O,
+    err: &mut Stderr,
 ) -> Result<Replayed, ReplayFault>
     ensures run { IfOk result (IsFilesReplay words.entry.input.items words.entry.job) }
     ensures refused { IfErr result (IsFilesRefusal words.entry.input.items) }
@@ -50,7 +55,7 @@ pub fn replay_words<R: Files + AllocGlobal, O: Write>(
         packets,
     } = words;
     if !packets {
-        return replay_files(rt, file, script, input, job, &mut Unwatched);
+        return replay_files_shown(rt, file, script, input, job, err);
     }
     let mut narrator = Narrator::new(out);
     let replayed = replay_files(rt, file, script, input, job, &mut narrator);

@@ -3,6 +3,7 @@
 
 mod fault;
 mod files;
+mod noting;
 mod replayed;
 mod words;
 

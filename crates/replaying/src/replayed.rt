@@ -5,16 +5,17 @@ use crate::fault::ReplayFault;
 use serial_meaning::{Job, Outcome};
 use std::alloc::Global;
 use std::io::{self, Write};
-use world::{Watch, replay_watched};
+use world::{RunCounts, Watch, replay_watched};
 
-/// What a run came to: how many events were carried out, how many packets were sent, how many values were put into slots, and
-/// the outcome that an open clearinghouse has recorded.
-#[derive(Clone, Copy, Debug, PartialEq, Eq)]
+/// What a run came to: how many events were carried out, how many packets were sent, how many values were put into slots, the
+/// outcome that an open clearinghouse has recorded, and what was counted.
+#[derive(Clone, Copy)]
 pub struct Replayed {
     pub events: usize,
     pub packets: usize,
     pub fills: usize,
     pub outcome: Option<Outcome>,
+    pub counts: RunCounts,
 }
 
 /// Replays a script on a job, from its first world on, while somebody looks on. Refused by the first line that isn't an event's, before
@@ -37,6 +38,7 @@ pub fn replay_script<W: Watch>(
         packets: end.world.packets(),
         fills: end.world.fills(),
         outcome: end.world.outcome(),
+        counts: *end.world.counts(),
     })
 }
 

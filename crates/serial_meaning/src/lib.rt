@@ -2,6 +2,7 @@
 #![tactic(auto)]
 
 mod compile;
+mod counting;
 mod instr;
 mod job;
 mod laws;
@@ -9,6 +10,7 @@ mod machine;
 mod meaning;
 mod sources;
 
+pub use counting::{CountsTurns, TurnCounts, Uncounted};
 pub use ids::Outcome;
 pub use job::{Job, JobError};
 pub use laws::{
@@ -16,4 +18,4 @@ pub use laws::{
     kids_value_fills_its_slot, sent_value_is_the_tasks, successor_agrees,
     too_deep_anywhere_is_too_deep,
 };
-pub use meaning::{SerialError, serial};
+pub use meaning::{SerialError, serial, serial_counted};

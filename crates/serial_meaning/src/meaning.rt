@@ -4,6 +4,7 @@ ghost use Rattle.serial_meaning.specs.Job.{meaning_of};
 ghost use Rattle.serial_meaning.specs.Count.{turns_of};
 
 use crate::compile::flatten;
+use crate::counting::{TurnCounts, Uncounted};
 use crate::job::Job;
 use crate::machine::task_value;
 use ids::Outcome;
@@ -73,6 +74,38 @@ pub fn serial(alloc: Global, job: &Job, max_turns: u64) -> Result<Outcome, Seria
         0,
         &mut stack,
         &mut turns,
+        &mut Uncounted,
+    )? {
+        Some(number) => Ok(Outcome::Value(number)),
+        None => Ok(Outcome::TooDeep),
+    }
+}
+
+/// The meaning of a job, as `serial` answers it. Its turns are counted.
+#[tactic(auto, using(crate::proofs::MeaningLaws::meaning_is, crate::proofs::MeaningLaws::turns_are))]
+pub fn serial_counted(
+    alloc: Global,
+    job: &Job,
+    max_turns: u64,
+    counts: &mut TurnCounts,
+) -> Result<Outcome, SerialError>
+    ensures meaning { IfOk result (λ o. o ≡ meaning_of job.now) }
+    ensures within { OnOk result (turns_of job.now.program job.now.input ≤ max_turns) }
+    ensures spent { IsErrOf result SerialError.TurnsSpent → max_turns < turns_of job.now.program job.now.input }
+{
+    let mut turns = max_turns;
+    let mut stack = Vec::from_slice(alloc, job.input())?;
+    let (code, entries) = flatten(alloc, job.checked())?;
+    match task_value(
+        job.checked(),
+        code.as_slice(),
+        entries.as_slice(),
+        MOST_STEPS,
+        job.main(),
+        0,
+        &mut stack,
+        &mut turns,
+        counts,
     )? {
         Some(number) => Ok(Outcome::Value(number)),
         None => Ok(Outcome::TooDeep),

@@ -12,4 +12,4 @@ mod watch;
 pub use event_script::line;
 pub use runs::{ReplayError, RunEnd, replay, replay_watched, run};
 pub use watch::{Both, Unwatched, Watch};
-pub use world_steps::{EventAnswer, NoMemory, World};
+pub use world_steps::{EventAnswer, NoMemory, RunCounts, World};

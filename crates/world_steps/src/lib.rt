@@ -2,6 +2,7 @@
 //! its runs.
 #![tactic(auto)]
 
+mod counts;
 mod kept;
 mod laws;
 mod nodes;
@@ -9,6 +10,7 @@ mod parts;
 mod seat;
 mod world;
 
+pub use counts::RunCounts;
 pub use laws::{
     a_cut_stops, a_run_can_begin, nothing_is_taken_back, only_an_opening_fails, starts_are_new,
     the_first_world, unfit_changes_nothing,

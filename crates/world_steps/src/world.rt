@@ -16,6 +16,7 @@ ghost use Rattle.world_steps.specs.World.{WorldOf, first_over, node_in, put_node
 ghost use Rattle.world_steps.specs.declared.parts.EventAnswer.TheVariants as told;
 ghost use Rattle.event_script.specs.declared.event.Event.TheVariants as events;
 
+use crate::counts::{Before, RunCounts};
 use crate::kept::Kept;
 use crate::nodes::carry_out;
 use crate::parts::{EventAnswer, NoMemory, Word};
@@ -44,6 +45,7 @@ pub struct World<'a> {
     net: Kept<Datagram>,
     fills: Kept<Fill>,
     used: Store<Word>,
+    counts: Box<RunCounts>,
 }
 
 impl<'a> Model for World<'a> {
@@ -78,6 +80,7 @@ impl<'a> World<'a> {
             net: Kept::new(alloc),
             fills: Kept::new(alloc),
             used: Store::new(alloc),
+            counts: RunCounts::boxed(alloc)?,
         })
     }
 
@@ -153,6 +156,37 @@ impl<'a> World<'a> {
     /// that fails stops the clearinghouse; only the read of an opening does by itself, when out of memory. E9 where the event finds
     /// no memory: the world is as it was, but a clearinghouse that was to answer is stopped.
     pub fn step(
+        &mut self,
+        alloc: Global,
+        event: &Event,
+        turn: Option<&Done>,
+    ) -> Result<EventAnswer, NoMemory>
+        requires { IsOfJob self.old.job (option_copied turn) }
+        ensures job { self.new.job ≡ self.old.job }
+        ensures step { IfOk result (λ t. (o : StepResult) × StepOf self.old.job event.now self.old.world o × (self.new.world ≡ o.world) × (t ≡ told_of o.answer)) }
+        ensures starved { OnErr result ((o : StepResult) × IsStarved event.now self.old self.new.is_placed o × (self.new.world ≡ o.world)) }
+    {
+        let before = Before::of(event, self.nodes.as_slice());
+        let told = self.carry_out(alloc, event, turn)?;
+        self.count(event, before, told);
+        Ok(told)
+    }
+
+    /// What was counted so far. No clause speaks of it.
+    pub fn counts(&self) -> &RunCounts {
+        &self.counts
+    }
+
+    /// Counts an event that was carried out, before which this was seen.
+    fn count(&mut self, event: &Event, before: Before, told: EventAnswer)
+        ensures { self.new ≡ self.old }
+    {
+        self.counts
+            .note(event, before, told, self.nodes.as_slice(), &self.net);
+    }
+
+    /// An event is carried out, as `step` says.
+    fn carry_out(
         &mut self,
         alloc: Global,
         event: &Event,

@@ -9,33 +9,33 @@ use Rattle.one_node.proofs.Taking.{taken_is}
 use Rattle.one_node.proofs.turn.turn.Goals as goal
 
 pub unwrap-newest-requires : goal.unwrap-newest-requires
-unwrap-newest-requires c =
+unwrap-newest-requires g c =
     let n = next_frame c.args.job.now (run_of c.args.run) c.requires in
     let is : c.deepest.result ≡ Some n.post = c.deepest.ensures ∙ n.first in
     rw is (search rules)
 
 pub evaluated-requires : goal.evaluated-requires
-evaluated-requires c =
+evaluated-requires g c =
     let n = next_frame c.args.job.now (run_of c.args.run) c.requires in
     let same : n.post ≡ c.unwrap-newest.result = cc (n.first, c.deepest.ensures, c.unwrap-newest.ensures) in
     rw same at n.frame
 
 pub returns-in_err-after-clause-fails : goal.returns-in_err-after-clause-fails
-returns-in_err-after-clause-fails c =
+returns-in_err-after-clause-fails g c =
     let first : deepest c.args.run.posts ≡ Some c.unwrap-newest.result = cc (c.deepest.ensures, c.unwrap-newest.ensures) in
     let fails = turn_fails c.args.job.now (run_of c.args.run) c.unwrap-newest.result c.in_ok-done.done c.in_ok-done.ensures.turn c.in_err-after.field-0.0 first c.in_ok-done.ensures.program c.in_err-after.ensures.answer in
     let p = err_from_is_err_and c.from_residual-in_err-after.result c.from_residual-in_err-after.ensures.1 in
     rw (p.1, p.2) fails
 
 pub returns-clause-next : goal.returns-clause-next
-returns-clause-next c =
+returns-clause-next g c =
     let first : deepest c.args.run.posts ≡ Some c.unwrap-newest.result = cc (c.deepest.ensures, c.unwrap-newest.ensures) in
     let taken : c.post_all.new.posts ≡ posted_all c.in_ok-after.field-0.ready (without_post c.unwrap-newest.result c.args.run.posts) = search rules in
     let posts = taken ∙ ap (posted_all c.in_ok-after.field-0.ready) (taken_is c.args.run.content.frames c.args.run.posts c.unwrap-newest.result c.requires.order c.requires.posted first) in
     rw posts (turn_taken c.args.job.now (run_of c.args.run) c.unwrap-newest.result c.in_ok-done.done c.in_ok-done.ensures.turn c.in_ok-after.field-0 first c.in_ok-done.ensures.program c.in_ok-after.ensures.answer)
 
 pub returns-clause-follows : goal.returns-clause-follows
-returns-clause-follows c =
+returns-clause-follows g c =
     let first : deepest c.args.run.posts ≡ Some c.unwrap-newest.result = cc (c.deepest.ensures, c.unwrap-newest.ensures) in
     let taken : c.post_all.new.posts ≡ posted_all c.in_ok-after.field-0.ready (without_post c.unwrap-newest.result c.args.run.posts) = search rules in
     let posts = taken ∙ ap (posted_all c.in_ok-after.field-0.ready) (taken_is c.args.run.content.frames c.args.run.posts c.unwrap-newest.result c.requires.order c.requires.posted first) in

@@ -18,4 +18,4 @@ pub returns-clause-told : goal.returns-clause-told
 returns-clause-told c = λ a.
     let empty = c.in_default.ensures.cases in
     let all : c.loop-seat.all.claims ≡ claims_of c.args.seats.items = ap (λ l. l ++ c.loop-seat.all.claims) (sym (none_left c.loop-seat.seats.items (omega arith))) ∙ c.loop-seat.invariant.claims in
-    ap (own actor_of a) c.into_entries.ensures.same ∙ (c.close.ensures.told a ∙ (ap (λ cs. entries_in cs a) all ∙ entries_in-claims_of c.args.seats.items a))
+    ap (own actor_of a) c.into_entries.ensures.same ∙ (c.close-kept.ensures.told a ∙ (ap (λ cs. entries_in cs a) all ∙ entries_in-claims_of c.args.seats.items a))

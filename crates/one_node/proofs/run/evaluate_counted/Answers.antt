@@ -3,10 +3,10 @@ use Rattle.std.proofs.Common.{◌≡◌, ◌+◌, arith}
 use Rattle.one_node.specs.Outcomes.{IsEnd}
 use Rattle.one_node.specs.Runs.{run_of}
 use Rattle.one_node.proofs.Keeping.{has_turn, reached_next}
-use Rattle.one_node.proofs.run.evaluate.Goals as goal
+use Rattle.one_node.proofs.run.evaluate_counted.Goals as goal
 
 pub returns-in-Finished : goal.returns-in-Finished
-returns-in-Finished c =
+returns-in-Finished g c =
     let follows = c.in_ok-run-2.ensures.follows in
     let end : IsEnd c.args.job.now c.args.turns c.in-Finished.outcome = record {
       n = c.loop-taken.taken + 1;
@@ -18,13 +18,13 @@ returns-in-Finished c =
     (end, c.finished_roots_mean.ensures c.args.job.now c.in_ok-run-2.run'.content c.in-Finished.outcome follows.agrees follows.rooted c.in-Finished.is)
 
 pub loop-taken-preserved : goal.loop-taken-preserved
-loop-taken-preserved c = record {
+loop-taken-preserved g c = record {
   reached = reached_next c.args.job.now c.loop-taken.taken (run_of c.loop-taken.run) (run_of c.in_ok-run-2.run') c.loop-taken.invariant.reached c.in_ok-run-2.ensures.next;
   holds = c.in_ok-run-2.ensures.follows.goes_on c.in_default.is;
 }
 
 pub returns : goal.returns
-returns c =
+returns g c =
     let all : c.loop-taken.taken ≡ c.args.turns = omega arith in
     record {
       run = run_of c.loop-taken.run;

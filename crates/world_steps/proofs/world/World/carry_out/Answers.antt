@@ -1,6 +1,6 @@
 use Rattle.std.proofs.Common.{refl, ap}
 use Rattle.world_steps.proofs.Housing.{crashed, seat_put, shown, silent_in}
-use Rattle.world_steps.proofs.world.World.step.Goals as goal
+use Rattle.world_steps.proofs.world.World.carry_out.Goals as goal
 
 pub returns-in-HouseCrash-clause-step : goal.returns-in-HouseCrash-clause-step
 returns-in-HouseCrash-clause-step c =

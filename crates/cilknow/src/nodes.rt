@@ -1,0 +1,87 @@
+//! Runs on nodes, whose progress is told on a terminal.
+
+use crate::command::CommandFault;
+use crate::stored::store_in;
+use node_runner::{Gate, Open, RunConfig, Stored, run_job, run_stored};
+use progress::{Progress, tell};
+use serial_meaning::Job;
+use std::fs::File;
+use std::io::{IsTerminal, Stderr};
+use std::rt::Files;
+use std::sync::Wait;
+use std::thread::{Threads, join};
+use std::time::Clock;
+
+/// The gate that is always open, and notes how far a run has come.
+#[derive(Drop)]
+struct Noting<'p> {
+    progress: &'p Progress,
+}
+
+impl<'p> Gate for Noting<'p> {
+    fn begun(&self, _body: u64) {}
+
+    fn may_go(&self, _body: u64) -> bool {
+        true
+    }
+
+    fn passed(&self, events: u64, packets: u64) {
+        self.progress.notes(events, packets);
+    }
+}
+
+/// A job is run by nodes on threads under a gate, over the store in a file where one is named.
+fn ran_under<R: Files<File = File> + AllocGlobal + Threads + Wait + Clock + Sync, G: Gate + Sync>(
+    rt: &R,
+    job: &Job,
+    config: &RunConfig,
+    store: Option<&str>,
+    gate: &G,
+) -> Result<Stored, CommandFault> {
+    let alloc = rt.alloc();
+    let Some(path) = store else {
+        let ran = run_job(rt, alloc, job, config, gate).map_err(CommandFault::Nodes)?;
+        return Ok(Stored {
+            outcome: ran.outcome,
+            trace: Some(ran.trace),
+        });
+    };
+    let mut store = store_in(rt, path, job.number())?;
+    run_stored(rt, alloc, job, &mut store, config, gate).map_err(CommandFault::Nodes)
+}
+
+/// A job is run so, and how far that has come is noted, to its end.
+fn ran_noted<R: Files<File = File> + AllocGlobal + Threads + Wait + Clock + Sync>(
+    rt: &R,
+    job: &Job,
+    config: &RunConfig,
+    store: Option<&str>,
+    progress: &Progress,
+) -> Result<Stored, CommandFault> {
+    let ran = ran_under(rt, job, config, store, &Noting { progress });
+    progress.ends();
+    ran
+}
+
+/// A job is run by nodes on threads, over the store in a file where one is named. Where standard error is a terminal and the run takes
+/// long, how far it has come is told there.
+pub fn ran_on_nodes<R: Files<File = File> + AllocGlobal + Threads + Wait + Clock + Sync>(
+    rt: &R,
+    job: &Job,
+    config: &RunConfig,
+    store: Option<&str>,
+    err: &mut Stderr,
+) -> Result<Stored, CommandFault> {
+    if !err.is_terminal() {
+        return ran_under(rt, job, config, store, &Open);
+    }
+    let progress = Progress::new();
+    let shared = &progress;
+    // (where no second thread can be made, the first closure is called last: then the run has ended, and nothing is told)
+    let (_, ran) = join(
+        rt,
+        || tell(rt, err, shared),
+        || ran_noted(rt, job, config, store, shared),
+    );
+    ran
+}

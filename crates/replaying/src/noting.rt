@@ -1,0 +1,96 @@
+//! Replays whose progress is told on a terminal.
+ghost use Rattle.std.specs.Prelude.{IfErr, IfOk};
+ghost use Rattle.replaying.specs.Replays.{IsFilesRefusal, IsFilesReplay, IsReplayOf, IsScriptRefusal};
+
+use crate::fault::ReplayFault;
+use crate::replayed::{Replayed, replay_script};
+use event_script::Event;
+use jobs::{bytes_within, job_of, text_bytes};
+use progress::{Progress, tell};
+use serial_meaning::Job;
+use std::alloc::Global;
+use std::io::{IsTerminal, Stderr};
+use std::rt::Files;
+use std::thread::{Threads, join};
+use std::time::Clock;
+use world::{EventAnswer, Unwatched, Watch, World};
+
+/// Notes how far a replay has come.
+#[derive(Drop)]
+struct Noting<'p> {
+    progress: &'p Progress,
+    events: u64,
+}
+
+impl<'p> Watch for Noting<'p> {
+    fn sees(&mut self, _alloc: Global, _event: &Event, _told: EventAnswer, world: &World<'_>) {
+        self.events = self.events.saturating_add(1);
+        self.progress.notes(self.events, world.packets() as u64);
+    }
+}
+
+/// Replays a script on a job, and notes how far that has come, to its end.
+fn replay_noted(
+    alloc: Global,
+    job: &Job,
+    script: &[u8],
+    progress: &Progress,
+) -> Result<Replayed, ReplayFault>
+    ensures run { IfOk result (IsReplayOf job.now script.now) }
+    ensures refused { IfErr result (IsScriptRefusal script.now) }
+{
+    let mut noting = Noting {
+        progress,
+        events: 0,
+    };
+    let replayed = replay_script(alloc, job, script, &mut noting);
+    progress.ends();
+    replayed
+}
+
+/// Replays a script on a job. Where standard error is a terminal and the replay takes long, how far it has come is told there.
+fn replay_shown<R: Threads + Clock + Sync>(
+    rt: &R,
+    alloc: Global,
+    job: &Job,
+    script: &[u8],
+    err: &mut Stderr,
+) -> Result<Replayed, ReplayFault>
+    ensures run { IfOk result (IsReplayOf job.now script.now) }
+    ensures refused { IfErr result (IsScriptRefusal script.now) }
+{
+    if !err.is_terminal() {
+        return replay_script(alloc, job, script, &mut Unwatched);
+    }
+    let progress = Progress::new();
+    let shared = &progress;
+    // (where no second thread can be made, the first closure is called last: then the replay has ended, and nothing is told)
+    let (_, replayed) = join(
+        rt,
+        || tell(rt, err, shared),
+        || -> Result<Replayed, ReplayFault>
+            ensures run { IfOk result (IsReplayOf job.entry.now script.entry.now) }
+            ensures refused { IfErr result (IsScriptRefusal script.entry.now) }
+        { replay_noted(alloc, job, script, shared) },
+    );
+    replayed
+}
+
+/// Replays the script of a file on a job, as `replay_files` does. Where standard error is a terminal and the replay takes long, how far it
+/// has come is told there.
+pub(crate) fn replay_files_shown<R: Files + AllocGlobal + Threads + Clock + Sync>(
+    rt: &R,
+    file: &str,
+    script: &str,
+    input: Vec<i64>,
+    job: u64,
+    err: &mut Stderr,
+) -> Result<Replayed, ReplayFault>
+    ensures run { IfOk result (IsFilesReplay input.items job) }
+    ensures refused { IfErr result (IsFilesRefusal input.items) }
+{
+    let text = text_bytes(rt, file)?;
+    let job = job_of(rt.alloc(), text.as_slice(), input, job)?;
+    let script = bytes_within(rt, script, u64::MAX)?;
+    replay_shown(rt, rt.alloc(), &job, script.as_slice(), err)
+}
