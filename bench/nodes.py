@@ -28,13 +28,28 @@ def timed(*words):
     return best
 
 
-def chain(operations):
-    """A program of which one frame is ready at a time: each body has about so many operations, and goes on."""
+def work(operations):
+    """`let`s with about so many operations on `n`, and the name of the last one."""
     lets, last = [], "n"
     for number in range(operations // 60):
         lets.append(f"let a{number}={last}{'+3*n-5' * 20};")
         last = f"a{number}"
-    return f"thread main(k,n){{if n<1{{send_argument(k,0);}}else{{{''.join(lets)}spawn_next main(k,n-1+0*{last});}}}}"
+    return "".join(lets), last
+
+
+def chain(operations):
+    """A program of which one frame is ready at a time: each body has about so many operations, and goes on."""
+    lets, last = work(operations)
+    return f"thread main(k,n){{if n<1{{send_argument(k,0);}}else{{{lets}spawn_next main(k,n-1+0*{last});}}}}"
+
+
+def tree(operations):
+    """A program that adds up a tree of n leaves with about so many operations each."""
+    lets, last = work(operations)
+    return (
+        f"thread main(k,n){{if n<2{{{lets}send_argument(k,{last});}}else{{spawn_next sum(k,?x,?y);spawn main(x,n/2);spawn main(y,n-n/2);}}}}"
+        "thread sum(k,x,y){send_argument(k,x+y);}"
+    )
 
 
 def idle(folder):
@@ -49,6 +64,19 @@ def idle(folder):
         for name, words in (("8 nodes", ["--nodes", "8"]), ("8 body workers of one node", ["--bodies", "8"]), ("one node", [])):
             took = timed(PROGRAM, "run", text, *words, "--trace", os.devnull, str(turns))
             print(f"| {name} | {body * 1e6:.1f} us | {took[0] / turns * 1e6:.1f} | {took[1] / took[0]:.2f} |")
+
+
+def shared(folder):
+    """What several nodes gain on one, by how long a body takes."""
+    print("\n| a tree of leaves | leaves | one node, ms | 2 nodes | 3 nodes | 4 nodes |\n|---|---|---|---|---|---|")
+    for operations, leaves in (600, 8_000), (2_000, 8_000), (6_000, 3_000), (20_000, 1_000):
+        text = f"{folder}/tree"
+        with open(text, "w", encoding="utf-8") as out:
+            out.write(tree(operations))
+        few, many = (timed(PROGRAM, "serial", text, str(it * leaves)) for it in (1, 2))
+        took = [timed(PROGRAM, "run", text, "--nodes", str(nodes), "--log", os.devnull, str(leaves))[0] for nodes in (1, 2, 3, 4)]
+        gained = " | ".join(f"{took[0] / it:.2f}" for it in took[1:])
+        print(f"| {(many[0] - few[0]) / leaves * 1e6:.1f} us | {leaves} | {took[0] * 1e3:.0f} | {gained} |")
 
 
 def events(trace):
@@ -71,3 +99,4 @@ with tempfile.TemporaryDirectory() as folder:
             many = events(trace)
             print(f"| {n} | {nodes} | {took[0] * 1e3:.0f} | {took[1] * 1e3:.0f} | {took[2]:.0f} | {many} | {took[0] / many * 1e6:.1f} |")
     idle(folder)
+    shared(folder)
