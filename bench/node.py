@@ -125,16 +125,27 @@ def microseconds(program, kind, size, rounds, tries):
     return played.call_seconds(program, both, calls, tries) * 1e6
 
 
-def table(program, kinds, sizes, of_what):
+def counted(program, kind, size, _rounds, _tries):
+    """The instructions of a call, by one round."""
+    both, calls = texts(kind, size, 1, ["brief"])
+    return played.call_instructions(program, both, calls)
+
+
+def table(program, kinds, sizes, of_what, of_a_call=microseconds):
     check(program, kinds, min(sizes))
     print(f"{of_what:32}" + "".join(f"{size:>10,}" for size in sizes))
     for kind, name, _ in kinds:
-        cells = (microseconds(program, kind, size, *often) for size, often in sizes.items())
-        print(f"{name:32}" + "".join(f"{cell:10.2f}" for cell in cells), flush=True)
+        cells = (of_a_call(program, kind, size, *often) for size, often in sizes.items())
+        print(f"{name:32}" + "".join(f"{cell:10,.2f}" for cell in cells), flush=True)
 
 
 def main():
     program = sys.argv[1]
+    if sys.argv[2:] == ["instructions"]:
+        print("instructions a call")
+        table(program, FRAME_KINDS, FRAMES, "frames", counted)
+        table(program, RECORD_KINDS, RECORDS, "records, by four times the members", counted)
+        return
     print(f"{os.cpu_count()} processors; microseconds a call")
     if sys.argv[2:] != ["records"]:
         table(program, FRAME_KINDS, FRAMES, "frames")

@@ -3,6 +3,7 @@ plays. Two that differ only in what is timed are compared, so that the start of 
 made before fall out."""
 import collections
 import os
+import re
 import resource
 import subprocess
 import sys
@@ -60,6 +61,21 @@ def call_seconds(program, texts, calls, tries, clock=processor_time):
     with tempfile.TemporaryDirectory() as folder:
         files = [file_of(folder, f"text-{i}", lines) for i, lines in enumerate(texts)]
         before, after = least_seconds(program, files, tries, clock)
+    return (after - before) / calls
+
+
+def instructions(program, file):
+    """How many instructions the playing of a transcript takes, by valgrind."""
+    with open(file, "rb") as text:
+        words = ["valgrind", "--tool=callgrind", f"--callgrind-out-file={file}.counted", program]
+        said = subprocess.run(words, stdin=text, stdout=subprocess.DEVNULL, stderr=subprocess.PIPE, check=True, text=True).stderr
+    return int(re.search(r"Collected : (\d+)", said)[1])
+
+
+def call_instructions(program, texts, calls):
+    """The instructions of a call of which the second of two texts makes so many."""
+    with tempfile.TemporaryDirectory() as folder:
+        before, after = (instructions(program, file_of(folder, f"text-{i}", lines)) for i, lines in enumerate(texts))
     return (after - before) / calls
 
 
