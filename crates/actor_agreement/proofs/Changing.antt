@@ -9,9 +9,9 @@ use Rattle.body_eval.specs.Done.{DoneOf}
 use Rattle.codec.specs.declared.body.TaskResult.{TaskResult}
 use Rattle.serial_meaning.specs.Job.{JobOf, IsJob}
 use Rattle.victim_records.specs.Records.{record_in}
-use Rattle.sub_rules.specs.Carrying.{exec as carried_out}
+use Rattle.sub_rules.specs.Carrying.{exec_content as carried_out}
 use Rattle.sub_rules.specs.Changes.{closed}
-use Rattle.sub_rules.specs.declared.change.Change.{Change}
+use Rattle.sub_rules.specs.declared.change.ContentChange.{ContentChange}
 use Rattle.sub_rules.specs.declared.change.Filling.{Filling}
 use Rattle.sub_rules.specs.declared.change.SubError.{SubError}
 use Rattle.sub_rules.specs.declared.change.SubError.TheVariants as sub
@@ -40,7 +40,7 @@ fills_right job g (Some x) agrees f (inl e) = let received : IsReceived job (fil
 fills_right job g (Some x) agrees f (inr m) = absurd m
 
 module _ (job : JobOf) (n : NodeOf) (right : NodeIsRight job n) where
-  changes_right : (s : SubOf) (c : Change) → ChangeIsRight job c → StepIsRight job (changes job s c n)
+  changes_right : (s : SubOf) (c : ContentChange) → ChangeIsRight job c → StepIsRight job (changes job s c n)
   changes_right s c changed = record {
     after = record { subs = put_right job (with_content s c.after) n.subs changed.after right.subs; replies = right.replies };
     sent = both_sent job (aborts job c.dropped) (results job n.incarnation (with_content s c.after)) (aborts_right job c.dropped) (results_right job n.incarnation (with_content s c.after));
@@ -68,7 +68,7 @@ module _ (job : JobOf) (n : NodeOf) (right : NodeIsRight job n) where
   unfolding calls.exec
   exec_right accepted d g f end = in_state job n.state _ _ _ _ tt (λ r. if_there job (sub_in g n.subs) _ _ tt (λ s e. by_change s (found_among _ s n.subs e) (carried_out d f s.content) refl)) (λ r heir. tt) tt
     where
-      by_change : (s : SubOf) → s ∈ n.subs → (o : Result Change SubError) → carried_out d f s.content ≡ o → AnswerIsRight job (calls.changed job s n o)
+      by_change : (s : SubOf) → s ∈ n.subs → (o : Result ContentChange SubError) → carried_out d f s.content ≡ o → AnswerIsRight job (calls.changed job s n o)
       by_change s held (Ok c) is = changes_right s c (executed_right job s.content d f c accepted end (right.subs s held) is)
       by_change s held (Err sub.Stale) is = tt
       by_change s held (Err sub.Spent) is = tt

@@ -9,12 +9,12 @@ use Rattle.body_eval.specs.Done.{DoneOf}
 use Rattle.serial_meaning.specs.Job.{JobOf, IsJob}
 use Rattle.serial_meaning.specs.Places.{outcome_at}
 use Rattle.victim_records.specs.Records.{record_in}
-use Rattle.sub_rules.specs.Carrying.{exec}
+use Rattle.sub_rules.specs.Carrying.{exec_content}
 use Rattle.sub_rules.specs.Changes.{closed, granted_out, redone, with_parent, with_thief}
 use Rattle.sub_rules.specs.Content.{Ready, ready_in, granted_content}
-use Rattle.sub_rules.specs.declared.change.Change.{Change}
+use Rattle.sub_rules.specs.declared.change.ContentChange.{ContentChange}
 use Rattle.sub_rules.specs.declared.content.Content.{Content}
-use Rattle.agreement.specs.Agreement.{Agrees, FillAgrees, TaskAgrees}
+use Rattle.agreement.specs.Agreement.{ContentAgrees, FillAgrees, TaskAgrees}
 use Rattle.agreement.proofs.Granting.{grant_agrees, parent_agrees, redone_agrees, result_agrees, thief_agrees}
 use Rattle.agreement.proofs.Turning.{granted_agrees, turn_agrees}
 use Rattle.content_moves.proofs.Evaluated.{carried, exec_kept}
@@ -48,7 +48,7 @@ granted_right job c n g thief r right is new = record {
 }
 
 -- a change after which a content is right; the value that it puts into a slot is the one that the slot receives
-pub record ChangeIsRight (job : JobOf) (change : Change) : Type 0 where
+pub record ChangeIsRight (job : JobOf) (change : ContentChange) : Type 0 where
   pub after : IsRight job change.after
   pub fill : FillAgrees job change.fill
 
@@ -59,11 +59,11 @@ closed_right job c r o right there is =
     record { after = record { agrees = agrees.content; kept = result_kept c r right.kept there o }; fill = agrees.fill }
 
 -- a frame is carried out by the turn of its thread
-pub executed_right : (job : JobOf) (c : Content) (d : DoneOf) (n : ℕ) (change : Change) → IsJob job → turn_of job.program d.thread d.numbers ≡ Some d.turn → IsRight job c → exec d n c ≡ Ok change → ChangeIsRight job change
+pub executed_right : (job : JobOf) (c : Content) (d : DoneOf) (n : ℕ) (change : ContentChange) → IsJob job → turn_of job.program d.thread d.numbers ≡ Some d.turn → IsRight job c → exec_content d n c ≡ Ok change → ChangeIsRight job change
 executed_right job c d n change accepted end right is =
     let done = carried d n c change is in
     let turn : turn_of job.program done.frame.thread d.numbers ≡ Some d.turn = rw done.thread end in
     let agrees = turn_agrees job c done.frame d.numbers d.turn accepted.accepted right.kept.sound right.kept.frames right.agrees done.there done.full turn in
-    let after : Agrees job change.after = rw (← done.is) agrees.content in
+    let after : ContentAgrees job change.after = rw (← done.is) agrees.content in
     let fill : FillAgrees job change.fill = rw (← done.is) agrees.fill in
     record { after = record { agrees = after; kept = exec_kept c d n change right.kept is }; fill = fill }

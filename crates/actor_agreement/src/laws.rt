@@ -4,21 +4,21 @@ ghost use Rattle.codec.specs.Table.{PacketOf};
 ghost use Rattle.serial_meaning.specs.Job.{JobOf, IsJob};
 ghost use Rattle.node_state.specs.Node.{NodeOf};
 ghost use Rattle.node_core.specs.Calls as calls;
-ghost use Rattle.node_core.specs.Cases.{Choice, on_packet};
+ghost use Rattle.node_core.specs.Cases.{Candidate, on_packet};
 ghost use Rattle.node_core.specs.declared.parts.Victim.{Victim};
 ghost use Rattle.clearinghouse.specs.Calls as house_calls;
 ghost use Rattle.clearinghouse.specs.Cases as house_cases;
 ghost use Rattle.clearinghouse.specs.House.{HouseOf};
-ghost use Rattle.actor_agreement.specs.Values.{AnswerIsRight, BodyIsRight, HouseAnswerIsRight, HouseStepIsRight, IsFresh, MayCome, NodeIsRight, RepliesAreRight, StepIsRight};
+ghost use Rattle.actor_agreement.specs.Values.{AnswerIsRight, BodyIsRight, HouseAnswerIsRight, HouseStepIsRight, NextGrantIsFresh, BodyMayCome, NodeIsRight, RepliesAreRight, StepIsRight};
 
 /// A node that agrees does so after each packet that agrees, of whatever kind and wherever it stands, where nothing that it holds has a
 /// record of the next grant that it mints; and after its own calls; and so does what it sends and puts into slots, and a node that
 /// starts. Does nothing.
 pub fn what_a_node_does_agrees()
-    ensures packets { (job : JobOf) (n : NodeOf) (choice : Option Choice) (p : PacketOf)
+    ensures packets { (job : JobOf) (n : NodeOf) (choice : Option Candidate) (p : PacketOf)
         → NodeIsRight job n
-        → IsFresh n
-        → MayCome job n p.body
+        → NextGrantIsFresh n
+        → BodyMayCome job n p.body
         → AnswerIsRight job (on_packet job choice p n) }
     ensures exec_ready { (job : JobOf) (n : NodeOf) (g : Grant) (f : ℕ)
         → IsJob job

@@ -1,4 +1,4 @@
 pub mod Others
 pub mod Sent
 pub mod Resolving
-pub mod Mourners
+pub mod MarkingLost

@@ -2,7 +2,7 @@
 use Rattle.std.proofs.Common.{◌≡◌, ℕ, refl, sym, ◌∙◌}
 use Rattle.run_tables.specs.View.{View}
 use Rattle.run_tables.specs.Meaning.{Meaning}
-use Rattle.run_tables.specs.Acts.{Act, starts, admits, adopts, fails, goes, mourns, opens, grants_root, closes_root, commits, publishes, closes, asks, refuses, grants, takes_grant, hears_refuse, gives_up, freezes, takes_offer, acknowledges, releases, leaves, alters, drops, renames, settles, settles_at_house}
+use Rattle.run_tables.specs.Acts.{Act, starts, admits, adopts, fails, goes, marks_lost, opens, grants_root, closes_root, commits, publishes, closes, asks, refuses, grants, takes_grant, hears_refuse, gives_up, freezes, takes_offer, acknowledges, releases, leaves, alters, drops, renames, settles, settles_at_house}
 use Rattle.run_tables.proofs.Entries.{put_other, at_other_row, grant_other}
 use Rattle.actor_moves.specs.Beside.{SameAt, IsActOf, MovedBy, unmoved, moved}
 
@@ -36,7 +36,7 @@ beside_one {v = v} (fails k may) i j is other =
 beside_one {v = v} (goes k said) i j is other =
     let no : j ≡ k → ⊥ = λ e. other (e ∙ sym is) in
     record { mode = put_other v.mode k j _ no; minted = refl; asked = refl; seen = λ g. refl; subs = λ g. refl; pending = refl; kept = λ t. refl; roster = refl }
-beside_one {v = v} (mourns k used worker lost) i j is other =
+beside_one {v = v} (marks_lost k used worker lost) i j is other =
     record { mode = refl; minted = refl; asked = refl; seen = λ g. refl; subs = λ g. refl; pending = refl; kept = λ t. refl; roster = refl }
 beside_one {v = v} (opens k lost roster may) i j is other = absurd is
 beside_one {v = v} (grants_root k thief seq c house may answers begins) i j is other = absurd is

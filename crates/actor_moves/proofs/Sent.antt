@@ -2,7 +2,7 @@
 use Rattle.std.proofs.Common.{◌≡◌, ℕ, List, Option, refl, inr, ◌∙◌}
 use Rattle.run_tables.specs.View.{View}
 use Rattle.run_tables.specs.Meaning.{Meaning}
-use Rattle.run_tables.specs.Acts.{Act, starts, admits, adopts, fails, goes, mourns, opens, grants_root, closes_root, commits, publishes, closes, asks, refuses, grants, takes_grant, hears_refuse, gives_up, freezes, takes_offer, acknowledges, releases, leaves, alters, drops, renames, settles, settles_at_house}
+use Rattle.run_tables.specs.Acts.{Act, starts, admits, adopts, fails, goes, marks_lost, opens, grants_root, closes_root, commits, publishes, closes, asks, refuses, grants, takes_grant, hears_refuse, gives_up, freezes, takes_offer, acknowledges, releases, leaves, alters, drops, renames, settles, settles_at_house}
 use Rattle.run_tables.specs.Runs.{Run, by_right, Leads, leads_on}
 use Rattle.run_tables.proofs.Lists.{later}
 use Rattle.run_tables.proofs.Entries.{put_other, at_other_row, grant_other}
@@ -10,13 +10,13 @@ use Rattle.actor_moves.proofs.Others.{all_same, beside_one}
 use Rattle.ids.specs.Names.{Grant}
 use Rattle.run_tables.specs.Content.{Content, Fill}
 use Rattle.run_tables.specs.View.{Result, Sub}
-use Rattle.run_tables.specs.Moves.{alter, grant_frame, mourn}
-use Rattle.actor_moves.specs.Beside.{SameHouse, Keeps, IsActOf, IsBeside, MovedBy, unmoved, moved}
+use Rattle.run_tables.specs.Moves.{alter, grant_frame, mark_lost}
+use Rattle.actor_moves.specs.Beside.{SameHouse, KeepsSent, IsActOf, IsBeside, MovedBy, unmoved, moved}
 
-pub all_kept : (v : View) → Keeps v v
+pub all_kept : (v : View) → KeepsSent v v
 all_kept v = record { used = λ i m. m; transfers = λ t m. m; acks = λ a m. m; results = λ x m. m; settled = λ g m. m; steals = λ x m. m; refusals = λ x m. m; leaves = λ l m. m; rosters = λ r m. m }
 
-pub keeps_then : {u v w : View} → Keeps u v → Keeps v w → Keeps u w
+pub keeps_then : {u v w : View} → KeepsSent u v → KeepsSent v w → KeepsSent u w
 keeps_then a b = record {
   used = λ i m. b.used i (a.used i m);
   transfers = λ t m. b.transfers t (a.transfers t m);
@@ -30,13 +30,13 @@ keeps_then a b = record {
 }
 
 -- by one move
-pub keeps_one : {v w : View} → Act v w → Keeps v w
+pub keeps_one : {v w : View} → Act v w → KeepsSent v w
 keeps_one {v = v} (starts k new worker) = record { used = λ i m. inr m; transfers = λ t m. m; acks = λ a m. m; results = λ x m. m; settled = λ g m. m; steals = λ x m. m; refusals = λ x m. m; leaves = λ l m. m; rosters = λ r m. m }
 keeps_one {v = v} (admits k roster joins sent) = assumption (all_kept v)
 keeps_one {v = v} (adopts k old roster may) = assumption (all_kept v)
 keeps_one {v = v} (fails k may) = assumption (all_kept v)
 keeps_one {v = v} (goes k said) = assumption (all_kept v)
-keeps_one {v = v} (mourns k used worker lost) = assumption (all_kept v)
+keeps_one {v = v} (marks_lost k used worker lost) = assumption (all_kept v)
 keeps_one {v = v} (opens k lost roster may) = record { used = λ i m. inr m; transfers = λ t m. m; acks = λ a m. m; results = λ x m. m; settled = λ g m. m; steals = λ x m. m; refusals = λ x m. m; leaves = λ l m. m; rosters = λ r m. m }
 keeps_one {v = v} (grants_root k thief seq c house may answers begins) = record { used = λ i m. m; transfers = λ t m. inr m; acks = λ a m. m; results = λ x m. m; settled = λ g m. m; steals = λ x m. m; refusals = λ x m. m; leaves = λ l m. m; rosters = λ r m. m }
 keeps_one {v = v} (closes_root k e) = record { used = λ i m. m; transfers = λ t m. m; acks = λ a m. m; results = λ x m. m; settled = λ g m. inr m; steals = λ x m. m; refusals = λ x m. m; leaves = λ l m. m; rosters = λ r m. m }
@@ -61,7 +61,7 @@ keeps_one {v = v} (settles k g may) = record { used = λ i m. m; transfers = λ 
 keeps_one {v = v} (settles_at_house k g may) = record { used = λ i m. m; transfers = λ t m. m; acks = λ a m. m; results = λ x m. m; settled = λ g m. inr m; steals = λ x m. m; refusals = λ x m. m; leaves = λ l m. m; rosters = λ r m. m }
 
 -- and by many
-pub keeps_all : {m : Meaning} {i : ℕ} {v w : View} → MovedBy m i v w → Keeps v w
+pub keeps_all : {m : Meaning} {i : ℕ} {v w : View} → MovedBy m i v w → KeepsSent v w
 keeps_all {v = v} unmoved = all_kept v
 keeps_all (moved way act right is) = keeps_then (keeps_all way) (keeps_one act)
 
@@ -74,7 +74,7 @@ house_one {v = v} (admits k roster joins sent) i is = assumption (same_house v)
 house_one {v = v} (adopts k old roster may) i is = assumption (same_house v)
 house_one {v = v} (fails k may) i is = assumption (same_house v)
 house_one {v = v} (goes k said) i is = assumption (same_house v)
-house_one {v = v} (mourns k used worker lost) i is = assumption (same_house v)
+house_one {v = v} (marks_lost k used worker lost) i is = assumption (same_house v)
 house_one {v = v} (opens k lost roster may) i is = absurd is
 house_one {v = v} (grants_root k thief seq c house may answers begins) i is = absurd is
 house_one {v = v} (closes_root k e) i is = absurd is
@@ -104,7 +104,7 @@ used_one {v = v} (admits k roster joins sent) i is = refl
 used_one {v = v} (adopts k old roster may) i is = refl
 used_one {v = v} (fails k may) i is = refl
 used_one {v = v} (goes k said) i is = refl
-used_one {v = v} (mourns k used worker lost) i is = refl
+used_one {v = v} (marks_lost k used worker lost) i is = refl
 used_one {v = v} (opens k lost roster may) i is = absurd is
 used_one {v = v} (grants_root k thief seq c house may answers begins) i is = absurd is
 used_one {v = v} (closes_root k e) i is = absurd is
@@ -167,5 +167,5 @@ of_grant v i g s n thief seq c = record {
   house = assumption (same_house v);
 }
 
-pub of_mourn : (v : View) (who i : ℕ) → IsBeside i v (mourn v who)
-of_mourn v who i = record { used = refl; others = λ j no. assumption (all_same v j); house = assumption (same_house v) }
+pub of_mark_lost : (v : View) (who i : ℕ) → IsBeside i v (mark_lost v who)
+of_mark_lost v who i = record { used = refl; others = λ j no. assumption (all_same v j); house = assumption (same_house v) }

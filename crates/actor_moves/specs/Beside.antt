@@ -4,7 +4,7 @@ use Rattle.ids.specs.Names.{Grant}
 use Rattle.run_tables.specs.Tables.{◌∈◌}
 use Rattle.run_tables.specs.View.{Transfer, Ack, Result, Steal, Leave, Roster, View}
 use Rattle.run_tables.specs.Meaning.{Meaning}
-use Rattle.run_tables.specs.Acts.{Act, starts, admits, adopts, fails, goes, mourns, opens, grants_root, closes_root, commits, publishes, closes, asks, refuses, grants, takes_grant, hears_refuse, gives_up, freezes, takes_offer, acknowledges, releases, leaves, alters, drops, renames, settles, settles_at_house}
+use Rattle.run_tables.specs.Acts.{Act, starts, admits, adopts, fails, goes, marks_lost, opens, grants_root, closes_root, commits, publishes, closes, asks, refuses, grants, takes_grant, hears_refuse, gives_up, freezes, takes_offer, acknowledges, releases, leaves, alters, drops, renames, settles, settles_at_house}
 use Rattle.run_tables.specs.Runs.{Right}
 
 -- all that a view has of the name j is as it was
@@ -27,7 +27,7 @@ pub record SameHouse (v w : View) : Type 0 where
   pub epoch : w.epoch ≡ v.epoch
 
 -- what was sent stays sent, and a name that was used stays used
-pub record Keeps (v w : View) : Type 0 where
+pub record KeepsSent (v w : View) : Type 0 where
   pub used : (i : ℕ) → i ∈ v.used → i ∈ w.used
   pub transfers : (t : Transfer) → t ∈ v.transfers → t ∈ w.transfers
   pub acks : (a : Ack) → a ∈ v.acks → a ∈ w.acks
@@ -45,7 +45,7 @@ IsActOf (admits i roster is sent) j = j ≡ i
 IsActOf (adopts i old roster may) j = j ≡ i
 IsActOf (fails i may) j = j ≡ i
 IsActOf (goes i said) j = j ≡ i
-IsActOf (mourns i used worker lost) j = Unit {0}
+IsActOf (marks_lost i used worker lost) j = Unit {0}
 IsActOf (opens i lost roster may) j = ⊥
 IsActOf (grants_root i thief seq c house may answers begins) j = ⊥
 IsActOf (closes_root k is) j = ⊥

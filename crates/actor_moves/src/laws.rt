@@ -6,10 +6,10 @@ ghost use Rattle.run_tables.specs.View.{Dead, Roster, House, Works, View};
 ghost use Rattle.run_tables.specs.Facts.{Resolves};
 ghost use Rattle.run_tables.specs.Heirs.{AllEnd};
 ghost use Rattle.run_tables.specs.Meaning.{Meaning};
-ghost use Rattle.run_tables.specs.Acts.{Reached};
+ghost use Rattle.run_tables.specs.Acts.{ReachedInTables};
 ghost use Rattle.run_tables.specs.Runs.{Run};
-ghost use Rattle.actor_moves.specs.Beside.{SameAt, SameHouse, Keeps, MovedBy};
-ghost use Rattle.actor_moves.specs.Listed.{ShowsMembers, DeadEnd, Mourning};
+ghost use Rattle.actor_moves.specs.Beside.{SameAt, SameHouse, KeepsSent, MovedBy};
+ghost use Rattle.actor_moves.specs.Listed.{ShowsMembers, DeadEnd, MarkedLost};
 
 /// Moves of one worker leave what every other name has, and the clearinghouse, as they were. Does nothing.
 pub fn others_stay_as_they_were()
@@ -23,7 +23,7 @@ pub fn others_stay_as_they_were()
 
 /// What was sent stays sent, and a run goes on by moves of one worker. Does nothing.
 pub fn what_was_sent_stays_sent()
-    ensures keeps { (m : Meaning) (i : ℕ) (v w : View) → MovedBy m i v w → Keeps v w }
+    ensures keeps { (m : Meaning) (i : ℕ) (v w : View) → MovedBy m i v w → KeepsSent v w }
     ensures run { (m : Meaning) (i : ℕ) (v w : View) → Run m v → MovedBy m i v w → Run m w }
 {}
 
@@ -41,14 +41,13 @@ pub fn heirs_of_members_are_those_of_tables()
         → DeadEnd r i }
 {}
 
-/// Where a worker that is up keeps a roster that shows somebody dead, a move may say of one of the two that it is lost. Does
-/// nothing.
-pub fn a_verdict_can_be_mourned()
+/// Where a worker that is up keeps a roster that shows somebody dead, a move may mark one of the two as lost. Does nothing.
+pub fn a_verdict_can_be_marked_as_a_loss()
     ensures { (v : View) (i dead : ℕ) (r : Roster)
-        → Reached v
+        → ReachedInTables v
         → Works (v.mode i)
         → (v.mode i ≡ House → ⊥)
         → v.roster i ≡ Some r
         → r.status dead ≡ Dead
-        → Mourning v i dead }
+        → MarkedLost v i dead }
 {}

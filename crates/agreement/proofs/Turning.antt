@@ -26,7 +26,7 @@ use Rattle.sub_rules.specs.Changes.{turned, replaced, joined, ends}
 use Rattle.sub_rules.specs.Debts.{IsSound}
 use Rattle.sub_rules.proofs.Sums.{all_filtered}
 use Rattle.sub_rules.proofs.Slots.{numbers_full}
-use Rattle.agreement.specs.Agreement.{TaskAgrees, FrameHolds, Agrees}
+use Rattle.agreement.specs.Agreement.{TaskAgrees, FrameHolds, ContentAgrees}
 use Rattle.agreement.proofs.Places.{none_at_root}
 use Rattle.agreement.proofs.Tasks.{task_holds, frame_task}
 use Rattle.agreement.proofs.Leaving.{Unowed, ready_unowed, left_agrees, left_owes}
@@ -34,7 +34,7 @@ use Rattle.agreement.proofs.Arriving.{ChangeAgrees, end_agrees, arrival_agrees}
 use Rattle.agreement.proofs.Joining.{join_agrees}
 
 -- the content with which a task begins
-pub granted_agrees : (job : JobOf) (host : ℕ) (task : Task) → TaskAgrees job task → Agrees job (granted_content host task)
+pub granted_agrees : (job : JobOf) (host : ℕ) (task : Task) → TaskAgrees job task → ContentAgrees job (granted_content host task)
 granted_agrees job host task agrees = record {
   task = agrees;
   frames = λ n f at. rw (only f (is_eq (name_cmp (n, 0) (0, 0))) at) first;
@@ -65,7 +65,7 @@ turn_fits p t numbers turn accepted takes is =
 -- a ready frame of a content that agrees, and its turn
 pub record Turns (job : JobOf) (c : Content) (f : Frame) (numbers : List ℤ) (turn : Turn) : Type 0 where
   pub sound : IsSound c
-  pub agrees : Agrees job c
+  pub agrees : ContentAgrees job c
   pub there : frame_in f.number c.frames ≡ Some f
   pub unowed : Unowed c f.number
   pub task : TaskAgrees job (record { place = f.place; thread = f.thread; numbers = numbers })
@@ -106,7 +106,7 @@ turn_of_kind job c f numbers (Joins t slots) turns = by_depth (nat_lt (length f.
     by_depth false is = deep_agrees job c f numbers t slots turns (ltb-false (length f.place) 1024 is)
 
 -- a turn keeps agreement
-pub turn_agrees : (job : JobOf) (c : Content) (f : Frame) (numbers : List ℤ) (turn : Turn) → IsAccepted job.program → IsSound c → AreInOrder name_of_frame c.frames → Agrees job c → frame_in f.number c.frames ≡ Some f → numbers_in f.slots ≡ Some numbers → turn_of job.program f.thread numbers ≡ Some turn → ChangeAgrees job (turned f turn c)
+pub turn_agrees : (job : JobOf) (c : Content) (f : Frame) (numbers : List ℤ) (turn : Turn) → IsAccepted job.program → IsSound c → AreInOrder name_of_frame c.frames → ContentAgrees job c → frame_in f.number c.frames ≡ Some f → numbers_in f.slots ≡ Some numbers → turn_of job.program f.thread numbers ≡ Some turn → ChangeAgrees job (turned f turn c)
 turn_agrees job c f numbers turn accepted sound order agrees there full is =
     let task = frame_task job c.task.place c.frames f numbers (agrees.frames f.number f there) full in
     turn_of_kind job c f numbers turn (record {

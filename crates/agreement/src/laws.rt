@@ -19,7 +19,7 @@ ghost use Rattle.sub_rules.specs.declared.content.Content.{Content};
 ghost use Rattle.sub_rules.specs.Content.{Ready, ready_in, task_of, granted_content};
 ghost use Rattle.sub_rules.specs.Changes.{turned, closed, granted_out, redone, with_parent, with_thief};
 ghost use Rattle.sub_rules.specs.Debts.{IsSound};
-ghost use Rattle.agreement.specs.Agreement.{TaskAgrees, Agrees, FillAgrees};
+ghost use Rattle.agreement.specs.Agreement.{TaskAgrees, ContentAgrees, FillAgrees};
 
 /// The first task of a job agrees with it. Does nothing.
 pub fn root_content_agrees()
@@ -33,7 +33,7 @@ pub fn root_content_agrees()
 pub fn granted_content_agrees()
     ensures { (job : JobOf) (host : ℕ) (task : Task)
         → TaskAgrees job task
-        → Agrees job (granted_content host task) }
+        → ContentAgrees job (granted_content host task) }
 {}
 
 /// The turn of a ready frame keeps the agreement of a sound content, and a value that it puts into a slot is the one that
@@ -43,16 +43,16 @@ pub fn turn_keeps_agreement()
         → IsAccepted job.program
         → IsSound c
         → AreInOrder name_of_frame c.frames
-        → Agrees job c
+        → ContentAgrees job c
         → frame_in f.number c.frames ≡ Some f
         → numbers_in f.slots ≡ Some numbers
         → turn_of job.program f.thread numbers ≡ Some turn
-        → Agrees job (turned f turn c).after }
+        → ContentAgrees job (turned f turn c).after }
     ensures fill { (job : JobOf) (c : Content) (f : Frame) (numbers : List ℤ) (turn : Turn)
         → IsAccepted job.program
         → IsSound c
         → AreInOrder name_of_frame c.frames
-        → Agrees job c
+        → ContentAgrees job c
         → frame_in f.number c.frames ≡ Some f
         → numbers_in f.slots ≡ Some numbers
         → turn_of job.program f.thread numbers ≡ Some turn
@@ -63,12 +63,12 @@ pub fn turn_keeps_agreement()
 /// puts into a slot is the one that the slot receives. Does nothing.
 pub fn result_keeps_agreement()
     ensures content { (job : JobOf) (c : Content) (r : Record) (o : Outcome)
-        → Agrees job c
+        → ContentAgrees job c
         → record_in r.grant c.records ≡ Some r
         → o ≡ outcome_at job.program job.input r.task.place
-        → Agrees job (closed r o c).after }
+        → ContentAgrees job (closed r o c).after }
     ensures fill { (job : JobOf) (c : Content) (r : Record) (o : Outcome)
-        → Agrees job c
+        → ContentAgrees job c
         → record_in r.grant c.records ≡ Some r
         → o ≡ outcome_at job.program job.input r.task.place
         → FillAgrees job (closed r o c).fill }
@@ -77,15 +77,15 @@ pub fn result_keeps_agreement()
 /// The task of a ready frame agrees, and so does a sound content that the frame is granted away from. Does nothing.
 pub fn grant_keeps_agreement()
     ensures task { (job : JobOf) (c : Content) (n : ℕ) (r : Ready)
-        → Agrees job c
+        → ContentAgrees job c
         → ready_in n c ≡ Some r
         → TaskAgrees job (task_of r) }
     ensures content { (job : JobOf) (c : Content) (n : ℕ) (g : Grant) (thief : ℕ) (r : Ready)
         → IsSound c
         → AreInOrder name_of_frame c.frames
-        → Agrees job c
+        → ContentAgrees job c
         → ready_in n c ≡ Some r
-        → Agrees job (granted_out g thief r c) }
+        → ContentAgrees job (granted_out g thief r c) }
 {}
 
 /// A sound content that agrees does so when a record is closed without an outcome and its frame is there again. Does
@@ -93,26 +93,26 @@ pub fn grant_keeps_agreement()
 pub fn redoing_keeps_agreement()
     ensures { (job : JobOf) (c : Content) (r : Record)
         → IsSound c
-        → Agrees job c
+        → ContentAgrees job c
         → record_in r.grant c.records ≡ Some r
-        → Agrees job (redone r c) }
+        → ContentAgrees job (redone r c) }
 {}
 
 /// A content that agrees does so when another host waits for its outcome, or another worker holds a stolen frame. Does
 /// nothing.
 pub fn renaming_keeps_agreement()
     ensures parent { (job : JobOf) (host : ℕ) (c : Content)
-        → Agrees job c
-        → Agrees job (with_parent host c) }
+        → ContentAgrees job c
+        → ContentAgrees job (with_parent host c) }
     ensures thief { (job : JobOf) (g : Grant) (holder : ℕ) (c : Content)
-        → Agrees job c
-        → Agrees job (with_thief g holder c) }
+        → ContentAgrees job c
+        → ContentAgrees job (with_thief g holder c) }
 {}
 
 /// The outcome of a content whose task stands at the root is what the job means. Does nothing.
 pub fn finished_roots_mean()
     ensures { (job : JobOf) (c : Content) (o : Outcome)
-        → Agrees job c
+        → ContentAgrees job c
         → c.task.place ≡ []
         → c.progress ≡ Finished o
         → o ≡ meaning_of job }

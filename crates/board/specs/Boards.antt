@@ -17,5 +17,5 @@ abbrev pub Agree : Option Outcome → Option Outcome → Type 0
 Agree one other = IfSome one (λ o. IfSome other (λ p. o ≡ p))
 
 -- an outcome that was known is known afterwards
-abbrev pub Keeps : Option Outcome → Option Outcome → Type 0
-Keeps before after = IfSome before (λ o. after ≡ Some o)
+abbrev pub StaysKnown : Option Outcome → Option Outcome → Type 0
+StaysKnown before after = IfSome before (λ o. after ≡ Some o)

@@ -1,6 +1,6 @@
 ghost use Rattle.std.specs.Prelude.{◌≡◌, IfErr, None, OnOk, Some};
 ghost use Rattle.serial_meaning.specs.Job.{meaning_of};
-ghost use Rattle.board.specs.Boards.{Agree, Keeps};
+ghost use Rattle.board.specs.Boards.{Agree, StaysKnown};
 
 use crate::notes::Note;
 use once_cell::race::OnceBox;
@@ -57,7 +57,7 @@ impl Board {
         ensures board { note.new.board ≡ note.old.board }
         ensures ok { OnOk result ((note.old.known ≡ None) × (note.new.known ≡ Some outcome)) }
         ensures err { IfErr result (λ o. o ≡ outcome) }
-        ensures known { Keeps note.old.known note.new.known }
+        ensures known { StaysKnown note.old.known note.new.known }
     {
         let Ok(value) = Box::new(self.alloc, outcome) else {
             return Err(outcome);
@@ -73,7 +73,7 @@ impl Board {
         requires { note.old.board ≡ self.now.board }
         ensures board { note.new.board ≡ note.old.board }
         ensures read { note.new.known ≡ result }
-        ensures known { Keeps note.old.known result }
+        ensures known { StaysKnown note.old.known result }
     {
         self.cell.get_as(&mut note.note).copied()
     }

@@ -9,7 +9,7 @@ use ids::Listed;
 use kind_check::{Checked, Kid, Leaf, Slot, SlotCode, Turn};
 use std::alloc::{AllocError, Global};
 
-/// The end that the body of a thread reaches on these numbers; refused for want of memory alone.
+/// The end that the body of a thread reaches on these numbers; refused only when out of memory.
 #[tactic(auto, using(crate::proofs::Turning::sent_known, crate::proofs::Turning::sent_turn, crate::proofs::Turning::joined_known, crate::proofs::Turning::joined_turn, crate::proofs::Turning::turn_fits))]
 pub fn turn(
     alloc: Global,

@@ -40,7 +40,7 @@ impl Model for Done {
 impl Done {
     ghost use Rattle.body_eval.specs.Done.{IsEvaluated};
 
-    /// Evaluates a turn, and keeps the numbers with it; refused for want of memory alone.
+    /// Evaluates a turn, and keeps the numbers with it; refused only when out of memory.
     pub fn of(
         alloc: Global,
         checked: &Checked,

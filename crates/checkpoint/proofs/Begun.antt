@@ -3,19 +3,19 @@ use Rattle.std.proofs.Common.{◌≡◌, ℕ, ◌+◌, true, false, List, [], �
 use Rattle.std.proofs.lemmas.List.{take_at, drop_at, drop_all, drop-append-le, append-nil}
 use Rattle.std.specs.List.{splice}
 use Rattle.disk.specs.Device.{Device}
-use Rattle.disk.specs.File.{CrashLeaves, synced, written}
+use Rattle.disk.specs.File.{CrashLeaves, synced, written_file}
 use Rattle.disk.proofs.Crashes.{bytes_of-synced, synced-only}
 use Rattle.disk.proofs.Writes.{bytes_of-written}
 use Rattle.checkpoint.specs.Calls.{Passed, after}
 use Rattle.checkpoint.specs.Commit.{formatting}
 use Rattle.checkpoint.specs.Pair.{slot, body}
-use Rattle.checkpoint.specs.Format.{IsBody, IsFormatted, Spells, name, IsStore, fresh}
-use Rattle.checkpoint.specs.declared.record.Record.{Record}
+use Rattle.checkpoint.specs.Format.{IsSlotBody, IsFormatted, SpellsSlot, name, IsStore, fresh}
+use Rattle.checkpoint.specs.declared.record.CheckpointRecord.{CheckpointRecord}
 
 abbrev pub blank : List ℕ → List ℕ
 blank bytes = name ++ (1 ∷ 165 ∷ (bytes ++ replicate 64 0))
 
-blank_is_store : (bytes : List ℕ) (r : Record) → length bytes ≡ 63 → Spells bytes 0 r → IsStore (blank bytes) false 0 r
+blank_is_store : (bytes : List ℕ) (r : CheckpointRecord) → length bytes ≡ 63 → SpellsSlot bytes 0 r → IsStore (blank bytes) false 0 r
 blank_is_store bytes r size says =
     let whole : length (blank bytes) ≡ 136 = omega (arith, size, length-append bytes (replicate 64 0)) in
     let here : slot 8 63 false (blank bytes) ≡ 165 ∷ bytes = ap (λ (l : List ℕ). 165 ∷ l) (take_at bytes (replicate 64 0) 63 size) in
@@ -27,12 +27,12 @@ blank_is_store bytes r size says =
       current = record {
         room = omega (arith, whole);
         gate = refl;
-        content = subst (λ (l : List ℕ). Spells (body l) 0 r) (sym here) says;
+        content = subst (λ (l : List ℕ). SpellsSlot (body l) 0 r) (sym here) says;
         other = λ opened. let e : 0 ≡ 165 = ap (λ (l : List ℕ). get_or l 0 0) (sym there) ∙ opened in absurd (omega (arith, e));
       };
     }
 
-pub blank_is_formatted : (bytes : List ℕ) (job : ℕ) → IsBody bytes 0 (fresh job) → IsFormatted (blank bytes) job
+pub blank_is_formatted : (bytes : List ℕ) (job : ℕ) → IsSlotBody bytes 0 (fresh job) → IsFormatted (blank bytes) job
 blank_is_formatted bytes job is = record {
   store = blank_is_store bytes (fresh job) is.size is.fields;
   zeros = drop-append-le 35 bytes (replicate 64 0) (omega (arith, is.size)) ∙ ap (λ (l : List ℕ). l ++ replicate 64 0) is.zeros;
@@ -51,7 +51,7 @@ over_nothing file = ap (λ (l : List ℕ). file ++ l) (drop_all (0 + length file
 pub formatted_left : (d new : Device) (plan : ℕ → Option (List ℕ)) (file : List ℕ) (job : ℕ) → IsFormatted file job → Passed (formatting file) plan d new → (c : List ℕ) → CrashLeaves new.file c → IsFormatted c job
 unfolding after
 formatted_left d new plan file job is passed c left =
-    let cells = written (take 0 d.file) 0 file in
+    let cells = written_file (take 0 d.file) 0 file in
     let stays : CrashLeaves (synced cells) c = subst (λ (x : Device). CrashLeaves x.file c) passed.made left in
     let reads : c ≡ file = synced-only cells c stays ∙ bytes_of-synced cells ∙ bytes_of-written (take 0 d.file) 0 file ∙ over_nothing file in
     subst (λ (l : List ℕ). IsFormatted l job) (sym reads) is

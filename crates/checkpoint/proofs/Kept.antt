@@ -8,13 +8,13 @@ use Rattle.disk.specs.Device.{Device}
 use Rattle.disk.specs.File.{CrashLeaves, bytes_of}
 use Rattle.disk.proofs.Bytes.{kept-or-free}
 use Rattle.disk.proofs.Crashes.{crash-leaves-bytes_of}
-use Rattle.checkpoint.specs.Calls.{Call}
+use Rattle.checkpoint.specs.Calls.{DeviceCall}
 use Rattle.checkpoint.specs.Commit.{IsCommit, publishing}
-use Rattle.checkpoint.specs.Format.{IsBody, Spells, name, IsStore}
+use Rattle.checkpoint.specs.Format.{IsSlotBody, SpellsSlot, name, IsStore}
 use Rattle.checkpoint.specs.Moments.{Moments}
 use Rattle.checkpoint.specs.Pair.{is_open, place, slot, IsOpen}
-use Rattle.checkpoint.specs.Store.{Keeps, Reads}
-use Rattle.checkpoint.specs.declared.record.Record.{Record}
+use Rattle.checkpoint.specs.Store.{KeepsRecord, ReadsAsStore}
+use Rattle.checkpoint.specs.declared.record.CheckpointRecord.{CheckpointRecord}
 use Rattle.checkpoint.proofs.Looked.{one_current}
 use Rattle.checkpoint.proofs.Pairs.{Keeps as KeepsFrame, Has, before_it, committed, either_of, place_within}
 use Rattle.checkpoint.proofs.Passing.{Early, Late}
@@ -33,16 +33,16 @@ framed target file c bytes is by = record {
   version = sym (get_or-take 8 c 7 0 (lit< tt)) ∙ ap (λ (l : List ℕ). get_or l 7 0) by.front ∙ get_or-take 8 file 7 0 (lit< tt) ∙ is.version;
 }
 
-from_store : (file : List ℕ) (second : Bool) (sequence : ℕ) (r : Record) → IsStore file second sequence r → Has Spells 8 63 Frame file second sequence r
+from_store : (file : List ℕ) (second : Bool) (sequence : ℕ) (r : CheckpointRecord) → IsStore file second sequence r → Has SpellsSlot 8 63 Frame file second sequence r
 from_store file second sequence r is = (record { size = is.size; named = is.named; version = is.version }, is.current)
 
-to_store : (file : List ℕ) (second : Bool) (sequence : ℕ) (r : Record) → Has Spells 8 63 Frame file second sequence r → IsStore file second sequence r
+to_store : (file : List ℕ) (second : Bool) (sequence : ℕ) (r : CheckpointRecord) → Has SpellsSlot 8 63 Frame file second sequence r → IsStore file second sequence r
 to_store file second sequence r has = record { size = has.0.size; named = has.0.named; version = has.0.version; current = has.1 }
 
 -- a slot that was replaced, and opened
-pub replaced_store : (file c bytes : List ℕ) (second : Bool) (sequence : ℕ) (r next : Record) → IsStore file second sequence r → IsBody bytes (sequence + 1) next → c ≡ splice file (place 8 63 (not second)) (place 8 63 (not second) + 1 + length bytes) (165 ∷ bytes) → IsStore c (not second) (sequence + 1) next × IsOpen (slot 8 63 second c)
+pub replaced_store : (file c bytes : List ℕ) (second : Bool) (sequence : ℕ) (r next : CheckpointRecord) → IsStore file second sequence r → IsSlotBody bytes (sequence + 1) next → c ≡ splice file (place 8 63 (not second)) (place 8 63 (not second) + 1 + length bytes) (165 ∷ bytes) → IsStore c (not second) (sequence + 1) next × IsOpen (slot 8 63 second c)
 replaced_store file c bytes second sequence r next is body same =
-    let made = committed Spells 8 63 Frame framed file bytes c second sequence r next (from_store file second sequence r is) body.size body.fields same in
+    let made = committed SpellsSlot 8 63 Frame framed file bytes c second sequence r next (from_store file second sequence r is) body.size body.fields same in
     (to_store c (not second) (sequence + 1) next made.0, made.1)
 
 reads_open : (slot : List ℕ) → is_open slot ≡ true → IsOpen slot
@@ -51,7 +51,7 @@ reads_open slot e = eqb-true (get_or slot 0 0) 165 e
 reads_closed : (slot : List ℕ) → is_open slot ≡ false → ¬ IsOpen slot
 reads_closed slot e = eqb-false (get_or slot 0 0) 165 e
 
-module _ (d : Device) (second : Bool) (sequence : ℕ) (before next : Record) (bytes : List ℕ) (each : (c : List ℕ) → CrashLeaves d.file c → IsStore c second sequence before) (body : IsBody bytes (sequence + 1) next) where
+module _ (d : Device) (second : Bool) (sequence : ℕ) (before next : CheckpointRecord) (bytes : List ℕ) (each : (c : List ℕ) → CrashLeaves d.file c → IsStore c second sequence before) (body : IsSlotBody bytes (sequence + 1) next) where
   abbrev file : List ℕ
   file = bytes_of d.file
 
@@ -70,12 +70,12 @@ module _ (d : Device) (second : Bool) (sequence : ℕ) (before next : Record) (b
   early : (c : List ℕ) → Early at gate bytes file (CrashLeaves d.file) c → IsStore c second sequence before
   early c is =
       to_store c second sequence before
-      (before_it Spells 8 63 Frame framed file bytes (CrashLeaves d.file) gate second sequence before (crash-leaves-bytes_of d.file) (λ x was. from_store x second sequence before (each x was))
+      (before_it SpellsSlot 8 63 Frame framed file bytes (CrashLeaves d.file) gate second sequence before (crash-leaves-bytes_of d.file) (λ x was. from_store x second sequence before (each x was))
       (kept-or-free d.file at) (reads_open (slot 8 63 (not second) file)) (reads_closed (slot 8 63 (not second) file)) body.size c is)
 
-  late : (c : List ℕ) → Late at bytes file c → Reads c sequence before ⊎ Reads c (sequence + 1) next
+  late : (c : List ℕ) → Late at bytes file c → ReadsAsStore c sequence before ⊎ ReadsAsStore c (sequence + 1) next
   late c is =
-      elim (either_of Spells 8 63 Frame framed file bytes second sequence before next (from_store file second sequence before current) body.size body.fields c is) [
+      elim (either_of SpellsSlot 8 63 Frame framed file bytes second sequence before next (from_store file second sequence before current) body.size body.fields c is) [
         | inl old ↦ inl (second, to_store c second sequence before old)
         | inr new ↦ inr (not second, to_store c (not second) (sequence + 1) next new)
       ]
@@ -93,9 +93,9 @@ module _ (d : Device) (second : Bool) (sequence : ℕ) (before next : Record) (b
     done = record { second = not second; each = λ c left. done c (moment.done d at gate bytes room c left) };
   }
 
-pub before_or_after : (d : Device) (sequence : ℕ) (before next : Record) (calls : List Call) → Keeps d.file sequence before → IsCommit (bytes_of d.file) sequence before next calls → Moments d sequence before next calls
+pub before_or_after : (d : Device) (sequence : ℕ) (before next : CheckpointRecord) (calls : List DeviceCall) → KeepsRecord d.file sequence before → IsCommit (bytes_of d.file) sequence before next calls → Moments d sequence before next calls
 before_or_after d sequence before next calls keeps commit =
     let here = keeps.each (bytes_of d.file) (crash-leaves-bytes_of d.file) in
     let one = one_current (bytes_of d.file) keeps.second commit.second sequence sequence before before here.current commit.current.current in
     let each : (c : List ℕ) → CrashLeaves d.file c → IsStore c commit.second sequence before = λ c left. subst (λ s. IsStore c s sequence before) one.0 (keeps.each c left) in
-    subst (λ (l : List Call). Moments d sequence before next l) (sym commit.same) (publishes d commit.second sequence before next commit.bytes each commit.body)
+    subst (λ (l : List DeviceCall). Moments d sequence before next l) (sym commit.same) (publishes d commit.second sequence before next commit.bytes each commit.body)

@@ -4,13 +4,13 @@ use Rattle.std.specs.Int.{w64, cast_signed}
 use Rattle.std.specs.List.{splice}
 use Rattle.byteorder.specs.Endian.{big_bytes}
 use Rattle.byteorder.specs.Numbers.{big_number-reads_back}
-use Rattle.checkpoint.specs.Format.{IsBody, Spells, tag_of, value_of}
-use Rattle.checkpoint.specs.declared.record.Record.{Record}
+use Rattle.checkpoint.specs.Format.{IsSlotBody, SpellsSlot, tag_of, value_of}
+use Rattle.checkpoint.specs.declared.record.CheckpointRecord.{CheckpointRecord}
 
 abbrev pub laid : ℕ → ℕ → ℕ → ℕ → ℕ → List ℕ
 laid s j e t v = big_bytes 8 s ++ (big_bytes 2 25 ++ (big_bytes 8 j ++ (big_bytes 8 e ++ (t ∷ (big_bytes 8 v ++ replicate 28 0)))))
 
-laid_spells : (s v : ℕ) (r : Record) → s < 2 ^ 64 → r.job < 2 ^ 64 → r.epoch < 2 ^ 63 → v < 2 ^ 64 → cast_signed w64 v ≡ value_of r.outcome → Spells (laid s r.job r.epoch (tag_of r.outcome) v) s r
+laid_spells : (s v : ℕ) (r : CheckpointRecord) → s < 2 ^ 64 → r.job < 2 ^ 64 → r.epoch < 2 ^ 63 → v < 2 ^ 64 → cast_signed w64 v ≡ value_of r.outcome → SpellsSlot (laid s r.job r.epoch (tag_of r.outcome) v) s r
 laid_spells s v r s_fits job_fits epoch_fits v_fits is = record {
   sequence_at = big_number-reads_back 8 s [] s_fits;
   length_at = refl;
@@ -21,7 +21,7 @@ laid_spells s v r s_fits job_fits epoch_fits v_fits is = record {
   value_at = ap (cast_signed w64) (big_number-reads_back 8 v [] v_fits) ∙ is;
 }
 
-pub laid_is_body : (s v : ℕ) (r : Record) → s < 2 ^ 64 → r.job < 2 ^ 64 → r.epoch < 2 ^ 63 → v < 2 ^ 64 → cast_signed w64 v ≡ value_of r.outcome → IsBody (laid s r.job r.epoch (tag_of r.outcome) v) s r
+pub laid_is_body : (s v : ℕ) (r : CheckpointRecord) → s < 2 ^ 64 → r.job < 2 ^ 64 → r.epoch < 2 ^ 63 → v < 2 ^ 64 → cast_signed w64 v ≡ value_of r.outcome → IsSlotBody (laid s r.job r.epoch (tag_of r.outcome) v) s r
 laid_is_body s v r s_fits job_fits epoch_fits v_fits is = record {
   size = refl;
   fields = laid_spells s v r s_fits job_fits epoch_fits v_fits is;

@@ -5,9 +5,9 @@ use Rattle.ids.specs.declared.outcome.Outcome.{Outcome}
 use Rattle.ids.specs.declared.outcome.Outcome.TheVariants.{Value, TooDeep}
 use Rattle.std.proofs.lemmas.Bool.{eq-eqb, ne_eqb}
 use Rattle.checkpoint.specs.Pair.{slot, is_open, IsOpen, body, IsCurrent}
-use Rattle.checkpoint.specs.Format.{Spells, tag_of, value_of}
+use Rattle.checkpoint.specs.Format.{SpellsSlot, tag_of, value_of}
 use Rattle.checkpoint.specs.Found.{Holds, IsOlder, IsNewest}
-use Rattle.checkpoint.specs.declared.record.Record.{Record}
+use Rattle.checkpoint.specs.declared.record.CheckpointRecord.{CheckpointRecord}
 
 same_outcome : (a b : Option Outcome) → tag_of a ≡ tag_of b → value_of a ≡ value_of b → a ≡ b
 same_outcome None None t v = refl
@@ -20,14 +20,14 @@ same_outcome (Some (Value x)) (Some TooDeep) t v = absurd (omega (arith, t))
 same_outcome (Some TooDeep) None t v = absurd (omega (arith, t))
 same_outcome (Some TooDeep) (Some (Value y)) t v = absurd (omega (arith, t))
 
-abbrev made : ℕ → ℕ → Option Outcome → Record
+abbrev made : ℕ → ℕ → Option Outcome → CheckpointRecord
 made j e o = record { job = j; epoch = e; outcome = o }
 
-record_is : (r s : Record) → r.job ≡ s.job → r.epoch ≡ s.epoch → r.outcome ≡ s.outcome → r ≡ s
+record_is : (r s : CheckpointRecord) → r.job ≡ s.job → r.epoch ≡ s.epoch → r.outcome ≡ s.outcome → r ≡ s
 record_is r s j e o =
     ap (λ x. made x r.epoch r.outcome) j ∙ ap (λ x. made s.job x r.outcome) e ∙ ap (λ x. made s.job s.epoch x) o
 
-pub one_spelling : (bytes : List ℕ) (n m : ℕ) (r s : Record) → Spells bytes n r → Spells bytes m s → (n ≡ m) × (r ≡ s)
+pub one_spelling : (bytes : List ℕ) (n m : ℕ) (r s : CheckpointRecord) → SpellsSlot bytes n r → SpellsSlot bytes m s → (n ≡ m) × (r ≡ s)
 one_spelling bytes n m r s a b = (
   sym a.sequence_at ∙ b.sequence_at,
   record_is r s (sym a.job_at ∙ b.job_at) (sym a.epoch_at ∙ b.epoch_at)
@@ -42,7 +42,7 @@ pub closed_gate : (slot : List ℕ) → ¬ IsOpen slot → is_open slot ≡ fals
 closed_gate slot closed = ne_eqb (get_or slot 0 0) 165 closed
 
 module _ (file : List ℕ) (size : length file ≡ 136) where
-  current : (second : Bool) (here there : Option (ℕ × Record)) (gate : Bool) (n : ℕ) (r : Record) → Holds (slot 8 63 second file) here → Holds (slot 8 63 (not second) file) there → here ≡ Some (n, r) → IsOlder there n gate → IsCurrent Spells 8 63 file second n r × (gate ≡ is_open (slot 8 63 (not second) file))
+  current : (second : Bool) (here there : Option (ℕ × CheckpointRecord)) (gate : Bool) (n : ℕ) (r : CheckpointRecord) → Holds (slot 8 63 second file) here → Holds (slot 8 63 (not second) file) there → here ≡ Some (n, r) → IsOlder there n gate → IsCurrent SpellsSlot 8 63 file second n r × (gate ≡ is_open (slot 8 63 (not second) file))
   current second here None gate n r holds closed is older =
       let mine = subst (λ x. Holds (slot 8 63 second file) x) is holds in (
         record { room = omega (arith, size); gate = mine.0; content = mine.1; other = λ opened. absurd (closed opened) },
@@ -54,24 +54,24 @@ module _ (file : List ℕ) (size : length file ≡ 136) where
         older.1 ∙ sym (open_gate (slot 8 63 (not second) file) opened.0),
       )
 
-  pub newest_current : (first last : Option (ℕ × Record)) (second gate : Bool) (n : ℕ) (r : Record) → Holds (slot 8 63 false file) first → Holds (slot 8 63 true file) last → IsNewest first last second n r gate → IsCurrent Spells 8 63 file second n r × (gate ≡ is_open (slot 8 63 (not second) file))
+  pub newest_current : (first last : Option (ℕ × CheckpointRecord)) (second gate : Bool) (n : ℕ) (r : CheckpointRecord) → Holds (slot 8 63 false file) first → Holds (slot 8 63 true file) last → IsNewest first last second n r gate → IsCurrent SpellsSlot 8 63 file second n r × (gate ≡ is_open (slot 8 63 (not second) file))
   newest_current first last false gate n r one two newest = current false first last gate n r one two newest.0 newest.1
   newest_current first last true gate n r one two newest = current true last first gate n r two one newest.0 newest.1
 
-  held : (second : Bool) (here : Option (ℕ × Record)) (n : ℕ) (r : Record) → Holds (slot 8 63 second file) here → IsOpen (slot 8 63 second file) → Spells (body (slot 8 63 second file)) n r → here ≡ Some (n, r)
+  held : (second : Bool) (here : Option (ℕ × CheckpointRecord)) (n : ℕ) (r : CheckpointRecord) → Holds (slot 8 63 second file) here → IsOpen (slot 8 63 second file) → SpellsSlot (body (slot 8 63 second file)) n r → here ≡ Some (n, r)
   held second None n r closed opened says = absurd (closed opened)
   held second (Some x) n r holds opened says =
       let same = one_spelling (body (slot 8 63 second file)) x.0 n x.1 r holds.1 says in
       ap (λ m. Some (m, x.1)) same.0 ∙ ap (λ s. Some (n, s)) same.1
 
-  older : (second : Bool) (there : Option (ℕ × Record)) (n : ℕ) (r : Record) → Holds (slot 8 63 (not second) file) there → IsCurrent Spells 8 63 file second n r → (gate : Bool) × IsOlder there n gate
+  older : (second : Bool) (there : Option (ℕ × CheckpointRecord)) (n : ℕ) (r : CheckpointRecord) → Holds (slot 8 63 (not second) file) there → IsCurrent SpellsSlot 8 63 file second n r → (gate : Bool) × IsOlder there n gate
   older second None n r closed is = (false, refl)
   older second (Some x) n r holds is =
       let other = is.other holds.0 in
       let same = one_spelling (body (slot 8 63 (not second) file)) x.0 other.0 x.1 other.1 holds.1 other.2 in
       (true, (omega (arith, other.3, same.0), refl))
 
-  pub current_newest : (first last : Option (ℕ × Record)) (second : Bool) (n : ℕ) (r : Record) → Holds (slot 8 63 false file) first → Holds (slot 8 63 true file) last → IsCurrent Spells 8 63 file second n r → (gate : Bool) × IsNewest first last second n r gate
+  pub current_newest : (first last : Option (ℕ × CheckpointRecord)) (second : Bool) (n : ℕ) (r : CheckpointRecord) → Holds (slot 8 63 false file) first → Holds (slot 8 63 true file) last → IsCurrent SpellsSlot 8 63 file second n r → (gate : Bool) × IsNewest first last second n r gate
   current_newest first last false n r one two is =
       let behind = older false last n r two is in
       (behind.0, (held false first n r one is.gate is.content, behind.1))
@@ -80,14 +80,14 @@ module _ (file : List ℕ) (size : length file ≡ 136) where
       (behind.0, (held true last n r two is.gate is.content, behind.1))
 
   -- an open slot that says nothing
-  pub refused : (bad second : Bool) (n : ℕ) (r : Record) → IsOpen (slot 8 63 bad file) → ((m : ℕ) (s : Record) → ¬ Spells (body (slot 8 63 bad file)) m s) → IsCurrent Spells 8 63 file second n r → ⊥
+  pub refused : (bad second : Bool) (n : ℕ) (r : CheckpointRecord) → IsOpen (slot 8 63 bad file) → ((m : ℕ) (s : CheckpointRecord) → ¬ SpellsSlot (body (slot 8 63 bad file)) m s) → IsCurrent SpellsSlot 8 63 file second n r → ⊥
   refused false false n r opened nothing is = nothing n r is.content
   refused true true n r opened nothing is = nothing n r is.content
   refused true false n r opened nothing is = let other = is.other opened in nothing other.0 other.1 other.2
   refused false true n r opened nothing is = let other = is.other opened in nothing other.0 other.1 other.2
 
 -- a file has one current record
-pub one_current : (file : List ℕ) (a b : Bool) (n m : ℕ) (r s : Record) → IsCurrent Spells 8 63 file a n r → IsCurrent Spells 8 63 file b m s → (a ≡ b) × (n ≡ m) × (r ≡ s)
+pub one_current : (file : List ℕ) (a b : Bool) (n m : ℕ) (r s : CheckpointRecord) → IsCurrent SpellsSlot 8 63 file a n r → IsCurrent SpellsSlot 8 63 file b m s → (a ≡ b) × (n ≡ m) × (r ≡ s)
 one_current file false false n m r s x y = let same = one_spelling (body (slot 8 63 false file)) n m r s x.content y.content in (refl, same.0, same.1)
 one_current file true true n m r s x y = let same = one_spelling (body (slot 8 63 true file)) n m r s x.content y.content in (refl, same.0, same.1)
 one_current file false true n m r s x y =

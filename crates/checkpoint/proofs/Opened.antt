@@ -5,8 +5,8 @@ use Rattle.disk.specs.declared.cells.Cell.{Cell}
 use Rattle.disk.specs.File.{bytes_of}
 use Rattle.disk.proofs.Crashes.{crash-leaves-bytes_of}
 use Rattle.checkpoint.specs.Format.{IsStore}
-use Rattle.checkpoint.specs.Store.{IsHeld, IsNamed, IsRefused, Keeps, Reads}
-use Rattle.checkpoint.specs.declared.record.Record.{Record}
+use Rattle.checkpoint.specs.Store.{IsHeld, IsNamed, IsRefused, KeepsRecord, ReadsAsStore}
+use Rattle.checkpoint.specs.declared.record.CheckpointRecord.{CheckpointRecord}
 use Rattle.checkpoint.specs.declared.record.StoreError.{StoreError}
 use Rattle.checkpoint.specs.declared.record.StoreError.TheVariants.{Spent, JobMismatch, Damaged, Device, Version}
 use Rattle.checkpoint.proofs.Looked.{one_current}
@@ -14,10 +14,10 @@ use Rattle.checkpoint.proofs.Looked.{one_current}
 whole : (file : List ℕ) → length (take 137 file) ≡ 136 → take 137 file ≡ file
 whole file size = take_all 137 file (omega (arith, size, length-take 137 file))
 
-store_read : (file bytes : List ℕ) (second : Bool) (n : ℕ) (r : Record) → bytes ≡ take 137 file → IsStore bytes second n r → bytes ≡ file
+store_read : (file bytes : List ℕ) (second : Bool) (n : ℕ) (r : CheckpointRecord) → bytes ≡ take 137 file → IsStore bytes second n r → bytes ≡ file
 store_read file bytes second n r is store = is ∙ whole file (sym (ap length is) ∙ store.size)
 
-pub held_read : (file bytes : List ℕ) (second : Bool) (n : ℕ) (r : Record) (gate : Bool) → bytes ≡ take 137 file → IsHeld bytes second n r gate → IsHeld file second n r gate
+pub held_read : (file bytes : List ℕ) (second : Bool) (n : ℕ) (r : CheckpointRecord) (gate : Bool) → bytes ≡ take 137 file → IsHeld bytes second n r gate → IsHeld file second n r gate
 held_read file bytes second n r gate is held =
     subst (λ (l : List ℕ). IsHeld l second n r gate) (store_read file bytes second n r is held.store) held
 
@@ -50,26 +50,26 @@ pub not_by_device : (e : StoreError) (file : List ℕ) (job : ℕ) → IsRefused
 not_by_device e file job says is = subst (λ x. IsRefused x file job) is says
 
 -- what is read is what is kept
-pub one_kept : (f : List Cell) (second : Bool) (n m : ℕ) (r s : Record) → IsStore (bytes_of f) second n r → Keeps f m s → (n ≡ m) × (r ≡ s)
+pub one_kept : (f : List Cell) (second : Bool) (n m : ℕ) (r s : CheckpointRecord) → IsStore (bytes_of f) second n r → KeepsRecord f m s → (n ≡ m) × (r ≡ s)
 one_kept f second n m r s store keeps =
     let same = one_current (bytes_of f) second keeps.second n m r s store.current (keeps.each (bytes_of f) (crash-leaves-bytes_of f)).current in
     (same.1, same.2)
 
-pub kept_read : (f : List Cell) (second : Bool) (n m : ℕ) (r s : Record) → IsStore (bytes_of f) second n r → Keeps f m s → Keeps f n r × (r ≡ s)
+pub kept_read : (f : List Cell) (second : Bool) (n m : ℕ) (r s : CheckpointRecord) → IsStore (bytes_of f) second n r → KeepsRecord f m s → KeepsRecord f n r × (r ≡ s)
 kept_read f second n m r s store keeps =
     let same = one_kept f second n m r s store keeps in
-    (subst (λ x. Keeps f x r) (sym same.0) (subst (λ x. Keeps f m x) (sym same.1) keeps), same.1)
+    (subst (λ x. KeepsRecord f x r) (sym same.0) (subst (λ x. KeepsRecord f m x) (sym same.1) keeps), same.1)
 
 -- two readings of one file
-pub one_reading : (file : List ℕ) (n m : ℕ) (r s : Record) → Reads file n r → Reads file m s → r ≡ s
+pub one_reading : (file : List ℕ) (n m : ℕ) (r s : CheckpointRecord) → ReadsAsStore file n r → ReadsAsStore file m s → r ≡ s
 one_reading file n m r s x y = (one_current file x.0 y.0 n m r s x.1.current y.1.current).2
 
 -- a store of this job is refused by the device alone
-pub device_alone : (e : StoreError) (file : List ℕ) (job n : ℕ) (s : Record) → s.job ≡ job → Reads file n s → (e ≢ Device → IsRefused e file job) → e ≡ Device
+pub device_alone : (e : StoreError) (file : List ℕ) (job n : ℕ) (s : CheckpointRecord) → s.job ≡ job → ReadsAsStore file n s → (e ≢ Device → IsRefused e file job) → e ≡ Device
 device_alone Device file job n s mine reads says = refl
 device_alone Spent file job n s mine reads says = absurd (says (λ (e : Spent ≡ Device). cc))
 device_alone Damaged file job n s mine reads says = absurd ((says (λ (e : Damaged ≡ Device). cc)).1 n s reads)
 device_alone Version file job n s mine reads says = absurd ((says (λ (e : Version ≡ Device). cc)).1 reads.1.version)
 device_alone JobMismatch file job n s mine reads says =
     let other = says (λ (e : JobMismatch ≡ Device). cc) in
-    absurd (other.3 (ap (λ (x : Record). x.job) (one_reading file other.0 n other.1 s other.2 reads) ∙ mine))
+    absurd (other.3 (ap (λ (x : CheckpointRecord). x.job) (one_reading file other.0 n other.1 s other.2 reads) ∙ mine))

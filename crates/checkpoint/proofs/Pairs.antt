@@ -6,7 +6,7 @@ use Rattle.checkpoint.proofs.Passing.{one_byte}
 use Rattle.std.specs.List.{splice}
 use Rattle.std.specs.Prelude.{not}
 use Rattle.disk.specs.Crash.{Torn}
-use Rattle.disk.specs.Laws.{IsKept, IsFree}
+use Rattle.disk.specs.Laws.{IsByteKept, IsFree}
 use Rattle.checkpoint.specs.Pair.{place, slot, IsOpen, body, Spelling, IsCurrent}
 use Rattle.checkpoint.proofs.Passing.{Early, Late}
 use Rattle.checkpoint.proofs.Passing.Early.{stays, closes, writes}
@@ -114,7 +114,7 @@ module _ {R : Type 0} (Spells : Spelling R) (base n : ℕ) (Frame : List ℕ →
   -- a gate that is torn while it is closed
   closed_torn : (file : List ℕ) (left : List ℕ → Type 0) (second : Bool) (sequence : ℕ) (r : R) →
       ((d : List ℕ) → left d → Has Spells base n Frame d second sequence r) →
-      (IsKept file left (place base n (not second)) ⊎ IsFree left (place base n (not second))) →
+      (IsByteKept file left (place base n (not second)) ⊎ IsFree left (place base n (not second))) →
       get_or file (place base n (not second)) 0 ≡ 165 →
       (d c : List ℕ) → left d → Torn (place base n (not second)) 1 d c → Has Spells base n Frame c second sequence r
   closed_torn file left second sequence r all law opened d c was torn =
@@ -145,7 +145,7 @@ module _ {R : Type 0} (Spells : Spelling R) (base n : ℕ) (Frame : List ℕ →
   pub before_it : (file bytes : List ℕ) (left : List ℕ → Type 0) (gate second : Bool) (sequence : ℕ) (r : R) →
       left file →
       ((d : List ℕ) → left d → Has Spells base n Frame d second sequence r) →
-      (IsKept file left (place base n (not second)) ⊎ IsFree left (place base n (not second))) →
+      (IsByteKept file left (place base n (not second)) ⊎ IsFree left (place base n (not second))) →
       (gate ≡ true → IsOpen (slot base n (not second) file)) →
       (gate ≡ false → ¬ IsOpen (slot base n (not second) file)) →
       length bytes ≡ n →

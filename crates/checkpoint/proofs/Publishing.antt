@@ -5,10 +5,10 @@ use Rattle.std.specs.List.{splice}
 use Rattle.disk.specs.declared.cells.Cell.{Cell}
 use Rattle.disk.specs.Crash.{Follows, Torn}
 use Rattle.disk.specs.Device.{Device}
-use Rattle.disk.specs.File.{CrashLeaves, bytes_of, synced, written}
+use Rattle.disk.specs.File.{CrashLeaves, bytes_of, synced, written_file}
 use Rattle.disk.proofs.Crashes.{bytes_of-synced, settled-shrinks, synced-only, synced-shrinks, written-follows}
 use Rattle.disk.proofs.Writes.{bytes_of-written}
-use Rattle.checkpoint.specs.Calls.{Call, Stopped, after}
+use Rattle.checkpoint.specs.Calls.{DeviceCall, Stopped, after}
 use Rattle.checkpoint.specs.Commit.{closing, publishing}
 use Rattle.checkpoint.proofs.Passing.{Early, Late, closed_room, closing_passes, is_published, opening_passes, writing_passes, written_room}
 use Rattle.checkpoint.proofs.Passing.Early.{stays}
@@ -18,19 +18,19 @@ length-bytes_of f = length-map f (λ (x : Cell). x.byte)
 
 module _ (f : List Cell) (at : ℕ) (gate : Bool) (bytes : List ℕ) (room : at + 1 + length bytes ≤ length (bytes_of f)) where
   abbrev begun : List Cell
-  begun = written f at (closing gate)
+  begun = written_file f at (closing gate)
 
   abbrev closed : List Cell
   closed = synced begun
 
   abbrev filling : List Cell
-  filling = written closed (at + 1) bytes
+  filling = written_file closed (at + 1) bytes
 
   abbrev filled : List Cell
   filled = synced filling
 
   abbrev opening : List Cell
-  opening = written filled at (165 ∷ [])
+  opening = written_file filled at (165 ∷ [])
 
   is_closed : bytes_of closed ≡ splice (bytes_of f) at (at + length (closing gate)) (closing gate)
   is_closed = bytes_of-synced begun ∙ bytes_of-written f at (closing gate)
@@ -77,7 +77,7 @@ module _ (f : List Cell) (at : ℕ) (gate : Bool) (bytes : List ℕ) (room : at 
   after_five = at_five (CrashLeaves opening) (written-follows filled at (165 ∷ []) place_filled)
 
 module _ (d : Device) (at : ℕ) (gate : Bool) (bytes : List ℕ) (room : at + 1 + length bytes ≤ length (bytes_of d.file)) where
-  abbrev calls : List Call
+  abbrev calls : List DeviceCall
   calls = publishing at gate bytes
 
   pub early : (k : ℕ) → k ≤ 4 → (c : List ℕ) → CrashLeaves (after d (take k calls)).file c → Early at gate bytes (bytes_of d.file) (CrashLeaves d.file) c

@@ -3,53 +3,53 @@ use Rattle.std.specs.Prelude.{◌≡◌, ◌+◌, ◌<◌, ◌⊎◌, ℕ, suc, 
 use Rattle.disk.specs.declared.cells.Cell.{Cell}
 use Rattle.disk.specs.Crash.{Shrinks, Follows, Torn, Shortened}
 use Rattle.disk.specs.Device.{Device, Failed, passed}
-use Rattle.disk.specs.File.{CrashLeaves, synced, written}
+use Rattle.disk.specs.File.{CrashLeaves, synced, written_file}
 
-pub data Call : Type 0 where
-  Read : ℕ → Call
-  Write : ℕ → List ℕ → Call
-  Cut : ℕ → Call
-  Sync : Call
+pub data DeviceCall : Type 0 where
+  Read : ℕ → DeviceCall
+  Write : ℕ → List ℕ → DeviceCall
+  Cut : ℕ → DeviceCall
+  Sync : DeviceCall
 
 -- what a call that passes makes of a file
-abbrev pub changed : List Cell → Call → List Cell
+abbrev pub changed : List Cell → DeviceCall → List Cell
 changed file (Read most) = file
-changed file (Write at bytes) = written file at bytes
+changed file (Write at bytes) = written_file file at bytes
 changed file (Cut len) = take len file
 changed file Sync = synced file
 
 -- a device after calls that passed
-unfoldable pub after : Device → List Call → Device
+unfoldable pub after : Device → List DeviceCall → Device
 after d [] = d
 after d (call ∷ calls) = after (passed d (changed d.file call)) calls
 
 -- what a crash may leave after a call, whether it passed or failed
-abbrev pub Tears : Call → (List ℕ → Type 0) → (List ℕ → Type 0) → Type 0
+abbrev pub Tears : DeviceCall → (List ℕ → Type 0) → (List ℕ → Type 0) → Type 0
 Tears (Read most) = Shrinks
 Tears (Write at bytes) = Follows (Torn at (length bytes))
 Tears (Cut len) = Follows (Shortened len)
 Tears Sync = Shrinks
 
 -- a call that may lack memory, or goes past the end
-abbrev pub Lacks : Call → List Cell → Type 0
+abbrev pub Lacks : DeviceCall → List Cell → Type 0
 Lacks (Read most) file = (0 < most) × (0 < length file)
 Lacks (Write at bytes) file = length file < at + length bytes
 Lacks (Cut len) file = length file < len
 Lacks Sync file = ⊥
 
 -- a call that failed; on a device that can be cut only where that was planned, or it lacked something
-pub record Fails (call : Call) (plan : Option (List ℕ)) (old new : Device) : Type 0 where
+pub record Fails (call : DeviceCall) (plan : Option (List ℕ)) (old new : Device) : Type 0 where
   pub failed : Failed old new plan
   pub torn : Tears call (CrashLeaves old.file) (CrashLeaves new.file)
   pub cause : IsTrue old.can_cut → IsSome plan ⊎ Lacks call old.file
 
 -- all of these calls passed, and none was planned to fail
-pub record Passed (calls : List Call) (plan : ℕ → Option (List ℕ)) (old new : Device) : Type 0 where
+pub record Passed (calls : List DeviceCall) (plan : ℕ → Option (List ℕ)) (old new : Device) : Type 0 where
   pub made : new ≡ after old calls
   pub unplanned : (i : ℕ) → i < length calls → plan i ≡ None
 
 -- one of these calls failed, and those before it passed
-unfoldable pub Stopped : List Call → (ℕ → Option (List ℕ)) → Device → Device → Type 0
+unfoldable pub Stopped : List DeviceCall → (ℕ → Option (List ℕ)) → Device → Device → Type 0
 Stopped [] plan old new = ⊥
 Stopped (call ∷ calls) plan old new =
     Fails call (plan 0) old new ⊎ ((plan 0 ≡ None) × Stopped calls (λ i. plan (suc i)) (passed old (changed old.file call)) new)

@@ -5,7 +5,7 @@ use Rattle.byteorder.specs.Endian.{big_from}
 use Rattle.ids.specs.declared.outcome.Outcome.{Outcome}
 use Rattle.ids.specs.declared.outcome.Outcome.TheVariants.{Value, TooDeep}
 use Rattle.checkpoint.specs.Pair.{IsCurrent}
-use Rattle.checkpoint.specs.declared.record.Record.{Record}
+use Rattle.checkpoint.specs.declared.record.CheckpointRecord.{CheckpointRecord}
 
 -- an outcome's tag
 abbrev pub tag_of : Option Outcome → ℕ
@@ -20,7 +20,7 @@ value_of (Some (Value v)) = v
 value_of (Some TooDeep) = pos 0
 
 -- the fields of a slot, each at its place behind the gate, numbers with their highest byte first
-pub record Spells (body : List ℕ) (sequence : ℕ) (r : Record) : Type 0 where
+pub record SpellsSlot (body : List ℕ) (sequence : ℕ) (r : CheckpointRecord) : Type 0 where
   pub sequence_at : big_from 0 8 body ≡ sequence
   pub length_at : big_from 8 2 body ≡ 25
   pub job_at : big_from 10 8 body ≡ r.job
@@ -30,9 +30,9 @@ pub record Spells (body : List ℕ) (sequence : ℕ) (r : Record) : Type 0 where
   pub value_at : cast_signed w64 (big_from 27 8 body) ≡ value_of r.outcome
 
 -- what is written behind a gate: the fields, and zeros that no reader looks at
-pub record IsBody (bytes : List ℕ) (sequence : ℕ) (r : Record) : Type 0 where
+pub record IsSlotBody (bytes : List ℕ) (sequence : ℕ) (r : CheckpointRecord) : Type 0 where
   pub size : length bytes ≡ 63
-  pub fields : Spells bytes sequence r
+  pub fields : SpellsSlot bytes sequence r
   pub zeros : drop 35 bytes ≡ replicate 28 0
 
 -- CNOWCKP
@@ -40,14 +40,14 @@ abbrev pub name : List ℕ
 name = 67 ∷ 78 ∷ 79 ∷ 87 ∷ 67 ∷ 75 ∷ 80 ∷ []
 
 -- the file is a store, with this record, of this sequence, in the first or the second slot
-pub record IsStore (file : List ℕ) (second : Bool) (sequence : ℕ) (r : Record) : Type 0 where
+pub record IsStore (file : List ℕ) (second : Bool) (sequence : ℕ) (r : CheckpointRecord) : Type 0 where
   pub size : length file ≡ 136
   pub named : take 7 file ≡ name
   pub version : get_or file 7 0 ≡ 1
-  pub current : IsCurrent Spells 8 63 file second sequence r
+  pub current : IsCurrent SpellsSlot 8 63 file second sequence r
 
 -- the record of a job that has just begun
-abbrev pub fresh : ℕ → Record
+abbrev pub fresh : ℕ → CheckpointRecord
 fresh job = record { job = job; epoch = 0; outcome = None }
 
 -- the file of such a job: behind the fields of the first slot all is zero

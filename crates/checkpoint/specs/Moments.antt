@@ -3,28 +3,28 @@ use Rattle.std.specs.Prelude.{◌+◌, ◌≤◌, ◌⊎◌, ℕ, IsTrue, List, 
 use Rattle.disk.specs.declared.cells.Cell.{Cell}
 use Rattle.disk.specs.Device.{Device}
 use Rattle.disk.specs.File.{CrashLeaves, bytes_of}
-use Rattle.checkpoint.specs.Calls.{Call, Stopped, after}
+use Rattle.checkpoint.specs.Calls.{DeviceCall, Stopped, after}
 use Rattle.checkpoint.specs.Commit.{IsCommit}
-use Rattle.checkpoint.specs.Store.{Keeps, Reads}
-use Rattle.checkpoint.specs.declared.record.Record.{Record}
+use Rattle.checkpoint.specs.Store.{KeepsRecord, ReadsAsStore}
+use Rattle.checkpoint.specs.declared.record.CheckpointRecord.{CheckpointRecord}
 
 -- whatever a crash leaves is a store of the record before or of the next one
-abbrev pub KeepsEither : List Cell → ℕ → Record → Record → Type 0
-KeepsEither file sequence before next = (c : List ℕ) → CrashLeaves file c → Reads c sequence before ⊎ Reads c (sequence + 1) next
+abbrev pub KeepsEither : List Cell → ℕ → CheckpointRecord → CheckpointRecord → Type 0
+KeepsEither file sequence before next = (c : List ℕ) → CrashLeaves file c → ReadsAsStore c sequence before ⊎ ReadsAsStore c (sequence + 1) next
 
 -- the calls of a commit on a device that keeps the record before
-pub record Moments (d : Device) (sequence : ℕ) (before next : Record) (calls : List Call) : Type 0 where
+pub record Moments (d : Device) (sequence : ℕ) (before next : CheckpointRecord) (calls : List DeviceCall) : Type 0 where
   -- while at most four calls passed, it keeps that record
-  pub early : (k : ℕ) → k ≤ 4 → Keeps (after d (take k calls)).file sequence before
-  pub early_stop : (plan : ℕ → Option (List ℕ)) (new : Device) → Stopped (take 4 calls) plan d new → Keeps new.file sequence before
+  pub early : (k : ℕ) → k ≤ 4 → KeepsRecord (after d (take k calls)).file sequence before
+  pub early_stop : (plan : ℕ → Option (List ℕ)) (new : Device) → Stopped (take 4 calls) plan d new → KeepsRecord new.file sequence before
   -- a device that can be cut doesn't carry out a call that fails, so there it is the same with the fifth
-  pub fifth_stop : IsTrue d.can_cut → (plan : ℕ → Option (List ℕ)) (new : Device) → Stopped (take 5 calls) plan d new → Keeps new.file sequence before
+  pub fifth_stop : IsTrue d.can_cut → (plan : ℕ → Option (List ℕ)) (new : Device) → Stopped (take 5 calls) plan d new → KeepsRecord new.file sequence before
   -- after the fifth, or where any of them failed, it keeps that one or the next
   pub fifth : KeepsEither (after d (take 5 calls)).file sequence before next
   pub stop : (plan : ℕ → Option (List ℕ)) (new : Device) → Stopped calls plan d new → KeepsEither new.file sequence before next
   -- after the sixth it keeps the next
-  pub done : Keeps (after d calls).file (sequence + 1) next
+  pub done : KeepsRecord (after d calls).file (sequence + 1) next
 
 -- so it is with each commit
 abbrev pub BeforeOrAfter : Type 0
-BeforeOrAfter = (d : Device) (sequence : ℕ) (before next : Record) (calls : List Call) → Keeps d.file sequence before → IsCommit (bytes_of d.file) sequence before next calls → Moments d sequence before next calls
+BeforeOrAfter = (d : Device) (sequence : ℕ) (before next : CheckpointRecord) (calls : List DeviceCall) → KeepsRecord d.file sequence before → IsCommit (bytes_of d.file) sequence before next calls → Moments d sequence before next calls

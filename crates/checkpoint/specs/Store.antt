@@ -4,23 +4,23 @@ use Rattle.disk.specs.declared.cells.Cell.{Cell}
 use Rattle.disk.specs.File.{CrashLeaves}
 use Rattle.checkpoint.specs.Format.{IsStore, name}
 use Rattle.checkpoint.specs.Pair.{is_open, slot}
-use Rattle.checkpoint.specs.declared.record.Record.{Record}
+use Rattle.checkpoint.specs.declared.record.CheckpointRecord.{CheckpointRecord}
 use Rattle.checkpoint.specs.declared.record.StoreError.{StoreError}
 use Rattle.checkpoint.specs.declared.record.StoreError.TheVariants.{Spent, JobMismatch, Damaged, Device, Version}
 
 -- the disk, the current record and its sequence, and whether a call of the device failed
 pub record Opened (D : Type 0) : Type 0 where
   pub disk : D
-  pub «record» : Record
+  pub «record» : CheckpointRecord
   pub sequence : ℕ
   pub ended : Bool
 
 -- a read gives a store with this current record
-abbrev pub Reads : List ℕ → ℕ → Record → Type 0
-Reads file sequence r = (second : Bool) × IsStore file second sequence r
+abbrev pub ReadsAsStore : List ℕ → ℕ → CheckpointRecord → Type 0
+ReadsAsStore file sequence r = (second : Bool) × IsStore file second sequence r
 
 -- whatever a crash leaves is a store with this current record, in one slot
-pub record Keeps (file : List Cell) (sequence : ℕ) (r : Record) : Type 0 where
+pub record KeepsRecord (file : List Cell) (sequence : ℕ) (r : CheckpointRecord) : Type 0 where
   pub second : Bool
   pub each : (c : List ℕ) → CrashLeaves file c → IsStore c second sequence r
 
@@ -39,12 +39,12 @@ IsOther file = IsNamed file × (get_or file 7 0 ≢ 1)
 -- why a file that was read isn't opened for a job
 abbrev pub IsRefused : StoreError → List ℕ → ℕ → Type 0
 IsRefused Version file job = IsOther file
-IsRefused Damaged file job = ¬ IsOther file × ((n : ℕ) (r : Record) → ¬ Reads file n r)
-IsRefused JobMismatch file job = (n : ℕ) × (r : Record) × Reads file n r × (r.job ≢ job)
+IsRefused Damaged file job = ¬ IsOther file × ((n : ℕ) (r : CheckpointRecord) → ¬ ReadsAsStore file n r)
+IsRefused JobMismatch file job = (n : ℕ) × (r : CheckpointRecord) × ReadsAsStore file n r × (r.job ≢ job)
 IsRefused Spent file job = ⊥
 IsRefused Device file job = ⊥
 
 -- what a store holds of a file that reads so: in which slot the record stands, and whether the other gate reads as open
-pub record IsHeld (file : List ℕ) (second : Bool) (sequence : ℕ) (r : Record) (gate : Bool) : Type 0 where
+pub record IsHeld (file : List ℕ) (second : Bool) (sequence : ℕ) (r : CheckpointRecord) (gate : Bool) : Type 0 where
   pub store : IsStore file second sequence r
   pub other : gate ≡ is_open (slot 8 63 (not second) file)

@@ -7,7 +7,7 @@ ghost use Rattle.checkpoint.specs.Format.{IsFormatted};
 
 use crate::body::spell;
 use crate::look::{NAME, OPEN, SIZE, VERSION};
-use crate::{LastEpoch, Record, StoreError};
+use crate::{CheckpointRecord, LastEpoch, StoreError};
 use disk::Disk;
 
 fn put_bytes(file: &mut [u8], at: usize, bytes: &[u8])
@@ -21,7 +21,7 @@ fn put_bytes(file: &mut [u8], at: usize, bytes: &[u8])
 fn blank(job: u64) -> [u8; SIZE]
     ensures { IsFormatted result job }
 {
-    let begun = Record {
+    let begun = CheckpointRecord {
         job,
         epoch: LastEpoch::none(),
         outcome: None,

@@ -2,11 +2,11 @@
 ghost use Rattle.std.specs.Prelude.{◌≡◌, ◌+◌, ◌≤◌, ◌<◌, ◌^◌, ℕ, ℤ, Option, Some, None, IfSome, IfNone, length};
 ghost use Rattle.std.specs.List.{splice};
 ghost use Rattle.byteorder.specs.Endian.{big_bytes, big_from};
-ghost use Rattle.checkpoint.specs.Format.{IsBody, Spells, tag_of, value_of};
-ghost use Rattle.checkpoint.specs.declared.record.Record.{Record as StoredRecord};
+ghost use Rattle.checkpoint.specs.Format.{IsSlotBody, SpellsSlot, tag_of, value_of};
+ghost use Rattle.checkpoint.specs.declared.record.CheckpointRecord.{CheckpointRecord as StoredRecord};
 ghost use Rattle.ids.specs.declared.outcome.Outcome.{Outcome as StoredOutcome};
 
-use crate::{LastEpoch, Record};
+use crate::{CheckpointRecord, LastEpoch};
 use byteorder::{BigEndian, ByteOrder};
 use ids::Outcome;
 
@@ -50,8 +50,8 @@ fn value(outcome: &Option<Outcome>) -> i64
 }
 
 /// The body that says this. Behind its fields stand zeros.
-pub fn spell(sequence: u64, kept: &Record) -> [u8; BODY]
-    ensures { IsBody result sequence kept.now }
+pub fn spell(sequence: u64, kept: &CheckpointRecord) -> [u8; BODY]
+    ensures { IsSlotBody result sequence kept.now }
 {
     let job = kept.job;
     let epoch = kept.epoch.number();
@@ -92,10 +92,10 @@ fn outcome_of(tag: u8, value: i64) -> Option<Option<Outcome>>
 }
 
 /// What a body says, unless a field is outside its range.
-pub fn read(body: &[u8]) -> Option<(u64, Record)>
+pub fn read(body: &[u8]) -> Option<(u64, CheckpointRecord)>
     requires { length body.now ≡ 63 }
-    ensures some { IfSome result (λ x. Spells body.now x.0 x.1) }
-    ensures none { IfNone result ((n : ℕ) (r : StoredRecord) → Spells body.now n r → ⊥) }
+    ensures some { IfSome result (λ x. SpellsSlot body.now x.0 x.1) }
+    ensures none { IfNone result ((n : ℕ) (r : StoredRecord) → SpellsSlot body.now n r → ⊥) }
 {
     let sequence = u64_at(body, 0);
     let job = u64_at(body, 10);
@@ -111,7 +111,7 @@ pub fn read(body: &[u8]) -> Option<(u64, Record)>
     match outcome_of(body[26], value) {
         Some(outcome) => Some((
             sequence,
-            Record {
+            CheckpointRecord {
                 job,
                 epoch,
                 outcome,

@@ -3,11 +3,11 @@ ghost use Rattle.disk.specs.File.{bytes_of};
 ghost use Rattle.checkpoint.specs.Calls.{Passed, Stopped};
 ghost use Rattle.checkpoint.specs.Commit.{opening};
 ghost use Rattle.checkpoint.specs.Info.{info_of};
-ghost use Rattle.checkpoint.specs.Store.{IsRefused, Reads};
-ghost use Rattle.checkpoint.specs.declared.record.Record.{Record as StoredRecord};
+ghost use Rattle.checkpoint.specs.Store.{IsRefused, ReadsAsStore};
+ghost use Rattle.checkpoint.specs.declared.record.CheckpointRecord.{CheckpointRecord as StoredRecord};
 
 use crate::look::{SIZE, look};
-use crate::{Record, StoreError};
+use crate::{CheckpointRecord, StoreError};
 use disk::Disk;
 use ids::Outcome;
 use std::alloc::Global;
@@ -24,7 +24,7 @@ pub struct Info {
 /// What a store keeps, whatever its job is, by one read; nothing is written. Refused in this order: E72; E71 for a file that doesn't begin
 /// as a store; E73 for another version; E71 for one that is no store.
 pub fn inspect<D: Disk>(alloc: Global, disk: &mut D) -> Result<Info, StoreError>
-    ensures found { IfOk result (λ i. (n : ℕ) × (r : StoredRecord) × Reads (bytes_of (D.device disk.old).file) n r × (i ≡ info_of r)) }
+    ensures found { IfOk result (λ i. (n : ℕ) × (r : StoredRecord) × ReadsAsStore (bytes_of (D.device disk.old).file) n r × (i ≡ info_of r)) }
     ensures calls { OnOk result (Passed opening (D.planned disk.old) (D.device disk.old) (D.device disk.new)) }
     ensures refused { IfErr result (λ e. e ≢ StoreError.Device → ((job : ℕ) → IsRefused e (bytes_of (D.device disk.old).file) job) × Passed opening (D.planned disk.old) (D.device disk.old) (D.device disk.new)) }
     ensures stopped { IsErrOf result StoreError.Device → Stopped opening (D.planned disk.old) (D.device disk.old) (D.device disk.new) }
@@ -40,10 +40,10 @@ pub fn inspect<D: Disk>(alloc: Global, disk: &mut D) -> Result<Info, StoreError>
 }
 
 // What is told of a record.
-fn told(kept: Record) -> Info
+fn told(kept: CheckpointRecord) -> Info
     ensures { result ≡ info_of kept }
 {
-    let Record {
+    let CheckpointRecord {
         job,
         epoch,
         outcome,

@@ -17,6 +17,6 @@ mod store;
 pub use blank::format;
 pub use info::{Info, inspect};
 pub use laws::a_commit_at_any_moment;
-pub use record::{LastEpoch, Record, StoreError};
+pub use record::{CheckpointRecord, LastEpoch, StoreError};
 pub use reopen::commit_and_reopen;
 pub use store::Store;

@@ -1,13 +1,13 @@
 //! What is found in the bytes of a file.
 ghost use Rattle.std.specs.Prelude.{◌≡◌, ◌<◌, ◌↔◌, ℕ, Bool, IsTrue, IfOk, IfErr, IfSome, IfNone, length};
-ghost use Rattle.checkpoint.specs.Format.{Spells};
+ghost use Rattle.checkpoint.specs.Format.{SpellsSlot};
 ghost use Rattle.checkpoint.specs.Found.{Holds, IsNewest};
 ghost use Rattle.checkpoint.specs.Pair.{IsOpen, body};
 ghost use Rattle.checkpoint.specs.Store.{IsHeld, IsNamed, IsRefused};
-ghost use Rattle.checkpoint.specs.declared.record.Record.{Record as StoredRecord};
+ghost use Rattle.checkpoint.specs.declared.record.CheckpointRecord.{CheckpointRecord as StoredRecord};
 
 use crate::body::read;
-use crate::{Record, StoreError};
+use crate::{CheckpointRecord, StoreError};
 
 /// The bytes of a store.
 pub const SIZE: usize = 136;
@@ -22,10 +22,10 @@ pub const VERSION: u8 = 1;
 pub const OPEN: u8 = 0xA5;
 
 // What a slot holds: nothing where its gate is closed.
-fn slot(bytes: &[u8]) -> Result<Option<(u64, Record)>, StoreError>
+fn slot(bytes: &[u8]) -> Result<Option<(u64, CheckpointRecord)>, StoreError>
     requires { length bytes.now ≡ 64 }
     ensures ok { IfOk result (λ found. Holds bytes.now found) }
-    ensures err { IfErr result (λ e. (e ≡ StoreError.Damaged) × IsOpen bytes.now × ((n : ℕ) (r : StoredRecord) → ¬ Spells (body bytes.now) n r)) }
+    ensures err { IfErr result (λ e. (e ≡ StoreError.Damaged) × IsOpen bytes.now × ((n : ℕ) (r : StoredRecord) → ¬ SpellsSlot (body bytes.now) n r)) }
 {
     if bytes[0] != OPEN {
         return Ok(None);
@@ -40,13 +40,16 @@ fn slot(bytes: &[u8]) -> Result<Option<(u64, Record)>, StoreError>
 #[derive(Clone, Copy)]
 pub struct Found {
     pub sequence: u64,
-    pub record: Record,
+    pub record: CheckpointRecord,
     pub second: bool,
     pub gate: bool,
 }
 
 // The one of the greater sequence.
-fn newest(first: Option<(u64, Record)>, second: Option<(u64, Record)>) -> Option<Found>
+fn newest(
+    first: Option<(u64, CheckpointRecord)>,
+    second: Option<(u64, CheckpointRecord)>,
+) -> Option<Found>
     ensures some { IfSome result (λ f. IsNewest first second f.second f.sequence f.record f.gate) }
     ensures none { IfNone result ((place gate : Bool) (n : ℕ) (r : StoredRecord) → ¬ IsNewest first second place n r gate) }
 {

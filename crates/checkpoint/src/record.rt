@@ -69,7 +69,7 @@ impl LastEpoch {
 
 /// What a checkpoint keeps: the number of the job, the last epoch, and the outcome once there is one.
 #[derive(Clone, Copy, Debug, PartialEq, Eq)]
-pub struct Record {
+pub struct CheckpointRecord {
     pub job: u64,
     pub epoch: LastEpoch,
     pub outcome: Option<Outcome>,

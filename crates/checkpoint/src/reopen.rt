@@ -3,7 +3,7 @@ ghost use Rattle.disk.specs.Crash.{Only};
 ghost use Rattle.disk.specs.Device.{Unarmed};
 ghost use Rattle.disk.specs.File.{CrashLeaves, bytes_of};
 ghost use Rattle.checkpoint.specs.Commit.{next_of};
-ghost use Rattle.checkpoint.specs.Store.{Keeps};
+ghost use Rattle.checkpoint.specs.Store.{KeepsRecord};
 
 use crate::{LastEpoch, Store, StoreError};
 use disk::Disk;
@@ -19,16 +19,16 @@ pub fn commit_and_reopen<D: Disk>(
     epoch: LastEpoch,
     outcome: Option<Outcome>,
 ) -> (Result<(), StoreError>, Result<Store<D>, (StoreError, D)>)
-    ensures found { Keeps (D.device store.disk).file store.sequence store.record →
+    ensures found { KeepsRecord (D.device store.disk).file store.sequence store.record →
         IfOk result.1 (λ s. (s.record ≡ store.record) ⊎ (s.record ≡ next_of store.record epoch outcome)) }
-    ensures committed { Keeps (D.device store.disk).file store.sequence store.record → IsOk result.0 →
+    ensures committed { KeepsRecord (D.device store.disk).file store.sequence store.record → IsOk result.0 →
         IfOk result.1 (λ s. s.record ≡ next_of store.record epoch outcome) }
-    ensures kept { Keeps (D.device store.disk).file store.sequence store.record → IsTrue (D.device store.disk).can_cut →
-        IfOk result.1 (λ s. Keeps (D.device s.disk).file s.sequence s.record) }
+    ensures kept { KeepsRecord (D.device store.disk).file store.sequence store.record → IsTrue (D.device store.disk).can_cut →
+        IfOk result.1 (λ s. KeepsRecord (D.device s.disk).file s.sequence s.record) }
     ensures crashed { IsTrue (D.device store.disk).can_cut →
         IfOk result.1 (λ s. ((D.device s.disk).arming ≡ Unarmed) × Only (bytes_of (D.device s.disk).file) (CrashLeaves (D.device s.disk).file)) }
     ensures crashed_back { IsTrue (D.device store.disk).can_cut → IfErr result.1 (λ e. (D.device e.1).arming ≡ Unarmed) }
-    ensures refused { Keeps (D.device store.disk).file store.sequence store.record → IfErr result.1 (λ e. e.0 ≡ StoreError.Device) }
+    ensures refused { KeepsRecord (D.device store.disk).file store.sequence store.record → IfErr result.1 (λ e. e.0 ≡ StoreError.Device) }
 {
     let mut store = store;
     let job = store.record().job;

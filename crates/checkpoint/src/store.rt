@@ -1,16 +1,16 @@
 ghost use Rattle.std.specs.Prelude.{◌≡◌, ◌≢◌, ◌⊎◌, ◌↔◌, ◌+◌, true, false, if◌then◌else◌, List, ℕ, length, IsTrue, IsErrOf, OnOk, OnErr, IfOk, IfErr};
 ghost use Rattle.disk.specs.Device.{armed};
 ghost use Rattle.disk.specs.File.{bytes_of};
-ghost use Rattle.checkpoint.specs.Calls.{Call, Passed, Stopped};
+ghost use Rattle.checkpoint.specs.Calls.{DeviceCall, Passed, Stopped};
 ghost use Rattle.checkpoint.specs.Commit.{IsCommit, next_of, opening};
 ghost use Rattle.checkpoint.specs.Moments.{KeepsEither};
-ghost use Rattle.checkpoint.specs.Store.{IsRefused, IsSpent, Keeps, Reads};
-ghost use Rattle.checkpoint.specs.declared.record.Record.{Record as StoredRecord};
+ghost use Rattle.checkpoint.specs.Store.{IsRefused, IsSpent, KeepsRecord, ReadsAsStore};
+ghost use Rattle.checkpoint.specs.declared.record.CheckpointRecord.{CheckpointRecord as StoredRecord};
 
 use crate::body::spell;
 use crate::look::{SIZE, look};
 use crate::publish::publish;
-use crate::{LastEpoch, Record, StoreError};
+use crate::{CheckpointRecord, LastEpoch, StoreError};
 use disk::Disk;
 use ids::Outcome;
 use std::alloc::Global;
@@ -21,7 +21,7 @@ use std::marker::Model;
 #[derive(Drop)]
 pub struct Store<D: Disk> {
     disk: D,
-    current: Record,
+    current: CheckpointRecord,
     sequence: u64,
     // Whether the record stands in the second slot.
     second: bool,
@@ -53,15 +53,15 @@ impl<D: Disk> Store<D> {
     /// Opens the store of a job, by one read. Refused, it gives the disk back, in this order: E72; E71 for a file that doesn't
     /// begin as a store; E73 for another version; E71 for one that is no store; E70 for another job.
     pub fn open(alloc: Global, disk: D, job: u64) -> Result<Store<D>, (StoreError, D)>
-        ensures opened { IfOk result (λ s. (s.ended ≡ false) × Reads (bytes_of (D.device s.disk).file) s.sequence s.record × (s.record.job ≡ job)) }
+        ensures opened { IfOk result (λ s. (s.ended ≡ false) × ReadsAsStore (bytes_of (D.device s.disk).file) s.sequence s.record × (s.record.job ≡ job)) }
         ensures calls { IfOk result (λ s. Passed opening (D.planned disk) (D.device disk) (D.device s.disk)) }
         ensures plan { IfOk result (λ s. (i : ℕ) → D.planned s.disk i ≡ D.planned disk (i + length opening)) }
 
         // Where whatever a crash leaves has one current record, that is the store's, and it stays so.
-        ensures kept { IfOk result (λ s. (n : ℕ) (r : StoredRecord) → Keeps (D.device disk).file n r → Keeps (D.device s.disk).file s.sequence s.record × (s.record ≡ r)) }
-        ensures kept_back { IfErr result (λ e. (n : ℕ) (r : StoredRecord) → Keeps (D.device disk).file n r → Keeps (D.device e.1).file n r) }
+        ensures kept { IfOk result (λ s. (n : ℕ) (r : StoredRecord) → KeepsRecord (D.device disk).file n r → KeepsRecord (D.device s.disk).file s.sequence s.record × (s.record ≡ r)) }
+        ensures kept_back { IfErr result (λ e. (n : ℕ) (r : StoredRecord) → KeepsRecord (D.device disk).file n r → KeepsRecord (D.device e.1).file n r) }
         ensures plan_back { IfErr result (λ e. (i : ℕ) → D.planned e.1 i ≡ D.planned disk (i + length opening)) }
-        ensures alone { IfErr result (λ e. (n : ℕ) (r : StoredRecord) → Reads (bytes_of (D.device disk).file) n r → r.job ≡ job → e.0 ≡ StoreError.Device) }
+        ensures alone { IfErr result (λ e. (n : ℕ) (r : StoredRecord) → ReadsAsStore (bytes_of (D.device disk).file) n r → r.job ≡ job → e.0 ≡ StoreError.Device) }
         ensures refused { IfErr result (λ e. e.0 ≢ StoreError.Device → IsRefused e.0 (bytes_of (D.device disk).file) job × Passed opening (D.planned disk) (D.device disk) (D.device e.1)) }
         ensures stopped { IfErr result (λ e. e.0 ≡ StoreError.Device → Stopped opening (D.planned disk) (D.device disk) (D.device e.1)) }
     {
@@ -88,7 +88,7 @@ impl<D: Disk> Store<D> {
     /// has ended; E62 where the sequence is spent.
     pub fn commit(&mut self, epoch: LastEpoch, outcome: Option<Outcome>) -> Result<(), StoreError>
         ensures ok { OnOk result (let next = next_of self.old.record epoch outcome in self.new ≡ record { disk = self.new.disk; «record» = next; sequence = self.old.sequence + 1; ended = false }) }
-        ensures calls { OnOk result (let next = next_of self.old.record epoch outcome in (calls : List Call)
+        ensures calls { OnOk result (let next = next_of self.old.record epoch outcome in (calls : List DeviceCall)
             × IsCommit (bytes_of (D.device self.old.disk).file) self.old.sequence self.old.record next calls
             × Passed calls (D.planned self.old.disk) (D.device self.old.disk) (D.device self.new.disk)) }
         ensures plan { OnOk result ((i : ℕ) → D.planned self.new.disk i ≡ D.planned self.old.disk (i + 6)) }
@@ -98,13 +98,13 @@ impl<D: Disk> Store<D> {
         ensures ended { self.old.ended ≡ true → IsErrOf result StoreError.Device × (self.new ≡ self.old) }
         ensures ends { IsErrOf result StoreError.Device → self.new ≡ record self.old { disk = self.new.disk; ended = true } }
         ensures can_cut { (D.device self.new.disk).can_cut ≡ (D.device self.old.disk).can_cut }
-        ensures stopped { IsErrOf result StoreError.Device → self.old.ended ≡ false → (let next = next_of self.old.record epoch outcome in (calls : List Call)
+        ensures stopped { IsErrOf result StoreError.Device → self.old.ended ≡ false → (let next = next_of self.old.record epoch outcome in (calls : List DeviceCall)
             × IsCommit (bytes_of (D.device self.old.disk).file) self.old.sequence self.old.record next calls
             × Stopped calls (D.planned self.old.disk) (D.device self.old.disk) (D.device self.new.disk)) }
 
         // Where whatever a crash leaves has the current record: then it has the new one, or at any moment that one or the new one.
-        ensures kept { Keeps (D.device self.old.disk).file self.old.sequence self.old.record → OnOk result (Keeps (D.device self.new.disk).file self.new.sequence self.new.record) }
-        ensures either { Keeps (D.device self.old.disk).file self.old.sequence self.old.record
+        ensures kept { KeepsRecord (D.device self.old.disk).file self.old.sequence self.old.record → OnOk result (KeepsRecord (D.device self.new.disk).file self.new.sequence self.new.record) }
+        ensures either { KeepsRecord (D.device self.old.disk).file self.old.sequence self.old.record
             → KeepsEither (D.device self.new.disk).file self.old.sequence self.old.record (next_of self.old.record epoch outcome) }
     {
         if self.ended {
@@ -113,7 +113,7 @@ impl<D: Disk> Store<D> {
         if self.sequence == u64::MAX {
             return Err(StoreError::Spent);
         }
-        let next = Record {
+        let next = CheckpointRecord {
             job: self.current.job,
             epoch,
             outcome,
@@ -135,9 +135,9 @@ impl<D: Disk> Store<D> {
     }
 
     /// The current record. Up to the end of the store it is what a read gives.
-    pub fn record(&self) -> Record
+    pub fn record(&self) -> CheckpointRecord
         ensures same { result ≡ self.now.record }
-        ensures reads { self.now.ended ≡ false → Reads (bytes_of (D.device self.now.disk).file) self.now.sequence self.now.record }
+        ensures reads { self.now.ended ≡ false → ReadsAsStore (bytes_of (D.device self.now.disk).file) self.now.sequence self.now.record }
     {
         self.current
     }

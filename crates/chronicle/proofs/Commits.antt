@@ -7,15 +7,15 @@ use Rattle.event_script.specs.declared.event.Event.{Event}
 use Rattle.world_steps.specs.declared.parts.NoMemory.{NoMemory}
 use Rattle.chronicle.specs.declared.kept.Committed.{Committed}
 use Rattle.chronicle.specs.declared.kept.Entry.{Entry}
-use Rattle.chronicle.specs.History.{actor_of, entry, number_of}
+use Rattle.chronicle.specs.History.{actor_of, entry, actor_number}
 
-pub grows : (r : Result Committed NoMemory) (event : Event) (a : ℕ) (before after : List Entry) (taken : Option (List Entry)) → taken ≡ Some before → number_of event ≡ a
+pub grows : (r : Result Committed NoMemory) (event : Event) (a : ℕ) (before after : List Entry) (taken : Option (List Entry)) → taken ≡ Some before → actor_number event ≡ a
     → IfOk r (λ c. after ≡ before ++ entry event c.told ∷ []) → OnErr r (after ≡ before)
     → (log : List Entry) × (more : List Entry) × (taken ≡ Some log) × (after ≡ log ++ more) × AreOf actor_of a more
 grows (Ok c) event a before after taken is mine ok err = (before, entry event c.told ∷ [], is, ok, All-cons (λ e. actor_of e ≡ a) (entry event c.told) [] mine (All-nil (λ e. actor_of e ≡ a)))
 grows (Err e) event a before after taken is mine ok err = (before, [], is, err ∙ sym (append-nil before), All-nil (λ e. actor_of e ≡ a))
 
-pub gains : (r : Result Committed NoMemory) (event : Event) (a : ℕ) (before after mine got : List Entry) → number_of event ≡ a → IfOk r (λ c. after ≡ before ++ entry event c.told ∷ [])
+pub gains : (r : Result Committed NoMemory) (event : Event) (a : ℕ) (before after mine got : List Entry) → actor_number event ≡ a → IfOk r (λ c. after ≡ before ++ entry event c.told ∷ [])
     → own actor_of a before ≡ mine → got ≡ own actor_of a after → IfOk r (λ c. got ≡ mine ++ entry event c.told ∷ [])
 gains (Ok c) event a before after mine got is grown was now =
     let one : own actor_of a (entry event c.told ∷ []) ≡ entry event c.told ∷ [] = own_mine actor_of a (entry event c.told ∷ []) (All-cons (λ e. actor_of e ≡ a) (entry event c.told) [] is (All-nil (λ e. actor_of e ≡ a))) in

@@ -24,15 +24,15 @@ use Rattle.codec.proofs.datagram.Datagram.TheSendSync as datagram
 use Rattle.std.specs.contracts.option.Option as Option
 use Rattle.disk.specs.contracts.memory.MemDisk as MemDisk
 use Rattle.disk.proofs.memory.MemDisk.TheSendSync as disk
-use Rattle.ids.proofs.store.Store.TheSendSync as words
-use Rattle.ids.specs.contracts.store.Store as Store
+use Rattle.ids.proofs.sorted_map.SortedMap.TheSendSync as words
+use Rattle.ids.specs.contracts.sorted_map.SortedMap as SortedMap
 use Rattle.node_core.specs.contracts.parts.Fill as Fill
 use Rattle.node_core.proofs.parts.Fill.TheSendSync as fill
 use Rattle.world_steps.specs.contracts.kept.Kept as Kept
 use Rattle.world_steps.proofs.counts.RunCounts.TheSendSync as counts
 use Rattle.world_steps.proofs.kept.Kept.TheSendSync as kept
-use Rattle.world_steps.specs.contracts.seat.Seat as Seat
-use Rattle.world_steps.specs.contracts.seat.Stand as Stand
+use Rattle.world_steps.specs.contracts.house_slot.HouseSlot as HouseSlot
+use Rattle.world_steps.specs.contracts.house_slot.HouseState as HouseState
 use Rattle.world_steps.specs.contracts.world.World as World
 use Rattle.world_steps.specs.contracts.parts.Word as Word
 use Rattle.world_steps.specs.contracts.parts.WordNamed.TheImpl.{ghosts as named}
@@ -57,16 +57,16 @@ datagrams = kept.the_send Datagram.the_row datagram.the_send
 fills : IsSend (Kept.the_row Fill.the_row)
 fills = kept.the_send Fill.the_row fill.the_send
 
-used : IsSend (Store.the_row Word.the_row named)
+used : IsSend (SortedMap.the_row Word.the_row named)
 used = words.the_send Word.the_row named word.the_send
 
 nodes : (a : NamedLft) → IsSend (Option.the_row (Node.the_row a))
 nodes a = search (sendable, node) depth 20
 
-stand : (a : NamedLft) → IsSend (Stand.the_field a).row
-stand a = enum_send (cases (Stand.the_type a)) ((disk.the_field_send, tt), ((stop.the_field_send, (disk.the_field_send, tt)), ((house a, tt), tt)))
+stand : (a : NamedLft) → IsSend (HouseState.the_field a).row
+stand a = enum_send (cases (HouseState.the_type a)) ((disk.the_field_send, tt), ((stop.the_field_send, (disk.the_field_send, tt)), ((house a, tt), tt)))
 
-seat : (a : NamedLft) → IsSend (Seat.the_row a)
+seat : (a : NamedLft) → IsSend (HouseSlot.the_row a)
 seat a = search (sendable, job, stand) depth 25
 
 all_nodes : (a : NamedLft) → IsSend (Vec.the_row (Option.the_row (Node.the_row a)) Heap.the_row ghosts)
@@ -81,7 +81,7 @@ entries : IsSend (Vec.the_row Entry.the_row Heap.the_row ghosts)
 entries = Vec-send Entry.the_row entry.the_send
 
 history : (a : NamedLft) → IsSend (History.the_row a)
-history a = search (sendable, world, entries) depth 25
+history a = search (sendable, world, entries, Box-send) depth 25
 
 pub actor_seat : (a : NamedLft) → IsSend (ActorSeat.the_row a)
 actor_seat a = search (sendable, history, lock_seat.the_send) depth 25

@@ -17,7 +17,7 @@ use Rattle.world_steps.proofs.Meeting.{can_begin}
 use Rattle.safe_runs.proofs.Sound.{all_safe, each_safe}
 use Rattle.chronicle.specs.declared.kept.Entry.{Entry}
 use Rattle.chronicle.specs.History.{IsHistory, IsSafeHistory, entry, outcome_told, told_entry}
-use Rattle.chronicle.specs.Kept.{Reaches, StarvedBy}
+use Rattle.chronicle.specs.Kept.{Reaches, OutOfMemoryBy}
 use Rattle.chronicle.proofs.Tellings.{told_recorded}
 
 abbrev run_entry : Event → StepResult → RunEntry
@@ -75,12 +75,12 @@ pub begun_world : (job : JobOf) (on : WorldOn) → Begins job on → (d : Device
 begun_world job on is = (is.0, can_begin job is.0 is.1, ap (λ (w : WorldOn). w.world) is.2)
 
 -- an event found no memory
-pub starves : (job : JobOf) (entries more : List Entry) (world left : WorldOf) → more ≡ entries → (left ≡ world) ⊎ StarvedBy job world left → Reaches job entries world false → Reaches job more left true
-starves job entries more world left same is reached =
+pub lacks_memory : (job : JobOf) (entries more : List Entry) (world left : WorldOf) → more ≡ entries → (left ≡ world) ⊎ OutOfMemoryBy job world left → Reaches job entries world false → Reaches job more left true
+lacks_memory job entries more world left same is reached =
     subst (λ es. Reaches job es left true) (sym same) (record {
       own = reached.own;
       history = reached.history;
-      here = ⊎_elim (λ stays. inl (stays ∙ reached.here)) (λ stops. inr (subst (λ w. StarvedBy job w left) reached.here stops)) is;
+      here = ⊎_elim (λ stays. inl (stays ∙ reached.here)) (λ stops. inr (subst (λ w. OutOfMemoryBy job w left) reached.here stops)) is;
     })
 
 -- an event was carried out

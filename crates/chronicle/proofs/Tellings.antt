@@ -5,7 +5,7 @@ use Rattle.codec.specs.Table.{PacketOf}
 use Rattle.serial_meaning.specs.Job.{JobOf}
 use Rattle.node_state.specs.Node.{NodeOf}
 use Rattle.node_core.specs.Calls as call
-use Rattle.node_core.specs.Cases.{Choice, on_packet}
+use Rattle.node_core.specs.Cases.{Candidate, on_packet}
 use Rattle.node_core.specs.Steps as node
 use Rattle.clearinghouse.specs.House.{HouseOf, Open, Stopped}
 use Rattle.clearinghouse.specs.Steps as house
@@ -15,7 +15,7 @@ use Rattle.event_script.specs.declared.event.HouseEvent.{HouseEvent}
 use Rattle.event_script.specs.declared.event.HouseEvent.TheVariants.{Deliver, Tick, Restart}
 use Rattle.event_script.specs.declared.event.NodeEvent.{NodeEvent}
 use Rattle.event_script.specs.declared.event.NodeEvent.TheVariants as at
-use Rattle.world_steps.specs.Answers.{Answer, Unfit, Ignored, Refused, Did, House, StepResult, answered, same, stepped, with_some}
+use Rattle.world_steps.specs.Answers.{WorldAnswer, Unfit, Ignored, Refused, Did, House, StepResult, answered, same, stepped, with_some}
 use Rattle.world_steps.specs.Calls.{told_of}
 use Rattle.world_steps.specs.Houses.{Ends, Halts, RestartHalts, Restarts, house_answer}
 use Rattle.world_steps.specs.Nodes.{at_node, can_start, grant_of, starts, victim_of}
@@ -56,7 +56,7 @@ answered_silent a node.Ignored w = refl
 answered_silent a (node.Refused e) w = refl
 answered_silent a (node.Does s) w = refl
 
-at_node_silent : (job : JobOf) (choice : Option Choice) (a : ℕ) (e : NodeEvent) (n : NodeOf) (w : WorldOf) → Silent (at_node job choice a e n w)
+at_node_silent : (job : JobOf) (choice : Option Candidate) (a : ℕ) (e : NodeEvent) (n : NodeOf) (w : WorldOf) → Silent (at_node job choice a e n w)
 at_node_silent job choice a (at.Deliver i) n w = by_some _ w (λ (p : PacketOf). answered a (on_packet job choice p n) w) (λ p. answered_silent a (on_packet job choice p n) w)
 at_node_silent job choice a (at.Exec f) n w = answered_silent a (call.exec_ready job (grant_of f) f.frame n) w
 at_node_silent job choice a (at.Ask v) n w = answered_silent a (call.ask job (victim_of v) n) w
@@ -70,12 +70,12 @@ starts_silent job a word w =
 -- the clearinghouse
 
 module _ (job : JobOf) where
-  ends_recorded : (h : HouseOf) (a : house.Answer) (w : WorldOf) (o : StepResult) → Ends job h a w o → Recorded o
+  ends_recorded : (h : HouseOf) (a : house.HouseAnswer) (w : WorldOf) (o : StepResult) → Ends job h a w o → Recorded o
   ends_recorded h house.Ignored w o is = spoken_as o _ is refl
   ends_recorded h (house.Refused e) w o is = spoken_as o _ is refl
   ends_recorded h (house.Does s) w o (calls, makes, is) = spoken_as o _ is refl
 
-  halts_recorded : (h : HouseOf) (a : house.Answer) (k : ℕ) (bytes : List ℕ) (w : WorldOf) (o : StepResult) → Halts job h a k bytes w o → Recorded o
+  halts_recorded : (h : HouseOf) (a : house.HouseAnswer) (k : ℕ) (bytes : List ℕ) (w : WorldOf) (o : StepResult) → Halts job h a k bytes w o → Recorded o
   halts_recorded h house.Ignored k bytes w o never = absurd never
   halts_recorded h (house.Refused e) k bytes w o never = absurd never
   halts_recorded h (house.Does s) k bytes w o (calls, makes, few, is) = spoken_as o _ is refl
@@ -87,7 +87,7 @@ module _ (job : JobOf) where
   restart_halts_recorded : (k : ℕ) (bytes : List ℕ) (w : WorldOf) (o : StepResult) → RestartHalts job k bytes w o → Recorded o
   restart_halts_recorded k bytes w o (calls, which, few, is) = spoken_as o _ is refl
 
-  applied : (P : house.Answer → Type 0) (unfit : Type 0) (a : Option house.Answer) (o : StepResult) → IfApplies job P unfit a → ((x : house.Answer) → P x → Recorded o) → (unfit → Recorded o) → Recorded o
+  applied : (P : house.HouseAnswer → Type 0) (unfit : Type 0) (a : Option house.HouseAnswer) (o : StepResult) → IfApplies job P unfit a → ((x : house.HouseAnswer) → P x → Recorded o) → (unfit → Recorded o) → Recorded o
   applied P unfit None o is each other = other is
   applied P unfit (Some x) o is each other = each x is
 
@@ -113,7 +113,7 @@ module _ (job : JobOf) where
   house_halts_recorded (Tick t) Down k bytes w o never = absurd never
 
   -- behind a Cut none is told
-  stopped_silent : (a : Answer) → outcome_told (told_of (stopped_answer a)) ≡ None
+  stopped_silent : (a : WorldAnswer) → outcome_told (told_of (stopped_answer a)) ≡ None
   stopped_silent Unfit = refl
   stopped_silent Ignored = refl
   stopped_silent (Refused e) = refl

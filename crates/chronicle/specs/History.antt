@@ -15,16 +15,16 @@ use Rattle.safe_runs.specs.Promises.{AllSafe}
 use Rattle.chronicle.specs.declared.kept.Entry.{Entry}
 
 -- whose event it is: the clearinghouse is actor 0, and the node of place p is actor p + 1
-abbrev pub number_of : Event → ℕ
-number_of (Start p word) = p + 1
-number_of (AtNode p e) = p + 1
-number_of (Crash p) = p + 1
-number_of (AtHouse e) = 0
-number_of HouseCrash = 0
-number_of (Cut c) = 0
+abbrev pub actor_number : Event → ℕ
+actor_number (Start p word) = p + 1
+actor_number (AtNode p e) = p + 1
+actor_number (Crash p) = p + 1
+actor_number (AtHouse e) = 0
+actor_number HouseCrash = 0
+actor_number (Cut c) = 0
 
 abbrev pub actor_of : Entry → ℕ
-actor_of e = number_of e.event
+actor_of e = actor_number e.event
 
 abbrev pub entry : Event → EventAnswer → Entry
 entry event told = record { event = event; told = told }

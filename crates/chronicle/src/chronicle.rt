@@ -7,7 +7,7 @@ ghost use Rattle.world_steps.specs.Answers.{StepResult};
 ghost use Rattle.world_steps.specs.Calls.{IsOfJob, told_of};
 ghost use Rattle.world_steps.specs.Steps.{Step as StepOf};
 ghost use Rattle.world_steps.specs.World.{WorldOf};
-ghost use Rattle.chronicle.specs.History.{IsSafeHistory, entry, number_of, outcome_told};
+ghost use Rattle.chronicle.specs.History.{IsSafeHistory, entry, actor_number, outcome_told};
 ghost use Rattle.chronicle.specs.Seats.{IsBlankSeatIn, IsSeatIn, TellsOf, first_last, seat_of};
 
 use crate::kept::{Committed, Kept};
@@ -109,7 +109,7 @@ impl<'a> Chronicle<'a> {
         event: Event,
     ) -> Result<Committed, NoMemory>
         requires seat { IsSeatIn self.now seat.old }
-        requires owns { number_of event ≡ seat.old.actor }
+        requires owns { actor_number event ≡ seat.old.actor }
         ensures same { IsSeatIn self.now seat.new × (seat.new.actor ≡ seat.old.actor) }
         ensures entry { IfOk result (λ c. seat.new.entries ≡ seat.old.entries ++ entry event c.told ∷ []) }
         ensures step { IfOk result (λ c. (w : WorldOf) × (o : StepResult) × StepOf self.now.job event w o × (c.told ≡ told_of o.answer)) }
@@ -129,7 +129,7 @@ impl<'a> Chronicle<'a> {
         turn: &Done,
     ) -> Result<Committed, NoMemory>
         requires seat { IsSeatIn self.now seat.old }
-        requires owns { number_of event ≡ seat.old.actor }
+        requires owns { actor_number event ≡ seat.old.actor }
         requires turn { turn.now.program ≡ self.now.job.program }
         ensures same { IsSeatIn self.now seat.new × (seat.new.actor ≡ seat.old.actor) }
         ensures entry { IfOk result (λ c. seat.new.entries ≡ seat.old.entries ++ entry event c.told ∷ []) }
@@ -149,7 +149,7 @@ impl<'a> Chronicle<'a> {
         turn: Option<&Done>,
     ) -> Result<Committed, NoMemory>
         requires seat { IsSeatIn self.now seat.old }
-        requires owns { number_of event ≡ seat.old.actor }
+        requires owns { actor_number event ≡ seat.old.actor }
         requires turn { IsOfJob self.now.job (option_copied turn) }
         ensures same { IsSeatIn self.now seat.new × (seat.new.actor ≡ seat.old.actor) }
         ensures entry { IfOk result (λ c. seat.new.entries ≡ seat.old.entries ++ entry event c.told ∷ []) }

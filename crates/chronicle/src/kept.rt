@@ -5,11 +5,11 @@ ghost use Rattle.ids.specs.declared.outcome.Outcome.{Outcome as OutcomeOf};
 ghost use Rattle.serial_meaning.specs.Job.{meaning_of};
 ghost use Rattle.turn_lock.specs.Histories.{own};
 ghost use Rattle.world_steps.specs.Answers.{StepResult};
-ghost use Rattle.world_steps.specs.Calls.{IsOfJob, IsStarved, told_of};
+ghost use Rattle.world_steps.specs.Calls.{IsOfJob, IsOutOfMemory, told_of};
 ghost use Rattle.world_steps.specs.Runs.{CanBegin};
 ghost use Rattle.world_steps.specs.Steps.{Step as StepOf};
 ghost use Rattle.world_steps.specs.World.{first_over};
-ghost use Rattle.chronicle.specs.History.{IsSafeHistory, actor_of, entry, number_of, outcome_told};
+ghost use Rattle.chronicle.specs.History.{IsSafeHistory, actor_of, entry, actor_number, outcome_told};
 
 use crate::seat::ActorSeat;
 use body_eval::Done;
@@ -57,13 +57,14 @@ pub(crate) fn outcome_of(told: EventAnswer) -> Option<Outcome>
     }
 }
 
-/// A history, and the world that it reaches. Contracts see both, with the world's job, and whether an event found no memory.
+/// A history, and the world that it reaches. Contracts see both, with the world's job, and whether an event found no memory. The world
+/// has a place of its own in memory: so what moves at each turn of the lock is small.
 #[derive(Drop)]
 pub struct Kept<'a> {
     alloc: Global,
     entries: Vec<Entry>,
-    world: World<'a>,
-    starved: bool,
+    world: Box<World<'a>>,
+    out_of_memory: bool,
 }
 
 impl<'a> Model for Kept<'a> {
@@ -77,9 +78,9 @@ impl<'a> Model for Kept<'a> {
 
     ghost coded = { Prim.hlevel (known, expr.the_row.coded, block.the_row.coded, end.the_row.coded) };
 
-    ghost view = { λ k. record { on = k.world; entries = k.entries.items; starved = k.starved } };
+    ghost view = { λ k. record { on = k.world.value; entries = k.entries.items; out_of_memory = k.out_of_memory } };
 
-    ghost invariant = { λ k. Reaches k.world.job k.entries.items k.world.world k.starved };
+    ghost invariant = { λ k. Reaches k.world.value.job k.entries.items k.world.value.world k.out_of_memory };
 }
 
 impl<'a> KeepsHistory for Kept<'a> {
@@ -100,22 +101,26 @@ impl<'a> KeepsHistory for Kept<'a> {
 impl<'a> Kept<'a> {
     /// The first world of a job, over a disk that was formatted for it, with no history. Refused only when out of memory (E9).
     pub fn new(alloc: Global, job: &'a Job) -> Result<Kept<'a>, NoMemory>
-        ensures kept { IfOk result (λ k. (k.on.job ≡ job.now) × (k.entries ≡ []) × (k.starved ≡ false)) }
+        ensures kept { IfOk result (λ k. (k.on.job ≡ job.now) × (k.entries ≡ []) × (k.out_of_memory ≡ false)) }
         ensures world { IfOk result (λ k. (d : Device) × CanBegin job.now d × (k.on.world ≡ first_over d)) }
     {
         let _checked = job.checked();
+        let first = World::new(alloc, job)?;
+        let Ok(world) = Box::new(alloc, first) else {
+            return Err(NoMemory);
+        };
         Ok(Kept {
             alloc,
             entries: Vec::new(alloc),
-            world: World::new(alloc, job)?,
-            starved: false,
+            world,
+            out_of_memory: false,
         })
     }
 
     /// An event of the seat's actor is carried out, an Exec by the turn at hand, if it is the ready frame's own. It goes to the end of
     /// the history, which had of the actor just the seat's entries; an outcome that is told is the job's meaning. E9 where there is no
-    /// memory, also from then on: the history is as it was, and so is the world, but that a clearinghouse that was to answer is
-    /// stopped.
+    /// memory, also from then on: the history is as it was, and so is the world, except that a clearinghouse that was to answer
+    /// is stopped.
     pub fn enter(
         &mut self,
         seat: &mut ActorSeat<'a>,
@@ -123,7 +128,7 @@ impl<'a> Kept<'a> {
         turn: Option<&Done>,
     ) -> Result<Committed, NoMemory>
         requires seat { seat.old.taken ≡ Some self.old.entries }
-        requires owns { number_of event ≡ seat.old.actor }
+        requires owns { actor_number event ≡ seat.old.actor }
         requires turn { IsOfJob self.old.on.job (option_copied turn) }
         ensures seat { seat.new ≡ seat.old }
         ensures own { own actor_of seat.old.actor self.old.entries ≡ seat.old.entries }
@@ -131,26 +136,26 @@ impl<'a> Kept<'a> {
         ensures step { IfOk result (λ c. (o : StepResult) × StepOf self.old.on.job event self.old.on.world o × (self.new.on.world ≡ o.world) × (c.told ≡ told_of o.answer)) }
         ensures history { IfOk result (λ c. self.new.entries ≡ self.old.entries ++ entry event c.told ∷ []) }
         ensures outcome { IfOk result (λ c. (o : OutcomeOf) → outcome_told c.told ≡ Some o → o ≡ meaning_of self.old.on.job) }
-        ensures starved { OnErr result ((self.new.entries ≡ self.old.entries) × (self.new.starved ≡ true)) }
-        ensures left { OnErr result ((self.new.on.world ≡ self.old.on.world) ⊎ ((o : StepResult) × IsStarved event self.old.on self.new.on.is_placed o × (self.new.on.world ≡ o.world))) }
-        ensures after { self.old.starved ≡ true → IsErr result × (self.new ≡ self.old) }
+        ensures out_of_memory { OnErr result ((self.new.entries ≡ self.old.entries) × (self.new.out_of_memory ≡ true)) }
+        ensures left { OnErr result ((self.new.on.world ≡ self.old.on.world) ⊎ ((o : StepResult) × IsOutOfMemory event self.old.on self.new.on.is_placed o × (self.new.on.world ≡ o.world))) }
+        ensures after { self.old.out_of_memory ≡ true → IsErr result × (self.new ≡ self.old) }
     {
         let _ = seat.actor();
-        if self.starved {
+        if self.out_of_memory {
             return Err(NoMemory);
         }
         let Kept {
             alloc,
             entries,
             world,
-            starved,
+            out_of_memory,
         } = self;
         if entries.reserve(1).is_err() {
-            *starved = true;
+            *out_of_memory = true;
             return Err(NoMemory);
         }
         let Ok(told) = world.step(*alloc, &event, turn) else {
-            *starved = true;
+            *out_of_memory = true;
             return Err(NoMemory);
         };
         entries.push_reserved(Entry { event, told });

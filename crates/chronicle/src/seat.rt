@@ -1,6 +1,6 @@
 ghost use Rattle.std.specs.Prelude.{◌≡◌, ◌==◌, IfSome};
 ghost use Rattle.turn_lock.specs.Histories.{own};
-ghost use Rattle.chronicle.specs.History.{actor_of, number_of};
+ghost use Rattle.chronicle.specs.History.{actor_of, actor_number};
 
 use crate::kept::Kept;
 use event_script::Event;
@@ -40,7 +40,7 @@ impl<'a> ActorSeat<'a> {
 
     /// Whether an event is one of its actor.
     pub fn owns(&self, event: &Event) -> bool
-        ensures { result ≡ (number_of event.now == self.now.actor) }
+        ensures { result ≡ (actor_number event.now == self.now.actor) }
     {
         let number = match event {
             Event::Start(place, _) | Event::AtNode(place, _) | Event::Crash(place) => u64::from(

@@ -2,7 +2,7 @@
 use Rattle.std.specs.Prelude.{◌≡◌, ◌≢◌, ◌<◌, ℕ, List, length}
 use Rattle.task_tree.specs.declared.tree.Program.{Program}
 use Rattle.task_tree.specs.Shapes.{SameProgram}
-use Rattle.task_syntax.specs.Grammar.{Reads}
+use Rattle.task_syntax.specs.Grammar.{ReadsAsProgram}
 use Rattle.task_syntax.specs.Meeting.{MeetsText}
 use Rattle.task_syntax.specs.Printed.{printed}
 use Rattle.task_syntax.specs.declared.error.ParseError.TheVariants as parse
@@ -13,16 +13,16 @@ use Rattle.cilknow.specs.declared.form.FormFault.TheVariants as fault
 -- the form is what is printed of the program that the text reads as, and is read as the same program, but for offsets
 pub record IsFormOf (text form : List ℕ) : Type 0 where
   pub program : Program
-  pub reads : Reads text program
+  pub reads : ReadsAsProgram text program
   pub is : form ≡ printed program
   pub again : Program
-  pub back : Reads form again
+  pub back : ReadsAsProgram form again
   pub same : SameProgram program again
 
 -- the text reads as a program whose form has more bytes than a text may have
 pub record IsLong (text : List ℕ) : Type 0 where
   pub program : Program
-  pub reads : Reads text program
+  pub reads : ReadsAsProgram text program
   pub long : 65536 < length (printed program)
 
 -- what a refusal says of the text; being out of memory says nothing

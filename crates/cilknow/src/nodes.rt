@@ -3,7 +3,7 @@
 use crate::command::CommandFault;
 use crate::stored::store_in;
 use node_runner::{Gate, Open, RunConfig, Stored, run_job, run_stored};
-use progress::{Progress, tell};
+use progress::{RunProgress, tell};
 use serial_meaning::Job;
 use std::fs::File;
 use std::io::{IsTerminal, Stderr};
@@ -15,7 +15,7 @@ use std::time::Clock;
 /// The gate that is always open, and notes how far a run has come.
 #[derive(Drop)]
 struct Noting<'p> {
-    progress: &'p Progress,
+    progress: &'p RunProgress,
 }
 
 impl<'p> Gate for Noting<'p> {
@@ -56,7 +56,7 @@ fn ran_noted<R: Files<File = File> + AllocGlobal + Threads + Wait + Clock + Sync
     job: &Job,
     config: &RunConfig,
     store: Option<&str>,
-    progress: &Progress,
+    progress: &RunProgress,
 ) -> Result<Stored, CommandFault> {
     let ran = ran_under(rt, job, config, store, &Noting { progress });
     progress.ends();
@@ -75,7 +75,7 @@ pub fn ran_on_nodes<R: Files<File = File> + AllocGlobal + Threads + Wait + Clock
     if !err.is_terminal() {
         return ran_under(rt, job, config, store, &Open);
     }
-    let progress = Progress::new();
+    let progress = RunProgress::new();
     let shared = &progress;
     // (where no second thread can be made, the first closure is called last: then the run has ended, and nothing is told)
     let (_, ran) = join(

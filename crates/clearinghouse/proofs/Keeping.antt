@@ -24,14 +24,14 @@ use Rattle.clearinghouse.specs.Calls.{passes}
 use Rattle.clearinghouse.specs.Cases
 use Rattle.clearinghouse.specs.Cases.{by_status, on_body, on_packet}
 use Rattle.clearinghouse.specs.House.{HouseOf, Kept, is_root, kept_of, members_of, name_of, opened}
-use Rattle.clearinghouse.specs.Laws.{IsDue, IsHouse, IsListing, IsSafe, Keeps, join}
+use Rattle.clearinghouse.specs.Laws.{IsDue, IsHouse, IsListing, IsSafe, KeepsHouse, join}
 use Rattle.clearinghouse.specs.Moves
-use Rattle.clearinghouse.specs.Steps.{Answer, Refused, Does, StepOf, sends, sends_before}
+use Rattle.clearinghouse.specs.Steps.{HouseAnswer, Refused, Does, HouseStepOf, sends, sends_before}
 use Rattle.clearinghouse.specs.declared.error.HouseError.{HouseError}
 use Rattle.clearinghouse.specs.declared.error.HouseError.TheVariants as error
 use Rattle.clearinghouse.specs.declared.parts.RootGrant.{RootGrant}
 use Rattle.clearinghouse.proofs.Changing.{all_put}
-use Rattle.clearinghouse.proofs.Listing.{buried_listing, heard_listing, leaver_gone, leaver_heir, listed_listing, said_listing}
+use Rattle.clearinghouse.proofs.Listing.{declared_dead_listing, heard_listing, leaver_gone, leaver_heir, listed_listing, said_listing}
 
 if_holds : {A : Type 0} (P : A → Type 0) (b : Bool) (x y : A) → (b ≡ true → P x) → (b ≡ false → P y) → P (cond b x y)
 if_holds P true x y p q = p refl
@@ -61,7 +61,7 @@ abbrev AllShort : List Reply → Type 0
 AllShort replies = AllByRecursion (λ r. IsTrue (is_short r.packet.body)) replies
 
 -- a step that commits nothing, and leaves the outcome and the root's grant as they were, or no grant
-same : (h new : HouseOf) (sent : List PacketOf) → (AllShort h.replies → AllShort new.replies) → kept_of new ≡ kept_of h → new.outcome ≡ h.outcome → (h.root ≡ None → new.root ≡ None) → Lists h new → Keeps h (sends sent new)
+same : (h new : HouseOf) (sent : List PacketOf) → (AllShort h.replies → AllShort new.replies) → kept_of new ≡ kept_of h → new.outcome ≡ h.outcome → (h.root ≡ None → new.root ≡ None) → Lists h new → KeepsHouse h (sends sent new)
 same h new sent short kept outcome root listing = record {
   holds = λ is. record { decided = λ o there. root (is.decided o (sym outcome ∙ there)); listing = listing is.listing; short = short is.short };
   commits = kept;
@@ -70,11 +70,11 @@ same h new sent short kept outcome root listing = record {
 
 module _ (job : JobOf) where
   -- the root's grant is settled after a change of the roster, in a house that keeps as much and has the same grant
-  settled_by : (h new : HouseOf) (before : List PacketOf) (r : RootGrant) (holder : Option ℕ) → (AllShort h.replies → AllShort new.replies) → kept_of new ≡ kept_of h → new.outcome ≡ h.outcome → h.root ≡ Some r → Lists h new → Keeps h (sends_before before (Moves.settles_to job r holder new))
+  settled_by : (h new : HouseOf) (before : List PacketOf) (r : RootGrant) (holder : Option ℕ) → (AllShort h.replies → AllShort new.replies) → kept_of new ≡ kept_of h → new.outcome ≡ h.outcome → h.root ≡ Some r → Lists h new → KeepsHouse h (sends_before before (Moves.settles_to job r holder new))
   settled_by h new before r None short kept outcome root listing = same h (record new { root = None }) _ short kept outcome (λ none. refl) listing
   settled_by h new before r (Some holder) short kept outcome root listing = same h (record new { root = Some (record r { holder = holder }) }) _ short kept outcome (λ none. let wrong : Some r ≡ None = sym root ∙ none in cc) listing
 
-  settled_at : (h new : HouseOf) (before : List PacketOf) (root : Option RootGrant) → (AllShort h.replies → AllShort new.replies) → kept_of new ≡ kept_of h → new.outcome ≡ h.outcome → h.root ≡ root → new.root ≡ root → Lists h new → Keeps h (sends_before before (Moves.settles_root job root new))
+  settled_at : (h new : HouseOf) (before : List PacketOf) (root : Option RootGrant) → (AllShort h.replies → AllShort new.replies) → kept_of new ≡ kept_of h → new.outcome ≡ h.outcome → h.root ≡ root → new.root ≡ root → Lists h new → KeepsHouse h (sends_before before (Moves.settles_root job root new))
   settled_at h new before None short kept outcome root new_root listing = same h new _ short kept outcome (λ none. new_root) listing
   settled_at h new before (Some r) short kept outcome root new_root listing = settled_by h new before r (resolve (members_of new) r.holder) short kept outcome root listing
 
@@ -148,7 +148,7 @@ module _ (job : JobOf) where
       (λ unlisted. tt))
       (λ other. if_holds (IsSafe h) (is_house to) _ _ (λ house. same h _ _ (λ s. s) refl refl (λ none. none) (λ listing. listing)) (λ none. tt))
 
-  own : (to : ℕ) (h : HouseOf) (a : Answer) → IsSafe h a → IsSafe h (Cases.if_own job to h a)
+  own : (to : ℕ) (h : HouseOf) (a : HouseAnswer) → IsSafe h a → IsSafe h (Cases.if_own job to h a)
   own to h a is = if_holds (IsSafe h) (nat_eq to (name_of h)) _ _ (λ same. is) (λ other. tt)
 
   body_safe : (to : ℕ) (b : Body) (h : HouseOf) → IsSafe h (on_body job to b h)
@@ -170,20 +170,20 @@ module _ (job : JobOf) where
   unfolding on_packet
   packet_safe p h = if_holds (IsSafe h) (nat_eq p.job job.number) _ _ (λ ours. body_safe p.to p.body h) (λ other. tt)
 
-  pub packet_keeps : (p : PacketOf) (h : HouseOf) (s : StepOf) → on_packet job p h ≡ Does s → Keeps h s
+  pub packet_keeps : (p : PacketOf) (h : HouseOf) (s : HouseStepOf) → on_packet job p h ≡ Does s → KeepsHouse h s
   packet_keeps p h s is = rw is at (packet_safe p h)
 
   pub refused_due : (p : PacketOf) (h : HouseOf) (e : HouseError) → on_packet job p h ≡ Refused e → IsDue h e
   refused_due p h e is = rw is at (packet_safe p h)
 
-  pub moment_keeps : (now : ℕ) (h : HouseOf) → Keeps h (passes job now h)
+  pub moment_keeps : (now : ℕ) (h : HouseOf) → KeepsHouse h (passes job now h)
   unfolding passes
   moment_keeps now h =
-      if_holds (Keeps h) (nat_lt h.moment now) _ _
+      if_holds (KeepsHouse h) (nat_lt h.moment now) _ _
       (λ later.
-      if_holds (Keeps h) (list_any (Moves.is_lost h.limit now) h.workers) _ _
+      if_holds (KeepsHouse h) (list_any (Moves.is_lost h.limit now) h.workers) _ _
       (λ some.
-      settled_at h (Moves.with_workers (map (Moves.buried h.limit now) h.workers) (record h { moment = now })) [] h.root (λ s. s) refl refl refl refl (buried_listing h.limit now h.version h.workers some))
+      settled_at h (Moves.with_workers (map (Moves.declared_dead h.limit now) h.workers) (record h { moment = now })) [] h.root (λ s. s) refl refl refl refl (declared_dead_listing h.limit now h.version h.workers some))
       (λ none. same h _ _ (λ s. s) refl refl (λ none. none) (λ listing. listing)))
       (λ late. same h h _ (λ s. s) refl refl (λ none. none) (λ listing. listing))
 

@@ -15,7 +15,7 @@ use Rattle.ids.proofs.NameOrder.{exact_names}
 use Rattle.codec.specs.Rosters.{has_another}
 use Rattle.clearinghouse.specs.House.{member_of, name_of_enlisted}
 use Rattle.clearinghouse.specs.Laws.{IsListing, living, one_if}
-use Rattle.clearinghouse.specs.Moves.{buried, changed, is_lost, leaving_status, left_to}
+use Rattle.clearinghouse.specs.Moves.{declared_dead, changed, is_lost, leaving_status, left_to}
 use Rattle.clearinghouse.specs.declared.parts.Enlisted.{Enlisted}
 use Rattle.clearinghouse.proofs.Changing.{all_put, change_at, change_keeps, changed_everywhere, rising_map, rising_put, sum_put}
 
@@ -126,15 +126,15 @@ module _ (i : ℕ) (s : Status) (gone : says_live (Some s) ≡ false) where
 
 -- those that are lost don't live any more
 module _ (limit now : ℕ) where
-  bury_heirs : (w : Enlisted) → HasAnother w → HasAnother (buried limit now w)
-  bury_heirs w h = by_test (is_lost limit now w)
+  declare_dead_heirs : (w : Enlisted) → HasAnother w → HasAnother (declared_dead limit now w)
+  declare_dead_heirs w h = by_test (is_lost limit now w)
     where
       by_test : (b : Bool) → HasAnother (say (cond b Dead w.status) w)
       by_test true = refl
       by_test false = h
 
-  bury_less : (w : Enlisted) → one_if (lives (buried limit now w)) ≤ one_if (lives w)
-  bury_less w = by_test (is_lost limit now w)
+  declare_dead_less : (w : Enlisted) → one_if (lives (declared_dead limit now w)) ≤ one_if (lives w)
+  declare_dead_less w = by_test (is_lost limit now w)
     where
       by_test : (b : Bool) → one_if (lives (say (cond b Dead w.status) w)) ≤ one_if (lives w)
       by_test true = omega arith
@@ -147,18 +147,18 @@ module _ (limit now : ℕ) where
       by_test true at = refl
       by_test false at = cc
 
-  bury_fewer : (ws : List Enlisted) → list_any (is_lost limit now) ws ≡ true → living (map (buried limit now) ws) + 1 ≤ living ws
-  bury_fewer [] some = cc
-  bury_fewer (w ∷ ws) some = by_test (bury_fewer ws) (at_most (buried limit now) bury_less ws) (is_lost limit now w) refl some
+  declare_dead_fewer : (ws : List Enlisted) → list_any (is_lost limit now) ws ≡ true → living (map (declared_dead limit now) ws) + 1 ≤ living ws
+  declare_dead_fewer [] some = cc
+  declare_dead_fewer (w ∷ ws) some = by_test (declare_dead_fewer ws) (at_most (declared_dead limit now) declare_dead_less ws) (is_lost limit now w) refl some
     where
-      by_test : (list_any (is_lost limit now) ws ≡ true → living (map (buried limit now) ws) + 1 ≤ living ws) → living (map (buried limit now) ws) ≤ living ws → (b : Bool) → is_lost limit now w ≡ b → (b || list_any (is_lost limit now) ws) ≡ true → one_if (lives (say (cond b Dead w.status) w)) + living (map (buried limit now) ws) + 1 ≤ one_if (lives w) + living ws
+      by_test : (list_any (is_lost limit now) ws ≡ true → living (map (declared_dead limit now) ws) + 1 ≤ living ws) → living (map (declared_dead limit now) ws) ≤ living ws → (b : Bool) → is_lost limit now w ≡ b → (b || list_any (is_lost limit now) ws) ≡ true → one_if (lives (say (cond b Dead w.status) w)) + living (map (declared_dead limit now) ws) + 1 ≤ one_if (lives w) + living ws
       by_test rest less true is at = let one : one_if (lives w) ≡ 1 = ap one_if (lost_lives w is) in omega (arith, one, less)
-      by_test rest less false is at = let behind : living (map (buried limit now) ws) + 1 ≤ living ws = rest at in omega (arith, behind)
+      by_test rest less false is at = let behind : living (map (declared_dead limit now) ws) + 1 ≤ living ws = rest at in omega (arith, behind)
 
-  pub buried_listing : (version : ℕ) (ws : List Enlisted) → list_any (is_lost limit now) ws ≡ true → IsListing version ws → IsListing (version + 1) (map (buried limit now) ws)
-  buried_listing version ws some is =
-      let fewer : living (map (buried limit now) ws) + 1 ≤ living ws = bury_fewer ws some in
-      mapped (buried limit now) version (version + 1) ws (λ w. refl) bury_heirs (omega (arith, fewer)) is
+  pub declared_dead_listing : (version : ℕ) (ws : List Enlisted) → list_any (is_lost limit now) ws ≡ true → IsListing version ws → IsListing (version + 1) (map (declared_dead limit now) ws)
+  declared_dead_listing version ws some is =
+      let fewer : living (map (declared_dead limit now) ws) + 1 ≤ living ws = declare_dead_fewer ws some in
+      mapped (declared_dead limit now) version (version + 1) ws (λ w. refl) declare_dead_heirs (omega (arith, fewer)) is
 
 -- a new worker
 not_there : (i : ℕ) (ws : List Enlisted) → status_in i (map member_of ws) ≡ None → item_in name_of_enlisted (i, 0) ws ≡ None

@@ -4,11 +4,11 @@ use Rattle.std.proofs.lemmas.Bool.{le-ltb, lt-ltb}
 use Rattle.std.specs.Prelude.{IsErrOf}
 use Rattle.disk.specs.Device.{Device}
 use Rattle.disk.specs.File.{bytes_of}
-use Rattle.checkpoint.specs.Calls.{Call, Passed, Stopped as HasStopped, after}
+use Rattle.checkpoint.specs.Calls.{DeviceCall, Passed, Stopped as HasStopped, after}
 use Rattle.checkpoint.specs.Commit.{IsCommit, next_of, opening}
 use Rattle.checkpoint.specs.Moments.{KeepsEither}
-use Rattle.checkpoint.specs.Store.{IsRefused, IsSpent, Keeps, Opened, Reads}
-use Rattle.checkpoint.specs.declared.record.Record.{Record as Stored}
+use Rattle.checkpoint.specs.Store.{IsRefused, IsSpent, KeepsRecord, Opened, ReadsAsStore}
+use Rattle.checkpoint.specs.declared.record.CheckpointRecord.{CheckpointRecord as Stored}
 use Rattle.checkpoint.specs.declared.record.StoreError.{StoreError}
 use Rattle.checkpoint.specs.declared.record.StoreError.TheVariants as store_error
 use Rattle.checkpoint.proofs.Chains.{both_later, passed_both, stop_later}
@@ -27,7 +27,7 @@ unfolding after
 same_file plan d e passed = ap (λ (x : Device). x.file) passed.made
 
 -- what is kept is one of two
-pub either_kept : (d : Device) (n : ℕ) (r next : Stored) → Keeps d.file n r → KeepsEither d.file n r next
+pub either_kept : (d : Device) (n : ℕ) (r next : Stored) → KeepsRecord d.file n r → KeepsEither d.file n r next
 either_kept d n r next keeps c left = inl (keeps.second, keeps.each c left)
 
 -- the same by equal terms
@@ -109,25 +109,25 @@ module _ {D : Type 0} (device : D → Device) (planned : D → ℕ → Option (L
   -- a store that was opened for a job
   pub record IsFound (s : Opened D) : Type 0 where
     pub going : s.ended ≡ false
-    pub reads : Reads (bytes_of (device s.disk).file) s.sequence s.«record»
+    pub reads : ReadsAsStore (bytes_of (device s.disk).file) s.sequence s.«record»
     pub own : s.«record».job ≡ job.number
     pub calls : Passed opening (planned disk) (device disk) (device s.disk)
     pub plan : (i : ℕ) → planned s.disk i ≡ planned disk (i + length opening)
 
   -- so it is by what an opening of the store says
-  pub found_by : (s : Opened D) (number : ℕ) → (s.ended ≡ false) × Reads (bytes_of (device s.disk).file) s.sequence s.«record» × (s.«record».job ≡ number) → Passed opening (planned disk) (device disk) (device s.disk) → ((i : ℕ) → planned s.disk i ≡ planned disk (i + length opening)) → number ≡ job.number → IsFound s
+  pub found_by : (s : Opened D) (number : ℕ) → (s.ended ≡ false) × ReadsAsStore (bytes_of (device s.disk).file) s.sequence s.«record» × (s.«record».job ≡ number) → Passed opening (planned disk) (device disk) (device s.disk) → ((i : ℕ) → planned s.disk i ≡ planned disk (i + length opening)) → number ≡ job.number → IsFound s
   found_by s number is calls plan own = record { going = is.0; reads = is.1; own = is.2 ∙ own; calls = calls; plan = plan }
 
   module _ (s : Opened D) (found : IsFound s) where
     same : (device s.disk).file ≡ (device disk).file
     same = same_file (planned disk) (device disk) (device s.disk) found.calls
 
-    reads_it : Reads (bytes_of (device disk).file) s.sequence s.«record»
-    reads_it = subst (λ f. Reads (bytes_of f) s.sequence s.«record») same found.reads
+    reads_it : ReadsAsStore (bytes_of (device disk).file) s.sequence s.«record»
+    reads_it = subst (λ f. ReadsAsStore (bytes_of f) s.sequence s.«record») same found.reads
 
     -- what was kept still is
-    pub still_kept : (n : ℕ) (r : Stored) → Keeps (device disk).file n r → Keeps (device s.disk).file n r
-    still_kept n r keeps = subst (λ f. Keeps f n r) (sym same) keeps
+    pub still_kept : (n : ℕ) (r : Stored) → KeepsRecord (device disk).file n r → KeepsRecord (device s.disk).file n r
+    still_kept n r keeps = subst (λ f. KeepsRecord f n r) (sym same) keeps
 
     pub last : can_begin (kept_in s.sequence s.«record») ≡ false → IsLast device planned job disk
     last none = record { sequence = s.sequence; found = s.«record»; reads = reads_it; own = found.own; last = none }
@@ -149,7 +149,7 @@ module _ {D : Type 0} (device : D → Device) (planned : D → ℕ → Option (L
 
     module _ (new : Opened D) (told : Stored) (same_next : told ≡ next) where
       -- the calls of its commit, over the file that was read
-      commits : (calls : List Call) → IsCommit (bytes_of (device s.disk).file) s.sequence s.«record» told calls → IsCommit (bytes_of (device disk).file) s.sequence s.«record» next calls
+      commits : (calls : List DeviceCall) → IsCommit (bytes_of (device s.disk).file) s.sequence s.«record» told calls → IsCommit (bytes_of (device disk).file) s.sequence s.«record» next calls
       commits calls is = subst (λ f. IsCommit (bytes_of f) s.sequence s.«record» next calls) same (subst (λ n. IsCommit (bytes_of (device s.disk).file) s.sequence s.«record» n calls) same_next is)
 
       -- what is stored after it
@@ -159,9 +159,9 @@ module _ {D : Type 0} (device : D → Device) (planned : D → ℕ → Option (L
       -- a commit passed
       pub is_opened : (limit : ℕ) (h : HouseOf) → h ≡ opened limit (next_epoch (kept_in s.sequence s.«record»)) →
           new ≡ record { disk = new.disk; «record» = told; sequence = s.sequence + 1; ended = false } →
-          ((calls : List Call) × IsCommit (bytes_of (device s.disk).file) s.sequence s.«record» told calls × Passed calls (planned s.disk) (device s.disk) (device new.disk)) →
+          ((calls : List DeviceCall) × IsCommit (bytes_of (device s.disk).file) s.sequence s.«record» told calls × Passed calls (planned s.disk) (device s.disk) (device new.disk)) →
           ((i : ℕ) → planned new.disk i ≡ planned s.disk (i + 6)) →
-          (Keeps (device s.disk).file s.sequence s.«record» → Keeps (device new.disk).file new.sequence new.«record») →
+          (KeepsRecord (device s.disk).file s.sequence s.«record» → KeepsRecord (device new.disk).file new.sequence new.«record») →
           can_begin (kept_in s.sequence s.«record») ≡ true →
           IsOpened device planned job limit disk s.sequence s.«record» (record { job = job; state = Open h; store = new })
       is_opened limit h is stored made plan kept begun = record {
@@ -189,7 +189,7 @@ module _ {D : Type 0} (device : D → Device) (planned : D → ℕ → Option (L
 
       -- a call of it failed
       refused_device : (left : D) → left ≡ new.disk → can_begin (kept_in s.sequence s.«record») ≡ true →
-          ((calls : List Call) × IsCommit (bytes_of (device s.disk).file) s.sequence s.«record» told calls × HasStopped calls (planned s.disk) (device s.disk) (device new.disk)) →
+          ((calls : List DeviceCall) × IsCommit (bytes_of (device s.disk).file) s.sequence s.«record» told calls × HasStopped calls (planned s.disk) (device s.disk) (device new.disk)) →
           IsRefusedOver device planned error.Device job disk left
       refused_device left same_left begun stop =
           let stopped = stop_later opening stop.0 (planned disk) (planned s.disk) (device disk) (device s.disk) (device new.disk) found.calls found.plan stop.2 in
@@ -208,7 +208,7 @@ module _ {D : Type 0} (device : D → Device) (planned : D → ℕ → Option (L
           (IsErr e store_error.Spent ↔ IsSpent s) →
           (¬ IsSpent s → can_begin (kept_in s.sequence s.«record») ≡ true) →
           (IsErr e store_error.Spent → new ≡ s) →
-          (IsErr e store_error.Device → s.ended ≡ false → (calls : List Call) × IsCommit (bytes_of (device s.disk).file) s.sequence s.«record» told calls × HasStopped calls (planned s.disk) (device s.disk) (device new.disk)) →
+          (IsErr e store_error.Device → s.ended ≡ false → (calls : List DeviceCall) × IsCommit (bytes_of (device s.disk).file) s.sequence s.«record» told calls × HasStopped calls (planned s.disk) (device s.disk) (device new.disk)) →
           IsRefusedOver device planned (error_of_store e) job disk left
       is_refused e left same_left (inl by) spent left_both unchanged stopped =
           let is : e ≡ store_error.Spent = cc in
@@ -219,10 +219,10 @@ module _ {D : Type 0} (device : D → Device) (planned : D → ℕ → Option (L
           subst (λ x. IsRefusedOver device planned (error_of_store x) job disk left) (sym is) (refused_device left same_left (left_both unspent) (stopped by found.going))
 
     -- what is kept where a commit failed
-    pub still_either : (new : Opened D) (told : Stored) (left : D) → told ≡ next → left ≡ new.disk → (Keeps (device s.disk).file s.sequence s.«record» → KeepsEither (device new.disk).file s.sequence s.«record» told) → (n : ℕ) (r : Stored) → Keeps (device disk).file n r → KeepsEither (device left).file n r (next_of r (r.epoch + 1) r.outcome)
+    pub still_either : (new : Opened D) (told : Stored) (left : D) → told ≡ next → left ≡ new.disk → (KeepsRecord (device s.disk).file s.sequence s.«record» → KeepsEither (device new.disk).file s.sequence s.«record» told) → (n : ℕ) (r : Stored) → KeepsRecord (device disk).file n r → KeepsEither (device left).file n r (next_of r (r.epoch + 1) r.outcome)
     still_either new told left same_next same_left either n r keeps =
         let kept = still_kept n r keeps in
         let one = one_kept (device s.disk).file found.reads.0 s.sequence n s.«record» r found.reads.1 kept in
-        let said = either (subst (λ m. Keeps (device s.disk).file m s.«record») (sym one.0) (subst (λ x. Keeps (device s.disk).file n x) (sym one.1) kept)) in
+        let said = either (subst (λ m. KeepsRecord (device s.disk).file m s.«record») (sym one.0) (subst (λ x. KeepsRecord (device s.disk).file n x) (sym one.1) kept)) in
         let is : told ≡ next_of r (r.epoch + 1) r.outcome = cc (same_next, found.own, one.1) in
         either_at (device left) (device new.disk) s.sequence n s.«record» r told (next_of r (r.epoch + 1) r.outcome) (ap device same_left) one.0 one.1 is said

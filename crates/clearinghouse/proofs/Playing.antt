@@ -7,7 +7,7 @@ use Rattle.serial_meaning.specs.Job.{JobOf}
 use Rattle.clearinghouse.specs.Calls.{tick}
 use Rattle.clearinghouse.specs.Cases.{on_packet}
 use Rattle.clearinghouse.specs.House.{HouseOf, Kept, Open, opened}
-use Rattle.clearinghouse.specs.Steps.{Answer, Ignored, Refused, Does}
+use Rattle.clearinghouse.specs.Steps.{HouseAnswer, Ignored, Refused, Does}
 
 -- a packet comes, or a moment
 pub data Call : Type 0 where
@@ -40,13 +40,13 @@ step_events None sent = all_sent sent
 step_events (Some k) sent = Commits k ∷ all_sent sent
 
 -- what a call adds to a run; one that is ignored or refused adds nothing
-abbrev pub adds : Run → Answer → Run
+abbrev pub adds : Run → HouseAnswer → Run
 adds r Ignored = r
 adds r (Refused e) = r
 adds r (Does s) = record { after = s.after; events = r.events ++ step_events s.commits s.sent }
 
 module _ (job : JobOf) where
-  abbrev pub answer : Call → HouseOf → Answer
+  abbrev pub answer : Call → HouseOf → HouseAnswer
   answer (Comes to b) h = on_packet job (record { job = job.number; to = to; body = b }) h
   answer (Ticks now) h = tick job now (Open h)
 
@@ -64,5 +64,5 @@ module _ (job : JobOf) where
   after cs = (play cs (record { after = first; events = [] })).after
 
   -- the answer to a call after them
-  abbrev pub answer_after : List Call → Call → Answer
+  abbrev pub answer_after : List Call → Call → HouseAnswer
   answer_after cs last = answer last (after cs)

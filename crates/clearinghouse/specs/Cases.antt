@@ -16,7 +16,7 @@ use Rattle.serial_meaning.specs.Job.{JobOf}
 use Rattle.steal_protocol.specs.Replies.{by_reply, reply_in}
 use Rattle.clearinghouse.specs.House.{HouseOf, is_root, members_of, name_of}
 use Rattle.clearinghouse.specs.Moves
-use Rattle.clearinghouse.specs.Steps.{Answer, Ignored, Refused, Does, sends, sends_before}
+use Rattle.clearinghouse.specs.Steps.{HouseAnswer, Ignored, Refused, Does, sends, sends_before}
 use Rattle.clearinghouse.specs.declared.error.HouseError.TheVariants as error
 
 -- by what the roster says of a worker: it is live, dead or left, or isn't listed
@@ -29,12 +29,12 @@ by_status (Some (Left heir)) live gone unlisted = gone
 module _ (job : JobOf) where
   -- Join: a new worker is listed and heard, if there is room for one more; one that is listed as live is heard; and each is told
   -- who is listed
-  abbrev pub new_joined : ℕ → HouseOf → Answer
+  abbrev pub new_joined : ℕ → HouseOf → HouseAnswer
   new_joined i h =
       if nat_lt (length h.workers) 4096 then Does (Moves.tells job i (Moves.lists i h))
       else Refused error.RosterFull
 
-  abbrev pub joined : ℕ → HouseOf → Answer
+  abbrev pub joined : ℕ → HouseOf → HouseAnswer
   joined i h =
       by_status (status_in i (members_of h)) (Does (Moves.tells job i (Moves.hears i h))) (Does (Moves.tells job i h)) (new_joined i h)
 
@@ -43,19 +43,19 @@ module _ (job : JobOf) where
   free_task h = if is_some h.root || is_some h.outcome then None else Moves.root_task job
 
   -- a request that is newer than the last one: the root task is granted if it may be, and else it is refused
-  abbrev pub served : Steal → Option Task → HouseOf → Answer
+  abbrev pub served : Steal → Option Task → HouseOf → HouseAnswer
   served b None h = Does (Moves.refuses job b h)
   served b (Some task) h = if nat_lt (h.minted + 1) (2 ^ 64) then Does (Moves.grants job b task h) else Refused error.Spent
 
   -- Steal: of a thief that isn't listed as live, or older than its last one, it is ignored; the same again gets the last answer
-  abbrev pub stolen : Steal → HouseOf → Answer
+  abbrev pub stolen : Steal → HouseOf → HouseAnswer
   stolen b h =
       if is_live b.from (members_of h)
       then by_reply (reply_in b.from h.replies) b.seq Ignored (λ reply. Does (sends (reply ∷ []) h)) (served b (free_task h) h)
       else Ignored
 
   -- Result: that of the root's grant is the outcome, which is committed and then acknowledged; any other is acknowledged
-  abbrev pub returned : TaskResult → HouseOf → Answer
+  abbrev pub returned : TaskResult → HouseOf → HouseAnswer
   returned b h =
       let ack = Moves.packet job b.from (body.ResultAck (record { grant = b.grant })) ∷ [] in
       if not (is_root b.grant h.root) then Does (sends ack h)
@@ -64,30 +64,30 @@ module _ (job : JobOf) where
 
   -- Leave: a live member has left, or is dead where nobody else can have its work, and is told so; then the root's grant is
   -- settled. One that is dead or left is told so again
-  abbrev pub leaves : Leave → HouseOf → Answer
+  abbrev pub leaves : Leave → HouseOf → HouseAnswer
   leaves b h =
       let new = Moves.says b.from (Moves.leaving_status b.from b.heir (members_of h)) h in
       Does (sends_before (Moves.roster_for job b.from new ∷ []) (Moves.settles job new))
 
-  abbrev pub left : Leave → HouseOf → Answer
+  abbrev pub left : Leave → HouseOf → HouseAnswer
   left b h = by_status (status_in b.from (members_of h)) (leaves b h) (Does (Moves.tells job b.from h)) Ignored
 
   -- Beat, of this epoch: a live member is heard; one whose roster is older is told who is listed
-  abbrev pub answered_beat : Beat → HouseOf → Answer
+  abbrev pub answered_beat : Beat → HouseOf → HouseAnswer
   answered_beat b h = if nat_lt b.version h.version then Does (Moves.tells job b.from h) else Does (sends [] h)
 
-  abbrev pub own_beat : Beat → HouseOf → Answer
+  abbrev pub own_beat : Beat → HouseOf → HouseAnswer
   own_beat b h = by_status (status_in b.from (members_of h)) (answered_beat b (Moves.hears b.from h)) (answered_beat b h) Ignored
 
   -- Beat: one of another epoch is told who is listed
-  abbrev pub beats : ℕ → Beat → HouseOf → Answer
+  abbrev pub beats : ℕ → Beat → HouseOf → HouseAnswer
   beats to b h = if nat_eq to (name_of h) then own_beat b h else if is_house to then Does (Moves.tells job b.from h) else Ignored
 
-  abbrev pub if_own : ℕ → HouseOf → Answer → Answer
+  abbrev pub if_own : ℕ → HouseOf → HouseAnswer → HouseAnswer
   if_own to h answer = if nat_eq to (name_of h) then answer else Ignored
 
   -- the table: a row for each kind, with whom it has to go to. All other kinds are ignored
-  unfoldable pub on_body : ℕ → Body → HouseOf → Answer
+  unfoldable pub on_body : ℕ → Body → HouseOf → HouseAnswer
   on_body to (body.Join b) h = if nat_eq to (2 ^ 63) then joined b.from h else Ignored
   on_body to (body.Steal b) h = if_own to h (stolen b h)
   on_body to (body.Result b) h = if_own to h (returned b h)
@@ -96,10 +96,10 @@ module _ (job : JobOf) where
   on_body to other h = Ignored
 
   -- a packet of another job is ignored
-  unfoldable pub on_packet : PacketOf → HouseOf → Answer
+  unfoldable pub on_packet : PacketOf → HouseOf → HouseAnswer
   on_packet p h = if nat_eq p.job job.number then on_body p.to p.body h else Ignored
 
   -- bytes that are no packet are refused
-  abbrev pub on_read : Result PacketOf Fault → HouseOf → Answer
+  abbrev pub on_read : Result PacketOf Fault → HouseOf → HouseAnswer
   on_read (Err fault) h = Refused (error.Bytes fault)
   on_read (Ok p) h = on_packet p h

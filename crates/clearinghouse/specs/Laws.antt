@@ -10,19 +10,17 @@ use Rattle.codec.specs.declared.body.Body.TheVariants as body
 use Rattle.serial_meaning.specs.Job.{JobOf}
 use Rattle.clearinghouse.specs.House.{HouseOf, Kept, kept_of, name_of_enlisted}
 use Rattle.clearinghouse.specs.Moves.{packet}
-use Rattle.clearinghouse.specs.Steps.{Answer, Ignored, Refused, Does, StepOf}
+use Rattle.clearinghouse.specs.Steps.{HouseAnswer, Ignored, Refused, Does, HouseStepOf}
 use Rattle.clearinghouse.specs.declared.error.HouseError.{HouseError}
 use Rattle.clearinghouse.specs.declared.error.HouseError.TheVariants as error
 use Rattle.clearinghouse.specs.declared.parts.Enlisted.{Enlisted}
+pub use Rattle.ids.specs.Names.{one_if}
 
 -- the Join of a worker
 abbrev pub join : JobOf → ℕ → PacketOf
 join job i = packet job (2 ^ 63) (body.Join (record { from = i }))
 
 -- how many of these are live
-abbrev pub one_if : Bool → ℕ
-one_if b = if b then 1 else 0
-
 abbrev pub living : List Enlisted → ℕ
 living [] = 0
 living (w ∷ ws) = one_if (says_live (Some w.status)) + living ws
@@ -49,7 +47,7 @@ Commits None old new = kept_of new ≡ kept_of old
 Commits (Some k) old new = (kept_of new ≡ k) × (k.epoch ≡ old.epoch) × (k.sequence ≡ old.sequence + 1)
 
 -- a step keeps what holds between calls, commits what it changes of what is kept, and an outcome stays
-pub record Keeps (h : HouseOf) (s : StepOf) : Type 0 where
+pub record KeepsHouse (h : HouseOf) (s : HouseStepOf) : Type 0 where
   pub holds : IsHouse h → IsHouse s.after
   pub commits : Commits s.commits h s.after
   pub outcome : IsHouse h → (o : Outcome) → h.outcome ≡ Some o → s.after.outcome ≡ Some o
@@ -61,7 +59,7 @@ IsDue h error.Spent = (2 ^ 64 ≤ h.minted + 1) ⊎ (2 ^ 64 ≤ h.sequence + 1)
 IsDue h other = ⊥
 
 -- what is promised of an answer to a packet
-abbrev pub IsSafe : HouseOf → Answer → Type 0
+abbrev pub IsSafe : HouseOf → HouseAnswer → Type 0
 IsSafe h Ignored = Unit {0}
 IsSafe h (Refused e) = IsDue h e
-IsSafe h (Does s) = Keeps h s
+IsSafe h (Does s) = KeepsHouse h s

@@ -3,11 +3,11 @@ use Rattle.std.specs.Prelude.{◌≡◌, ◌⊎◌, ◌+◌, ◌<◌, ◌^◌, �
 use Rattle.codec.specs.Table.{PacketOf}
 use Rattle.disk.specs.Device.{Device}
 use Rattle.disk.specs.File.{bytes_of}
-use Rattle.checkpoint.specs.Calls.{Call, Passed, Stopped as HasStopped}
+use Rattle.checkpoint.specs.Calls.{DeviceCall, Passed, Stopped as HasStopped}
 use Rattle.checkpoint.specs.Commit.{IsCommit, opening}
 use Rattle.checkpoint.specs.Moments.{KeepsEither}
-use Rattle.checkpoint.specs.Store.{IsRefused, Keeps as KeepsRecord, Opened, Reads}
-use Rattle.checkpoint.specs.declared.record.Record.{Record as Stored}
+use Rattle.checkpoint.specs.Store.{IsRefused, KeepsRecord, Opened, ReadsAsStore}
+use Rattle.checkpoint.specs.declared.record.CheckpointRecord.{CheckpointRecord as Stored}
 use Rattle.checkpoint.specs.declared.record.StoreError.TheVariants as store_error
 use Rattle.ids.specs.declared.outcome.Outcome.{Outcome}
 use Rattle.serial_meaning.specs.Job.{JobOf}
@@ -15,7 +15,7 @@ use Rattle.clearinghouse.specs.Calls.{can_begin, next_epoch}
 use Rattle.clearinghouse.specs.House.{HouseOf, Kept, State, Open, Stopped, kept_of, opened}
 use Rattle.clearinghouse.specs.Laws.{IsHouse}
 use Rattle.clearinghouse.specs.Moves
-use Rattle.clearinghouse.specs.Steps.{Answer, Ignored, Refused, Does}
+use Rattle.clearinghouse.specs.Steps.{HouseAnswer, Ignored, Refused, Does}
 use Rattle.clearinghouse.specs.declared.error.HouseError.{HouseError}
 use Rattle.clearinghouse.specs.declared.error.HouseError.TheVariants as error
 use Rattle.clearinghouse.specs.declared.parts.Act.{Act}
@@ -25,19 +25,19 @@ use Rattle.clearinghouse.specs.declared.parts.Stop.{Stop}
 use Rattle.clearinghouse.specs.declared.parts.Stop.TheVariants as by
 
 -- of an answer that commits nothing: what is sent, and the clearinghouse after it
-abbrev pub IsSent : Answer → List PacketOf → HouseOf → Type 0
+abbrev pub IsSent : HouseAnswer → List PacketOf → HouseOf → Type 0
 IsSent Ignored sent new = ⊥
 IsSent (Refused e) sent new = ⊥
 IsSent (Does s) sent new = (s.commits ≡ None) × (sent ≡ s.sent) × (new ≡ s.after)
 
 -- of an answer that records an outcome: that one, and what is sent
-abbrev pub IsRecorded : Answer → Outcome → List PacketOf → HouseOf → Type 0
+abbrev pub IsRecorded : HouseAnswer → Outcome → List PacketOf → HouseOf → Type 0
 IsRecorded Ignored o sent old = ⊥
 IsRecorded (Refused e) o sent old = ⊥
 IsRecorded (Does s) o sent old = (s ≡ Moves.records o s.sent old) × (sent ≡ s.sent)
 
 -- what is to be done by an answer; what is to be committed isn't done yet. Being out of memory may leave a part of it
-abbrev pub Acts : Answer → Result Act HouseError → HouseOf → HouseOf → Type 0
+abbrev pub Acts : HouseAnswer → Result Act HouseError → HouseOf → HouseOf → Type 0
 Acts expected (Ok act.Ignored) old new = (expected ≡ Ignored) × (new ≡ old)
 Acts expected (Ok (act.Sends sent)) old new = IsSent expected sent new
 Acts expected (Ok (act.Records o sent)) old new = IsRecorded expected o sent old × (new ≡ old) × (old.sequence + 1 < 2 ^ 64)
@@ -85,7 +85,7 @@ module _ {D : Type 0} (device : D → Device) (planned : D → ℕ → Option (L
   -- the six calls of a commit were made, and all passed
   pub record Committed (next : Stored) (old new : Opened D) : Type 0 where
     pub store : new ≡ record { disk = new.disk; «record» = next; sequence = old.sequence + 1; ended = false }
-    pub calls : (calls : List Call) × IsCommit (bytes old) old.sequence old.record next calls × Passed calls (planned old.disk) (device old.disk) (device new.disk)
+    pub calls : (calls : List DeviceCall) × IsCommit (bytes old) old.sequence old.record next calls × Passed calls (planned old.disk) (device old.disk) (device new.disk)
     pub plan : (i : ℕ) → planned new.disk i ≡ planned old.disk (i + 6)
     -- where whatever a crash leaves has the record before, then it has the new one
     pub kept : KeepsRecord (device old.disk).file old.sequence old.record → KeepsRecord (device new.disk).file new.sequence new.record
@@ -93,7 +93,7 @@ module _ {D : Type 0} (device : D → Device) (planned : D → ℕ → Option (L
   -- one of them failed, and those before it passed
   pub record Halted (next : Stored) (old new : Opened D) : Type 0 where
     pub store : new ≡ record old { disk = new.disk; ended = true }
-    pub calls : (calls : List Call) × IsCommit (bytes old) old.sequence old.record next calls × HasStopped calls (planned old.disk) (device old.disk) (device new.disk)
+    pub calls : (calls : List DeviceCall) × IsCommit (bytes old) old.sequence old.record next calls × HasStopped calls (planned old.disk) (device old.disk) (device new.disk)
     -- where whatever a crash leaves has the record before, then it has that one or the next
     pub either : KeepsRecord (device old.disk).file old.sequence old.record → KeepsEither (device new.disk).file old.sequence old.record next
 
@@ -103,7 +103,7 @@ module _ {D : Type 0} (device : D → Device) (planned : D → ℕ → Option (L
   Stores (Some k) old new = Committed (record_of old.job k) old.store new.store
 
   -- what is told of an answer that is no refusal, and what becomes of the clearinghouse
-  abbrev pub Carries : Answer → HouseStep → (old new : HouseOn D) → Type 0
+  abbrev pub Carries : HouseAnswer → HouseStep → (old new : HouseOn D) → Type 0
   Carries Ignored step old new = (step ≡ record { sent = []; ignored = true }) × (new ≡ old)
   Carries (Refused e) step old new = ⊥
   Carries (Does s) step old new = (step ≡ record { sent = s.sent; ignored = false }) × (new ≡ record old { state = Open s.after; store = new.store }) × Stores s.commits old new
@@ -113,33 +113,33 @@ module _ {D : Type 0} (device : D → Device) (planned : D → ℕ → Option (L
   FailsToCommit None old new = ⊥
   FailsToCommit (Some k) old new = (new ≡ record old { state = Stopped by.Device; store = new.store }) × Halted (record_of old.job k) old.store new.store
 
-  abbrev pub Fails : Answer → (old new : HouseOn D) → Type 0
+  abbrev pub Fails : HouseAnswer → (old new : HouseOn D) → Type 0
   Fails Ignored old new = ⊥
   Fails (Refused e) old new = (e ≡ error.Device) × (new ≡ old)
   Fails (Does s) old new = FailsToCommit s.commits old new
 
   -- what is answered is what was to be answered; or a device call of its commit failed, or there was no memory, and then the
   -- clearinghouse is stopped
-  abbrev pub Meets : Answer → Result HouseStep HouseError → (old new : HouseOn D) → Type 0
-  Meets expected (Ok step) old new = Carries expected step old new
-  Meets expected (Err error.Memory) old new = new ≡ record old { state = Stopped by.Memory }
-  Meets expected (Err error.Device) old new = Fails expected old new
-  Meets expected (Err (error.Bytes fault)) old new = (expected ≡ Refused (error.Bytes fault)) × (new ≡ old)
-  Meets expected (Err error.Spent) old new = (expected ≡ Refused error.Spent) × (new ≡ old)
-  Meets expected (Err error.JobMismatch) old new = ⊥
-  Meets expected (Err error.Damaged) old new = ⊥
-  Meets expected (Err error.Version) old new = ⊥
-  Meets expected (Err error.RosterFull) old new = (expected ≡ Refused error.RosterFull) × (new ≡ old)
+  abbrev pub HouseMeets : HouseAnswer → Result HouseStep HouseError → (old new : HouseOn D) → Type 0
+  HouseMeets expected (Ok step) old new = Carries expected step old new
+  HouseMeets expected (Err error.Memory) old new = new ≡ record old { state = Stopped by.Memory }
+  HouseMeets expected (Err error.Device) old new = Fails expected old new
+  HouseMeets expected (Err (error.Bytes fault)) old new = (expected ≡ Refused (error.Bytes fault)) × (new ≡ old)
+  HouseMeets expected (Err error.Spent) old new = (expected ≡ Refused error.Spent) × (new ≡ old)
+  HouseMeets expected (Err error.JobMismatch) old new = ⊥
+  HouseMeets expected (Err error.Damaged) old new = ⊥
+  HouseMeets expected (Err error.Version) old new = ⊥
+  HouseMeets expected (Err error.RosterFull) old new = (expected ≡ Refused error.RosterFull) × (new ≡ old)
 
   -- a clearinghouse that was opened over a file: its next epoch is committed behind the read
   pub record IsOpened (job : JobOf) (limit : ℕ) (disk : D) (sequence : ℕ) (r : Stored) (new : HouseOn D) : Type 0 where
-    pub found : Reads (bytes_of (device disk).file) sequence r
+    pub found : ReadsAsStore (bytes_of (device disk).file) sequence r
     pub own : r.job ≡ job.number
     -- an epoch and a commit were left
     pub begins : can_begin (kept_in sequence r) ≡ true
     pub house : new ≡ record { job = job; state = Open (opened limit (next_epoch (kept_in sequence r))); store = new.store }
     pub stored : new.store ≡ record { disk = new.store.disk; «record» = record_of job (next_epoch (kept_in sequence r)); sequence = sequence + 1; ended = false }
-    pub calls : (calls : List Call) × IsCommit (bytes_of (device disk).file) sequence r (record_of job (next_epoch (kept_in sequence r))) calls × Passed (opening ++ calls) (planned disk) (device disk) (device new.store.disk)
+    pub calls : (calls : List DeviceCall) × IsCommit (bytes_of (device disk).file) sequence r (record_of job (next_epoch (kept_in sequence r))) calls × Passed (opening ++ calls) (planned disk) (device disk) (device new.store.disk)
     pub plan : (i : ℕ) → planned new.store.disk i ≡ planned disk (i + 7)
     pub kept : KeepsRecord (device disk).file sequence r → KeepsRecord (device new.store.disk).file new.store.sequence new.store.record
 
@@ -147,7 +147,7 @@ module _ {D : Type 0} (device : D → Device) (planned : D → ℕ → Option (L
   pub record IsLast (job : JobOf) (disk : D) : Type 0 where
     pub sequence : ℕ
     pub found : Stored
-    pub reads : Reads (bytes_of (device disk).file) sequence found
+    pub reads : ReadsAsStore (bytes_of (device disk).file) sequence found
     pub own : found.job ≡ job.number
     pub last : can_begin (kept_in sequence found) ≡ false
 
@@ -155,11 +155,11 @@ module _ {D : Type 0} (device : D → Device) (planned : D → ℕ → Option (L
   pub record IsHaltedAtOnce (job : JobOf) (disk left : D) : Type 0 where
     pub sequence : ℕ
     pub found : Stored
-    pub reads : Reads (bytes_of (device disk).file) sequence found
+    pub reads : ReadsAsStore (bytes_of (device disk).file) sequence found
     pub own : found.job ≡ job.number
     -- an epoch and a commit were left
     pub begins : can_begin (kept_in sequence found) ≡ true
-    pub calls : (calls : List Call) × IsCommit (bytes_of (device disk).file) sequence found (record_of job (next_epoch (kept_in sequence found))) calls × HasStopped (opening ++ calls) (planned disk) (device disk) (device left)
+    pub calls : (calls : List DeviceCall) × IsCommit (bytes_of (device disk).file) sequence found (record_of job (next_epoch (kept_in sequence found))) calls × HasStopped (opening ++ calls) (planned disk) (device disk) (device left)
 
   -- why a clearinghouse isn't opened over a file, and what was done to it
   abbrev IsRead : (disk left : D) → Type 0

@@ -17,7 +17,7 @@ use Rattle.serial_meaning.specs.Job.{JobOf}
 use Rattle.serial_meaning.specs.Places.{root}
 use Rattle.steal_protocol.specs.Replies.{put_reply}
 use Rattle.clearinghouse.specs.House.{HouseOf, members_of, name_of, name_of_enlisted, roster_of}
-use Rattle.clearinghouse.specs.Steps.{StepOf, commits, sends}
+use Rattle.clearinghouse.specs.Steps.{HouseStepOf, commits, sends}
 use Rattle.clearinghouse.specs.declared.parts.Enlisted.{Enlisted}
 use Rattle.clearinghouse.specs.declared.parts.RootGrant.{RootGrant}
 
@@ -54,11 +54,11 @@ abbrev pub is_lost : (limit now : ℕ) → Enlisted → Bool
 is_lost limit now w = says_live (Some w.status) && nat_lt limit (now - w.heard)
 
 -- those that are lost are dead
-abbrev pub buried : (limit now : ℕ) → Enlisted → Enlisted
-buried limit now w = record w { status = if is_lost limit now w then Dead else w.status }
+abbrev pub declared_dead : (limit now : ℕ) → Enlisted → Enlisted
+declared_dead limit now w = record w { status = if is_lost limit now w then Dead else w.status }
 
 -- the outcome comes: it is committed, the root's grant isn't out any more, and then packets are sent
-abbrev pub records : Outcome → List PacketOf → HouseOf → StepOf
+abbrev pub records : Outcome → List PacketOf → HouseOf → HouseStepOf
 records o sent h = commits sent (record h { outcome = Some o; root = None })
 
 module _ (job : JobOf) where
@@ -70,15 +70,15 @@ module _ (job : JobOf) where
   abbrev pub roster_for : ℕ → HouseOf → PacketOf
   roster_for i h = packet i (body.Roster (roster_of h))
 
-  abbrev pub tells : ℕ → HouseOf → StepOf
+  abbrev pub tells : ℕ → HouseOf → HouseStepOf
   tells i h = sends (roster_for i h ∷ []) h
 
   -- a thief is answered, and the answer kept
-  abbrev pub answers : ℕ → ℕ → Body → HouseOf → StepOf
+  abbrev pub answers : ℕ → ℕ → Body → HouseOf → HouseStepOf
   answers thief seq b h =
       let p = packet thief b in sends (p ∷ []) (record h { replies = put_reply (record { thief = thief; seq = seq; packet = p }) h.replies })
 
-  abbrev pub refuses : Steal → HouseOf → StepOf
+  abbrev pub refuses : Steal → HouseOf → HouseStepOf
   refuses b h = answers b.from b.seq (body.Refuse (record { seq = b.seq })) h
 
   -- the root task: thread `main` on the input
@@ -88,20 +88,20 @@ module _ (job : JobOf) where
     Some (record { place = []; thread = t.thread; numbers = t.numbers })
 
   -- a thief is granted the root task, under the next number
-  abbrev pub grants : Steal → Task → HouseOf → StepOf
+  abbrev pub grants : Steal → Task → HouseOf → HouseStepOf
   grants b task h =
       let g : Grant = record { minter = name_of h; number = h.minted + 1 } in
       answers b.from b.seq (body.Grant (record { seq = b.seq; grant = g; task = task })) (record h { root = Some (record { grant = g; holder = b.from }); minted = h.minted + 1 })
 
   -- the root's grant by a changed roster: if nobody has its holder's work it isn't out any more, and the holder is told to stop;
   -- else whoever has that work is its holder
-  abbrev pub settles_to : RootGrant → Option ℕ → HouseOf → StepOf
+  abbrev pub settles_to : RootGrant → Option ℕ → HouseOf → HouseStepOf
   settles_to r None h = sends (packet r.holder (body.Abort (record { grant = r.grant })) ∷ []) (record h { root = None })
   settles_to r (Some holder) h = sends [] (record h { root = Some (record r { holder = holder }) })
 
-  abbrev pub settles_root : Option RootGrant → HouseOf → StepOf
+  abbrev pub settles_root : Option RootGrant → HouseOf → HouseStepOf
   settles_root None h = sends [] h
   settles_root (Some r) h = settles_to r (resolve (members_of h) r.holder) h
 
-  abbrev pub settles : HouseOf → StepOf
+  abbrev pub settles : HouseOf → HouseStepOf
   settles h = settles_root h.root h

@@ -12,7 +12,8 @@ ghost use Rattle.clearinghouse.specs.declared.book.Link.TheVariants as link;
 use crate::parts::{Enlisted, RootGrant};
 use codec::Roster;
 use ids::{
-    Actor, Change, Count, Epoch, GrantId, Incarnation, Listed, Member, Outcome, Status, Store,
+    Actor, Count, Epoch, GrantId, Incarnation, ItemChange, Listed, Member, Outcome, SortedMap,
+    Status,
 };
 use std::alloc::{AllocError, Global};
 use std::marker::Model;
@@ -23,7 +24,7 @@ use steal_protocol::Replies;
 pub struct Book {
     pub epoch: Epoch,
     pub version: Count,
-    pub workers: Store<Enlisted>,
+    pub workers: SortedMap<Enlisted>,
     pub moment: u64,
     pub limit: u64,
     pub root: Option<RootGrant>,
@@ -58,7 +59,7 @@ struct Hear {
     now: u64,
 }
 
-impl Change<Enlisted> for Hear {
+impl ItemChange<Enlisted> for Hear {
     ghost use Rattle.std.specs.Prelude.{refl};
     ghost use Rattle.clearinghouse.specs.declared.parts.Enlisted.{Enlisted};
 
@@ -79,7 +80,7 @@ struct Say {
     status: Status,
 }
 
-impl Change<Enlisted> for Say {
+impl ItemChange<Enlisted> for Say {
     ghost use Rattle.std.specs.Prelude.{refl};
 
     ghost fits = { λ change item. Unit {0} };
@@ -95,17 +96,17 @@ impl Change<Enlisted> for Say {
 
 /// Those that are silent for too long at a moment are dead.
 #[derive(Drop)]
-struct Bury {
+struct DeclareDead {
     limit: u64,
     now: u64,
 }
 
-impl Change<Enlisted> for Bury {
+impl ItemChange<Enlisted> for DeclareDead {
     ghost use Rattle.std.specs.Prelude.{refl};
 
     ghost fits = { λ change item. Unit {0} };
 
-    ghost changed = { λ change item. moves.buried change.limit change.now item };
+    ghost changed = { λ change item. moves.declared_dead change.limit change.now item };
 
     ghost keeps_name = { λ change item. refl };
 
@@ -145,7 +146,7 @@ impl Book {
         Book {
             epoch,
             version: Count::of(1).unwrap(),
-            workers: Store::new(alloc),
+            workers: SortedMap::new(alloc),
             moment: 0,
             limit,
             root: None,
@@ -316,16 +317,16 @@ impl Book {
     }
 
     /// Those that were silent for too long at a moment are dead.
-    pub fn bury(&mut self, now: u64)
+    pub fn declare_dead(&mut self, now: u64)
         requires { IsHouse self.old }
-        ensures { self.new ≡ moves.with_workers (map (moves.buried self.old.limit now) self.old.workers) self.old }
+        ensures { self.new ≡ moves.with_workers (map (moves.declared_dead self.old.limit now) self.old.workers) self.old }
     {
         let version = self.next_version();
-        let bury = Bury {
+        let declare_dead = DeclareDead {
             limit: self.limit,
             now,
         };
-        self.workers.change_all(&bury);
+        self.workers.change_all(&declare_dead);
         self.version = version;
     }
 

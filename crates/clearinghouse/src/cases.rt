@@ -344,7 +344,7 @@ impl Book {
         }
         self.moment = now;
         if self.any_is_lost(now) {
-            self.bury(now);
+            self.declare_dead(now);
             self.settle(alloc, job, &mut sent)?;
         }
         Ok(sent)

@@ -5,7 +5,7 @@ use packet_fields::Fault;
 use std::alloc::AllocError;
 use thiserror::Error;
 
-/// Why a call of the clearinghouse is refused. It changes nothing then, but that the clearinghouse is stopped by E72 and E9.
+/// Why a call of the clearinghouse is refused. It changes nothing then, except that E72 and E9 stop the clearinghouse.
 #[derive(Clone, Copy, PartialEq, Eq, Debug, Error)]
 pub enum HouseError {
     /// E30 to E36: the bytes are no packet.

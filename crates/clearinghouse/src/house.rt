@@ -4,13 +4,13 @@ ghost use Rattle.disk.specs.Device.{armed};
 ghost use Rattle.disk.specs.File.{bytes_of};
 ghost use Rattle.checkpoint.specs.Commit.{next_of};
 ghost use Rattle.checkpoint.specs.Moments.{KeepsEither};
-ghost use Rattle.checkpoint.specs.Store.{Keeps, Reads};
-ghost use Rattle.checkpoint.specs.declared.record.Record.{Record as Stored};
+ghost use Rattle.checkpoint.specs.Store.{KeepsRecord, ReadsAsStore};
+ghost use Rattle.checkpoint.specs.declared.record.CheckpointRecord.{CheckpointRecord as Stored};
 ghost use Rattle.ids.specs.declared.outcome.Outcome.{Outcome as OutcomeOf};
 ghost use Rattle.clearinghouse.specs.Calls as calls;
 ghost use Rattle.clearinghouse.specs.Errors.{error_of_stop};
 ghost use Rattle.clearinghouse.specs.House.{HouseOf, Open, Stopped};
-ghost use Rattle.clearinghouse.specs.Meeting.{Committed, Halted, IsOpened, IsRefusedOver, Meets, record_of};
+ghost use Rattle.clearinghouse.specs.Meeting.{Committed, Halted, IsOpened, IsRefusedOver, HouseMeets, record_of};
 ghost use Rattle.clearinghouse.specs.Steps.{Does};
 ghost use Rattle.clearinghouse.specs.declared.parts.Stop.{Stop as StopOf};
 
@@ -86,9 +86,9 @@ impl<'a, D: Disk> House<'a, D> {
         ensures refused { IfErr result (λ e. IsRefusedOver D.device D.planned e.0 job.now disk e.1) }
 
         // Where a store of this job is read, it is opened, or the device failed, or no epoch or commit is left.
-        ensures alone { IfErr result (λ e. (n : ℕ) (r : Stored) → Reads (bytes_of (D.device disk).file) n r → r.job ≡ job.now.number → (e.0 ≡ HouseError.Device) ⊎ (e.0 ≡ HouseError.Spent)) }
+        ensures alone { IfErr result (λ e. (n : ℕ) (r : Stored) → ReadsAsStore (bytes_of (D.device disk).file) n r → r.job ≡ job.now.number → (e.0 ≡ HouseError.Device) ⊎ (e.0 ≡ HouseError.Spent)) }
         // Where whatever a crash leaves has one current record, it has that one or the one of the new epoch.
-        ensures kept_back { IfErr result (λ e. (n : ℕ) (r : Stored) → Keeps (D.device disk).file n r → KeepsEither (D.device e.1).file n r (next_of r (r.epoch + 1) r.outcome)) }
+        ensures kept_back { IfErr result (λ e. (n : ℕ) (r : Stored) → KeepsRecord (D.device disk).file n r → KeepsEither (D.device e.1).file n r (next_of r (r.epoch + 1) r.outcome)) }
     {
         let mut store = match Store::open(alloc, disk, job.number()) {
             Ok(store) => store,
@@ -115,7 +115,7 @@ impl<'a, D: Disk> House<'a, D> {
     /// listed, E62 where a grant or a commit can't be counted any more; nothing changes then. E72 where a call of the device
     /// failed, and E9 where there is no memory: both stop it, and a stopped one answers each call by what stopped it.
     pub fn on_bytes(&mut self, alloc: Global, bytes: &[u8]) -> Result<HouseStep, HouseError>
-        ensures meets { Meets D.device D.planned (calls.on_bytes self.old.job bytes.now self.old.state) result self.old self.new }
+        ensures meets { HouseMeets D.device D.planned (calls.on_bytes self.old.job bytes.now self.old.state) result self.old self.new }
         ensures stopped { (s : StopOf) → self.old.state ≡ Stopped s → IsErrOf result (error_of_stop s) × (self.new ≡ self.old) }
     {
         if let Some(stop) = self.stop {
@@ -151,7 +151,7 @@ impl<'a, D: Disk> House<'a, D> {
     /// settled. One that is no later than the last changes nothing. Refused only when out of memory (E9), which stops it, and
     /// where it is stopped.
     pub fn tick(&mut self, alloc: Global, now: u64) -> Result<HouseStep, HouseError>
-        ensures meets { Meets D.device D.planned (calls.tick self.old.job now self.old.state) result self.old self.new }
+        ensures meets { HouseMeets D.device D.planned (calls.tick self.old.job now self.old.state) result self.old self.new }
         ensures stopped { (s : StopOf) → self.old.state ≡ Stopped s → IsErrOf result (error_of_stop s) × (self.new ≡ self.old) }
     {
         if let Some(stop) = self.stop {

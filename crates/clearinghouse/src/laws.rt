@@ -6,9 +6,9 @@ ghost use Rattle.clearinghouse.specs.Calls.{on_bytes, outcome, passes, state_aft
 ghost use Rattle.clearinghouse.specs.Cases.{on_packet};
 ghost use Rattle.clearinghouse.specs.Errors.{error_of_stop};
 ghost use Rattle.clearinghouse.specs.House.{HouseOf, Kept, Stopped, members_of, opened};
-ghost use Rattle.clearinghouse.specs.Laws.{IsDue, IsHouse, Keeps, join};
+ghost use Rattle.clearinghouse.specs.Laws.{IsDue, IsHouse, KeepsHouse, join};
 ghost use Rattle.clearinghouse.specs.Moves.{lists, tells};
-ghost use Rattle.clearinghouse.specs.Steps.{StepOf, Refused, Does, sends};
+ghost use Rattle.clearinghouse.specs.Steps.{HouseStepOf, Refused, Does, sends};
 ghost use Rattle.clearinghouse.specs.declared.error.HouseError.{HouseError};
 ghost use Rattle.clearinghouse.specs.declared.parts.Stop.{Stop as StopOf};
 
@@ -16,8 +16,8 @@ ghost use Rattle.clearinghouse.specs.declared.parts.Stop.{Stop as StopOf};
 /// one that can be told.
 pub fn each_step()
     ensures opened { (limit : ℕ) (k : Kept) → IsHouse (opened limit k) }
-    ensures packet { (job : JobOf) (p : PacketOf) (h : HouseOf) (s : StepOf) → on_packet job p h ≡ Does s → Keeps h s }
-    ensures moment { (job : JobOf) (now : ℕ) (h : HouseOf) → Keeps h (passes job now h) }
+    ensures packet { (job : JobOf) (p : PacketOf) (h : HouseOf) (s : HouseStepOf) → on_packet job p h ≡ Does s → KeepsHouse h s }
+    ensures moment { (job : JobOf) (now : ℕ) (h : HouseOf) → KeepsHouse h (passes job now h) }
 {}
 
 /// A packet that is one is refused at a limit alone: E80 where 4,096 members are listed, E62 where the grants or the commits are

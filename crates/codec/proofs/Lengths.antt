@@ -12,7 +12,7 @@ use Rattle.ids.specs.declared.outcome.Outcome.TheVariants.{Value, TooDeep}
 use Rattle.ids.specs.declared.member.Status.TheVariants.{Live, Dead, Left}
 use Rattle.packet_fields.specs.declared.fault.Fault.{Fault}
 use Rattle.packet_fields.specs.declared.fault.Fault.TheVariants as fault
-use Rattle.packet_fields.specs.Format.{Format, at_most, chosen, followed, items, listed, made, never, nothing, number, of_part, plain, tested, variant}
+use Rattle.packet_fields.specs.Format.{Format, at_most, tagged_arm, followed, items, listed, made, never, nothing, number, of_part, plain, tested, variant}
 use Rattle.packet_fields.specs.Fields as field
 use Rattle.codec.specs.declared.body.Body.{Body}
 use Rattle.codec.specs.declared.body.Body.TheVariants as body
@@ -54,7 +54,7 @@ part_bytes most F (Some x) bound f = bound.bytes x f
 variant_bytes : {X Y : Type 0} (most : ℕ) (F : Format X) (make : X → Y) (part : Y → Option X) → AtMost most F → AtMost most (variant F make part)
 variant_bytes most F make part bound = record { bytes = λ y f. part_bytes most F (part y) bound f }
 
-chosen_bytes : {T Y : Type 0} (m n : ℕ) (F : Format T) (arm : T → Format Y) (tag : Y → T) → AtMost m F → ((t : T) → AtMost n (arm t)) → AtMost (m + n) (chosen F arm tag)
+chosen_bytes : {T Y : Type 0} (m n : ℕ) (F : Format T) (arm : T → Format Y) (tag : Y → T) → AtMost m F → ((t : T) → AtMost n (arm t)) → AtMost (m + n) (tagged_arm F arm tag)
 chosen_bytes m n F arm tag bound bounds = record {
   bytes = λ y f.
       let h = and_parts (F.fits (tag y)) ((arm (tag y)).fits y) f in

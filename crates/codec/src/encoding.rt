@@ -79,8 +79,8 @@ pub fn encode(alloc: Global, packet: &Packet) -> Result<Vec<u8>, EncodeError>
     Ok(out)
 }
 
-/// The one spelling of a packet that is no offer: it has at most 69,670 bytes, so it is never too big. Refused for want of
-/// memory alone.
+/// The one spelling of a packet that is no offer: it has at most 69,670 bytes, so it is never too big. Refused only when out of
+/// memory.
 pub fn encode_short(alloc: Global, packet: &Packet) -> Result<Vec<u8>, AllocError>
     requires { IsTrue (table.is_short packet.now.body) }
     ensures written { IfOk result (λ v. v.items ≡ table.packet.write packet.now) }

@@ -31,8 +31,8 @@ use Rattle.run_tables.specs.Program.{part_of, end_of, program_meaning}
 use Rattle.run_tables.specs.Causes.{TakesTurn, Ends, Cause, sends, joins, is_deep, hears, hears_deep}
 use Rattle.run_tables.proofs.SounderJoins.{cause_records}
 use Rattle.run_tables.proofs.Lists.{none_some}
-use Rattle.content_moves.specs.Shown.{return_of, number_of, outcome_of, ShowsNothing, Shows}
-use Rattle.content_moves.specs.Moved.{IsKept, IsMove, IsEnd, fill_of, grants_of}
+use Rattle.content_moves.specs.Shown.{return_of, outcome_number, outcome_of, ShowsNothing, Shows}
+use Rattle.content_moves.specs.Moved.{IsKept, IsMove, IsContentEnd, fill_of, grants_of_records}
 use Rattle.content_moves.proofs.Rows.{full_row}
 use Rattle.content_moves.proofs.Records.{record_shown, returns_bare, listed_shown, left_listed}
 use Rattle.content_moves.proofs.Telling.{Settles, settles_none, alters_told, moved}
@@ -42,7 +42,7 @@ use Rattle.content_moves.proofs.Joining.{with_made, unused_from, made_shown, joi
 use Rattle.content_moves.proofs.Granting.{record_settled}
 
 -- all records of a content that ends are settled
-pub all_settled : (t : Tables) (c : Content) (o : Option ℤ) → IsKept c → Shows t c → Settles t (ended t o) (grants_of c.records)
+pub all_settled : (t : Tables) (c : Content) (o : Option ℤ) → IsKept c → Shows t c → Settles t (ended t o) (grants_of_records c.records)
 all_settled t c o kept shows = record {
   had = λ k listed. listed_shown t c k kept shows listed;
   lost = λ k listed at. none_some refl at.is;
@@ -78,11 +78,11 @@ module _ (p : Program) (input : List ℤ) (v : View) (i : ℕ) (g : Grant) (s : 
   rest = record c { frames = without_frame f.number c.frames }
 
   -- it sends a number
-  send_moves : (x : ℤ) → turn_of p f.thread numbers ≡ Some (Sends x) → IsMove (program_meaning p input) v i g s (turned f (Sends x) c).after (turned f (Sends x) c).fill (grants_of (turned f (Sends x) c).dropped)
+  send_moves : (x : ℤ) → turn_of p f.thread numbers ≡ Some (Sends x) → IsMove (program_meaning p input) v i g s (turned f (Sends x) c).after (turned f (Sends x) c).fill (grants_of_records (turned f (Sends x) c).dropped)
   send_moves x end =
       let lacks = (frame_leaves c f is.kept.sound is.kept.frames (left_order f.number c.frames is.kept.frames) is.there (numbers_full f.slots numbers is.full)).lacks in
       let came : Arrived g s.content f.number f.returns x rest = value_arrives g s.content f.number f.returns x rest (frame_cleared s.content c f is.shows is.there) active (λ k listed. listed_shown s.content c k is.kept is.shows listed) (is_awaited f.returns rest lacks) in
-      moved (program_meaning p input) v i g s c (arrives f.returns x rest).after (arrives f.returns x rest).fill (grants_of (arrives f.returns x rest).dropped) came.content live is.shows came.shown (arrives_parent f.returns x rest) (arrives_task f.returns x rest) (sends f.number x (takes_turn (Sends x) end) came.comes) came.settles
+      moved (program_meaning p input) v i g s c (arrives f.returns x rest).after (arrives f.returns x rest).fill (grants_of_records (arrives f.returns x rest).dropped) came.content live is.shows came.shown (arrives_parent f.returns x rest) (arrives_task f.returns x rest) (sends f.number x (takes_turn (Sends x) end) came.comes) came.settles
 
   -- it joins, and there is a place below its own
   join_moves : (u : ℕ) (slots : List Slot) → turn_of p f.thread numbers ≡ Some (Joins u slots) → length f.place < 1024 → IsMove (program_meaning p input) v i g s (replaced f.number (joined f u slots c.next) c).after None []
@@ -107,17 +107,17 @@ module _ (p : Program) (input : List ℤ) (v : View) (i : ℕ) (g : Grant) (s : 
           (made_shown (cleared s.content f.number) rest (joined f u slots c.next) (c.next + length (joined f u slots c.next)) (frame_cleared s.content c f is.shows is.there) (all_filtered (λ x. x.number < c.next) _ c.frames is.kept.sound.below) is.kept.sound.stolen_below (joined_numbered f u slots c.next))
 
   -- it joins at the last place
-  deep_moves : (u : ℕ) (slots : List Slot) → turn_of p f.thread numbers ≡ Some (Joins u slots) → 1024 ≤ length f.place → IsMove (program_meaning p input) v i g s (ends TooDeep c).after None (grants_of c.records)
+  deep_moves : (u : ℕ) (slots : List Slot) → turn_of p f.thread numbers ≡ Some (Joins u slots) → 1024 ≤ length f.place → IsMove (program_meaning p input) v i g s (ends TooDeep c).after None (grants_of_records c.records)
   deep_moves u slots end long =
       let place = (is.shows.frames f.number f is.there).place in
-      moved (program_meaning p input) v i g s c (ends TooDeep c).after None (grants_of c.records) (ended s.content None) live is.shows (end_shown s.content c TooDeep is.shows) refl refl (is_deep f.number u (map part_of slots) (takes_turn (Joins u slots) end) (rw place long) (all_ends s.content None)) (all_settled s.content c None is.kept is.shows)
+      moved (program_meaning p input) v i g s c (ends TooDeep c).after None (grants_of_records c.records) (ended s.content None) live is.shows (end_shown s.content c TooDeep is.shows) refl refl (is_deep f.number u (map part_of slots) (takes_turn (Joins u slots) end) (rw place long) (all_ends s.content None)) (all_settled s.content c None is.kept is.shows)
 
   -- whatever the end
-  pub turn_moves : (turn : Turn) → turn_of p f.thread numbers ≡ Some turn → IsMove (program_meaning p input) v i g s (turned f turn c).after (turned f turn c).fill (grants_of (turned f turn c).dropped)
+  pub turn_moves : (turn : Turn) → turn_of p f.thread numbers ≡ Some turn → IsMove (program_meaning p input) v i g s (turned f turn c).after (turned f turn c).fill (grants_of_records (turned f turn c).dropped)
   turn_moves (Sends x) end = send_moves x end
   turn_moves (Joins u slots) end = by_depth (nat_lt (length f.place) 1024) refl
     where
-      by_depth : (b : Bool) → nat_lt (length f.place) 1024 ≡ b → (let change = if b then replaced f.number (joined f u slots c.next) c else ends TooDeep c in IsMove (program_meaning p input) v i g s change.after change.fill (grants_of change.dropped))
+      by_depth : (b : Bool) → nat_lt (length f.place) 1024 ≡ b → (let change = if b then replaced f.number (joined f u slots c.next) c else ends TooDeep c in IsMove (program_meaning p input) v i g s change.after change.fill (grants_of_records change.dropped))
       by_depth true short = join_moves u slots end (ltb-true (length f.place) 1024 short)
       by_depth false long = deep_moves u slots end (ltb-false (length f.place) 1024 long)
 
@@ -132,7 +132,7 @@ module _ (m : Meaning) (v : View) (i : ℕ) (g : Grant) (s : Sub) (c : Content) 
   goes_on = shows.outcome ∙ ap outcome_of (record_goes_on c.progress r.grant r c.frames c.records there kept.sound.owed).0
 
   -- the other records were there
-  had_others : (k : Grant) → k ∈ grants_of (without_record r.grant c.records) → RecordOf s.content k
+  had_others : (k : Grant) → k ∈ grants_of_records (without_record r.grant c.records) → RecordOf s.content k
   had_others k listed = listed_shown s.content c k kept shows (left_listed r.grant k c.records listed)
 
   -- its own grant is settled with the others
@@ -148,37 +148,37 @@ module _ (m : Meaning) (v : View) (i : ℕ) (g : Grant) (s : Sub) (c : Content) 
       lost k (inr listed) at = settles.lost k listed at
 
   -- a number
-  value_moves : (x : ℤ) → result_to r.grant i (Some x) ∈ v.results → IsMove m v i g s (closed r (Value x) c).after (closed r (Value x) c).fill (r.grant ∷ grants_of (closed r (Value x) c).dropped)
+  value_moves : (x : ℤ) → result_to r.grant i (Some x) ∈ v.results → IsMove m v i g s (closed r (Value x) c).after (closed r (Value x) c).fill (r.grant ∷ grants_of_records (closed r (Value x) c).dropped)
   value_moves x told =
       let shown = shows.records r.grant r there in
       let lacks = (record_leaves c r kept.sound kept.frames kept.records there).lacks in
       let came : Arrived g s.content r.frame r.returns x others = value_arrives g s.content r.frame r.returns x others (record_cleared s.content c r shows there) goes_on had_others (is_awaited r.returns others lacks) in
       let cause : Cause m v i g s.content came.content (fill_of g (arrives r.returns x others).fill) = hears r.frame r.grant (return_of r.returns) x r.task.numbers shown.stolen shown.returns shown.holds.numbers told came.comes in
       let none = arrived_unstolen g s.content came.content r.frame (return_of r.returns) x (fill_of g (arrives r.returns x others).fill) came.comes in
-      let settles = with_own came.content (grants_of (arrives r.returns x others).dropped) none (λ n k at. (cause_records m v i g s.content came.content (fill_of g (arrives r.returns x others).fill) cause n k at).0) came.settles in
-      moved m v i g s c (arrives r.returns x others).after (arrives r.returns x others).fill (r.grant ∷ grants_of (arrives r.returns x others).dropped) came.content live shows came.shown (arrives_parent r.returns x others) (arrives_task r.returns x others) cause settles
+      let settles = with_own came.content (grants_of_records (arrives r.returns x others).dropped) none (λ n k at. (cause_records m v i g s.content came.content (fill_of g (arrives r.returns x others).fill) cause n k at).0) came.settles in
+      moved m v i g s c (arrives r.returns x others).after (arrives r.returns x others).fill (r.grant ∷ grants_of_records (arrives r.returns x others).dropped) came.content live shows came.shown (arrives_parent r.returns x others) (arrives_task r.returns x others) cause settles
 
   -- too deep
-  too_deep_moves : result_to r.grant i None ∈ v.results → IsMove m v i g s (closed r TooDeep c).after None (r.grant ∷ grants_of (without_record r.grant c.records))
+  too_deep_moves : result_to r.grant i None ∈ v.results → IsMove m v i g s (closed r TooDeep c).after None (r.grant ∷ grants_of_records (without_record r.grant c.records))
   too_deep_moves told =
       let shown = shows.records r.grant r there in
       let d = ended (cleared s.content r.frame) None in
-      let settles : Settles s.content d (grants_of (without_record r.grant c.records)) = record { had = had_others; lost = λ k listed at. none_some refl at.is } in
+      let settles : Settles s.content d (grants_of_records (without_record r.grant c.records)) = record { had = had_others; lost = λ k listed at. none_some refl at.is } in
       let none_left : Ends s.content d None None = record { outcome = refl; none = λ n. refl; unrecorded = λ n. refl; bare = λ n j. refl; next = refl; unfilled = refl } in
-      moved m v i g s c (closed r TooDeep c).after None (r.grant ∷ grants_of (without_record r.grant c.records)) d live shows (end_shown (cleared s.content r.frame) others TooDeep (record_cleared s.content c r shows there)) refl refl (hears_deep r.frame r.grant (return_of r.returns) shown.stolen shown.returns told none_left) (with_own d (grants_of (without_record r.grant c.records)) refl (λ n k at. absurd (none_some refl at)) settles)
+      moved m v i g s c (closed r TooDeep c).after None (r.grant ∷ grants_of_records (without_record r.grant c.records)) d live shows (end_shown (cleared s.content r.frame) others TooDeep (record_cleared s.content c r shows there)) refl refl (hears_deep r.frame r.grant (return_of r.returns) shown.stolen shown.returns told none_left) (with_own d (grants_of_records (without_record r.grant c.records)) refl (λ n k at. absurd (none_some refl at)) settles)
 
   -- whatever the outcome
-  pub result_moves : (o : Outcome) → result_to r.grant i (number_of o) ∈ v.results → IsMove m v i g s (closed r o c).after (closed r o c).fill (r.grant ∷ grants_of (closed r o c).dropped)
+  pub result_moves : (o : Outcome) → result_to r.grant i (outcome_number o) ∈ v.results → IsMove m v i g s (closed r o c).after (closed r o c).fill (r.grant ∷ grants_of_records (closed r o c).dropped)
   result_moves (Value x) told = value_moves x told
   result_moves TooDeep told = too_deep_moves told
 
 -- a content that ends
-pub end_is : (g : Grant) (t : Tables) (c : Content) (o : Outcome) → IsKept c → Shows t c → IsEnd g t c o
+pub end_is : (g : Grant) (t : Tables) (c : Content) (o : Outcome) → IsKept c → Shows t c → IsContentEnd g t c o
 end_is g t c o kept shows =
     let shown = end_shown t c o shows in
     record {
-      content = ended t (number_of o);
+      content = ended t (outcome_number o);
       shown = shown;
-      none_left = all_ends t (number_of o);
-      alters = alters_told g t (ended t (number_of o)) c (ends o c).after (grants_of c.records) shows shown refl refl (λ n k at. absurd (none_some refl at)) (all_settled t c (number_of o) kept shows);
+      none_left = all_ends t (outcome_number o);
+      alters = alters_told g t (ended t (outcome_number o)) c (ends o c).after (grants_of_records c.records) shows shown refl refl (λ n k at. absurd (none_some refl at)) (all_settled t c (outcome_number o) kept shows);
     }

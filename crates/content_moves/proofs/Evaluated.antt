@@ -9,17 +9,17 @@ use Rattle.ids.specs.declared.work.Frame.{Frame}
 use Rattle.kind_check.specs.Turns.{turn_of}
 use Rattle.body_eval.specs.Done.{DoneOf, IsEvaluated}
 use Rattle.frames.specs.Frames.{frame_in}
-use Rattle.sub_rules.specs.declared.change.Change.{Change}
+use Rattle.sub_rules.specs.declared.change.ContentChange.{ContentChange}
 use Rattle.sub_rules.specs.declared.change.SubError.{SubError}
 use Rattle.sub_rules.specs.declared.change.SubError.TheVariants.{Stale, Spent}
 use Rattle.sub_rules.specs.declared.content.Content.{Content}
-use Rattle.sub_rules.specs.Carrying.{exec, executed, holds_numbers, is_turn_of, within_numbers}
+use Rattle.sub_rules.specs.Carrying.{exec_content, executed, holds_numbers, is_turn_of, within_numbers}
 use Rattle.sub_rules.specs.Changes.{turned}
 use Rattle.run_tables.specs.View.{Sub, View}
 use Rattle.run_tables.specs.Facts.{Live}
 use Rattle.run_tables.specs.Program.{program_meaning}
 use Rattle.content_moves.specs.Shown.{Shows}
-use Rattle.content_moves.specs.Moved.{IsKept, IsMove, grants_of}
+use Rattle.content_moves.specs.Moved.{IsKept, IsMove, grants_of_records}
 use Rattle.content_moves.proofs.Apart.{own_number}
 use Rattle.content_moves.proofs.Carrying.{turn_moves}
 use Rattle.content_moves.proofs.Keeping.{turn_kept}
@@ -36,7 +36,7 @@ held_numbers (Some v ∷ slots) (n ∷ ns) holds =
     rw (same, held_numbers slots ns (and_parts (int_eq v n) (holds_numbers slots ns) holds).1) refl
 
 -- what a turn that is carried out is one of
-pub record IsCarried (d : DoneOf) (n : ℕ) (c : Content) (change : Change) : Type 0 where
+pub record IsCarried (d : DoneOf) (n : ℕ) (c : Content) (change : ContentChange) : Type 0 where
   pub frame : Frame
   pub there : frame_in frame.number c.frames ≡ Some frame
   pub thread : frame.thread ≡ d.thread
@@ -44,10 +44,10 @@ pub record IsCarried (d : DoneOf) (n : ℕ) (c : Content) (change : Change) : Ty
   pub is : turned frame d.turn c ≡ change
 
 -- so it is where it is carried out
-pub carried : (d : DoneOf) (n : ℕ) (c : Content) (change : Change) → exec d n c ≡ Ok change → IsCarried d n c change
+pub carried : (d : DoneOf) (n : ℕ) (c : Content) (change : ContentChange) → exec_content d n c ≡ Ok change → IsCarried d n c change
 carried d n c change is = by_frame (frame_in n c.frames) refl is
   where
-    by_next : (f : Frame) → frame_in n c.frames ≡ Some f → is_turn_of d f ≡ true → (b : Bool) → cond {A = Result Change SubError} b (Ok (turned f d.turn c)) (Err Spent) ≡ Ok change → IsCarried d n c change
+    by_next : (f : Frame) → frame_in n c.frames ≡ Some f → is_turn_of d f ≡ true → (b : Bool) → cond {A = Result ContentChange SubError} b (Ok (turned f d.turn c)) (Err Spent) ≡ Ok change → IsCarried d n c change
     by_next f there turn true at = record {
       frame = f;
       there = own_number n f c.frames there;
@@ -57,7 +57,7 @@ carried d n c change is = by_frame (frame_in n c.frames) refl is
     }
     by_next f there turn false at = cc
 
-    by_turn : (f : Frame) → frame_in n c.frames ≡ Some f → (b : Bool) → is_turn_of d f ≡ b → cond {A = Result Change SubError} b (within_numbers (turned f d.turn c)) (Err Stale) ≡ Ok change → IsCarried d n c change
+    by_turn : (f : Frame) → frame_in n c.frames ≡ Some f → (b : Bool) → is_turn_of d f ≡ b → cond {A = Result ContentChange SubError} b (within_numbers (turned f d.turn c)) (Err Stale) ≡ Ok change → IsCarried d n c change
     by_turn f there true turn at = by_next f there turn (nat_lt (turned f d.turn c).after.next (2 ^ 32)) at
     by_turn f there false turn at = cc
 
@@ -66,14 +66,14 @@ carried d n c change is = by_frame (frame_in n c.frames) refl is
     by_frame (Some f) there at = by_turn f there (is_turn_of d f) refl at
 
 -- carrying it out is a move
-pub exec_moves : (input : List ℤ) (v : View) (i : ℕ) (g : Grant) (s : Sub) (c : Content) (d : DoneOf) (n : ℕ) (change : Change) → Live v i g s → IsKept c → Shows s.content c → IsEvaluated d → exec d n c ≡ Ok change → IsMove (program_meaning d.program input) v i g s change.after change.fill (grants_of change.dropped)
+pub exec_moves : (input : List ℤ) (v : View) (i : ℕ) (g : Grant) (s : Sub) (c : Content) (d : DoneOf) (n : ℕ) (change : ContentChange) → Live v i g s → IsKept c → Shows s.content c → IsEvaluated d → exec_content d n c ≡ Ok change → IsMove (program_meaning d.program input) v i g s change.after change.fill (grants_of_records change.dropped)
 exec_moves input v i g s c d n change live kept shows evaluated is =
     let done = carried d n c change is in
     let end : turn_of d.program done.frame.thread d.numbers ≡ Some d.turn = rw done.thread evaluated.reached in
     rw (← done.is) (turn_moves d.program input v i g s c done.frame d.numbers live (record { kept = kept; shows = shows; there = done.there; full = done.full }) d.turn end)
 
 -- and keeps the content
-pub exec_kept : (c : Content) (d : DoneOf) (n : ℕ) (change : Change) → IsKept c → exec d n c ≡ Ok change → IsKept change.after
+pub exec_kept : (c : Content) (d : DoneOf) (n : ℕ) (change : ContentChange) → IsKept c → exec_content d n c ≡ Ok change → IsKept change.after
 exec_kept c d n change kept is =
     let done = carried d n c change is in
     rw (← done.is) (turn_kept c done.frame d.numbers kept done.there done.full d.turn)

@@ -12,9 +12,9 @@ ghost use Rattle.body_eval.specs.Done.{DoneOf, IsEvaluated};
 ghost use Rattle.serial_meaning.specs.Places.{Call, root};
 ghost use Rattle.frames.specs.Frames.{frame_in};
 ghost use Rattle.victim_records.specs.Records.{record_in};
-ghost use Rattle.sub_rules.specs.declared.change.Change.{Change};
+ghost use Rattle.sub_rules.specs.declared.change.ContentChange.{ContentChange};
 ghost use Rattle.sub_rules.specs.declared.content.Content.{Content};
-ghost use Rattle.sub_rules.specs.Carrying.{exec};
+ghost use Rattle.sub_rules.specs.Carrying.{exec_content};
 ghost use Rattle.sub_rules.specs.Content.{Ready, ready_in, granted_content};
 ghost use Rattle.sub_rules.specs.Changes.{turned, closed, granted_out, redone, with_parent, with_thief};
 ghost use Rattle.run_tables.specs.Tables.{◌∈◌};
@@ -22,12 +22,12 @@ ghost use Rattle.run_tables.specs.Content.{Content as Tables, given, rehost};
 ghost use Rattle.run_tables.specs.View.{Roster, Sub, View};
 ghost use Rattle.run_tables.specs.Facts.{Live, Resolves, RecordOf, result_to};
 ghost use Rattle.run_tables.specs.Guards.{MayAnswer};
-ghost use Rattle.run_tables.specs.Meaning.{Meaning, Fits};
+ghost use Rattle.run_tables.specs.Meaning.{Meaning, FitsMeaning};
 ghost use Rattle.run_tables.specs.Program.{program_meaning};
 ghost use Rattle.run_tables.specs.Moves.{alter};
 ghost use Rattle.run_tables.specs.Acts.{Act};
-ghost use Rattle.content_moves.specs.Shown.{number_of, Shows};
-ghost use Rattle.content_moves.specs.Moved.{IsKept, IsMove, IsBegun, IsGrantMove, IsEnd, next_grant, grants_of};
+ghost use Rattle.content_moves.specs.Shown.{outcome_number, Shows};
+ghost use Rattle.content_moves.specs.Moved.{IsKept, IsMove, BeginsTask, IsGrantMove, IsContentEnd, next_grant, grants_of_records};
 
 /// The turn of a ready frame is a move of a run of its program, however it ends: a number that it sends fills a slot or is the
 /// outcome, a join has its successor and its kids in the frame's place, and a join that is too deep ends the whole. Does
@@ -40,14 +40,14 @@ pub fn turns_are_moves()
         → frame_in f.number c.frames ≡ Some f
         → numbers_in f.slots ≡ Some numbers
         → turn_of p f.thread numbers ≡ Some turn
-        → IsMove (program_meaning p input) v i g s (turned f turn c).after (turned f turn c).fill (grants_of (turned f turn c).dropped) }
-    ensures executed { (input : List ℤ) (v : View) (i : ℕ) (g : Grant) (s : Sub) (c : Content) (d : DoneOf) (n : ℕ) (change : Change)
+        → IsMove (program_meaning p input) v i g s (turned f turn c).after (turned f turn c).fill (grants_of_records (turned f turn c).dropped) }
+    ensures executed { (input : List ℤ) (v : View) (i : ℕ) (g : Grant) (s : Sub) (c : Content) (d : DoneOf) (n : ℕ) (change : ContentChange)
         → Live v i g s
         → IsKept c
         → Shows s.content c
         → IsEvaluated d
-        → exec d n c ≡ Ok change
-        → IsMove (program_meaning d.program input) v i g s change.after change.fill (grants_of change.dropped) }
+        → exec_content d n c ≡ Ok change
+        → IsMove (program_meaning d.program input) v i g s change.after change.fill (grants_of_records change.dropped) }
 {}
 
 /// An outcome that comes for a record is a move, where a Result told it: the record is settled, and so are those that go where
@@ -58,8 +58,8 @@ pub fn results_are_moves()
         → IsKept c
         → Shows s.content c
         → record_in r.grant c.records ≡ Some r
-        → result_to r.grant i (number_of o) ∈ v.results
-        → IsMove m v i g s (closed r o c).after (closed r o c).fill (r.grant ∷ grants_of (closed r o c).dropped) }
+        → result_to r.grant i (outcome_number o) ∈ v.results
+        → IsMove m v i g s (closed r o c).after (closed r o c).fill (r.grant ∷ grants_of_records (closed r o c).dropped) }
 {}
 
 /// A record that is closed without an outcome, so that its frame is done again, is a move, which settles it. Does nothing.
@@ -87,10 +87,10 @@ pub fn grants_are_moves()
 /// There are tables with which a granted task begins, as a Grant sends them and its thief takes them. The first task of a
 /// program on an input is the one that a house grants in a run. Does nothing.
 pub fn tasks_begin()
-    ensures begun { (host : ℕ) (task : Task) → IsBegun host task }
+    ensures begun { (host : ℕ) (task : Task) → BeginsTask host task }
     ensures first { (p : Program) (input : List ℤ) (call : Call)
         → root p input ≡ Some call
-        → Fits (program_meaning p input) [] call.thread (λ j. given call.numbers j) }
+        → FitsMeaning (program_meaning p input) [] call.thread (λ j. given call.numbers j) }
 {}
 
 /// A content whose parent host is renamed is shown after the move that renames it; who holds a record's grant isn't in the
@@ -118,7 +118,7 @@ pub fn results_told_again_are_moves()
 
 /// A content that ends, with whatever outcome, is shown by tables in which nothing is left. Does nothing.
 pub fn ends_leave_nothing()
-    ensures { (g : Grant) (t : Tables) (c : Content) (o : Outcome) → IsKept c → Shows t c → IsEnd g t c o }
+    ensures { (g : Grant) (t : Tables) (c : Content) (o : Outcome) → IsKept c → Shows t c → IsContentEnd g t c o }
 {}
 
 /// What the holder of a content keeps of it stays so at each change, and holds of the content with which a task begins. Does
@@ -130,9 +130,9 @@ pub fn changes_keep_contents()
         → frame_in f.number c.frames ≡ Some f
         → numbers_in f.slots ≡ Some numbers
         → IsKept (turned f turn c).after }
-    ensures executed { (c : Content) (d : DoneOf) (n : ℕ) (change : Change)
+    ensures executed { (c : Content) (d : DoneOf) (n : ℕ) (change : ContentChange)
         → IsKept c
-        → exec d n c ≡ Ok change
+        → exec_content d n c ≡ Ok change
         → IsKept change.after }
     ensures closed { (c : Content) (r : Record) (o : Outcome)
         → IsKept c
@@ -170,6 +170,6 @@ pub fn records_are_shown()
     ensures listed { (t : Tables) (c : Content) (g : Grant)
         → IsKept c
         → Shows t c
-        → g ∈ grants_of c.records
+        → g ∈ grants_of_records c.records
         → RecordOf t g }
 {}

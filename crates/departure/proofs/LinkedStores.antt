@@ -1,10 +1,10 @@
 -- Names that are put into a store and taken from it, one after another.
-use Rattle.std.proofs.Common.{◌≡◌, ◌==◌, ℕ, ◌+◌, ◌<◌, ◌≤◌, ◌||◌, Bool, true, false, cond, List, [], ◌∷◌, ◌++◌, length, take, get_or, Option, Some, None, refl, sym, ap, ◌∙◌, arith}
+use Rattle.std.proofs.Common.{◌≡◌, ◌==◌, ℕ, ◌+◌, ◌<◌, ◌≤◌, ◌||◌, Bool, true, false, cond, List, [], ◌∷◌, ◌++◌, length, take, drop, get_or, Option, Some, None, refl, sym, ap, ◌∙◌, arith}
 use Rattle.std.specs.List.{sum_by}
 use Rattle.std.specs.Option.{is_some}
 use Rattle.std.specs.Ordering.{is_eq}
 use Rattle.std.proofs.lemmas.List.{take_more}
-use Rattle.std.proofs.lemmas.List.Sums.{sum_by_push, sum_by-take-le}
+use Rattle.std.proofs.lemmas.List.Sums.{sum_by_push, sum_by-drop_more, sum_by-take-drop, sum_by-take-le}
 use Rattle.ids.specs.Named.{Name, name_cmp, item_in, put_in, without_in}
 use Rattle.ids.specs.Names.{Grant}
 use Rattle.ids.specs.Naming.{name_of_grant, name_of_record}
@@ -58,24 +58,30 @@ kept_twice names kept i x d within is there h = record {
       omega (arith, times_more x x d names i within is, sum_by-take-le (λ (z : Name). one_if (same_name x z)) names (i + 1));
 }
 
--- a name that is there is taken
-pub taken_next : (names before rest : List Name) (i : ℕ) (x d : Name) → i < length names → x ≡ get_or names i d → AreInOrder itself rest → has x rest ≡ true → AreTaken (take i names) before rest → AreTaken (take (i + 1) names) before (without_in itself x rest)
+-- how often a name stands among those from a place on
+times_first_left : (n x d : Name) (names : List Name) (i : ℕ) → i < length names → x ≡ get_or names i d → times same_name n (drop i names) ≡ one_if (same_name n x) + times same_name n (drop (i + 1) names)
+times_first_left n x d names i within is =
+    let test = λ (y : Name). one_if (same_name n y) in
+    sum_by-drop_more test names i d within ∙ ap (λ (y : Name). test y + sum_by test (drop (i + 1) names)) (sym is)
+
+-- a name that is there is taken, where those behind it are
+pub taken_next : (names before rest : List Name) (i : ℕ) (x d : Name) → i < length names → x ≡ get_or names i d → AreInOrder itself rest → has x rest ≡ true → AreTaken (drop (i + 1) names) before rest → AreTaken (drop i names) before (without_in itself x rest)
 taken_next names before rest i x d within is order there h n = by_found (item_in itself x rest) refl there
   where
-    by_found : (o : Option Name) → item_in itself x rest ≡ o → is_some o ≡ true → times same_name n (without_in itself x rest) + times same_name n (take (i + 1) names) ≡ times same_name n before
+    by_found : (o : Option Name) → item_in itself x rest ≡ o → is_some o ≡ true → times same_name n (without_in itself x rest) + times same_name n (drop i names) ≡ times same_name n before
     by_found None found some = absurd cc
     by_found (Some y) found some =
-        let so_far = h n in omega (arith, times_more n x d names i within is, times_left n x y rest order found)
+        let so_far = h n in omega (arith, times_first_left n x d names i within is, times_left n x y rest order found)
 
 -- one that isn't there stands more often among all names than among those that were there
-pub taken_more : (names before rest : List Name) (i : ℕ) (x d : Name) → i < length names → x ≡ get_or names i d → has x rest ≡ false → AreTaken (take i names) before rest → HasMore names before
+pub taken_more : (names before rest : List Name) (i : ℕ) (x d : Name) → i < length names → x ≡ get_or names i d → has x rest ≡ false → AreTaken (drop (i + 1) names) before rest → HasMore names before
 taken_more names before rest i x d within is none h = record {
   name = x;
   more =
       let so_far = h x in
       let gone = absent x rest none in
       let here : one_if (same_name x x) ≡ 1 = rw (tells_name.itself x) refl in
-      omega (arith, times_more x x d names i within is, sum_by-take-le (λ (z : Name). one_if (same_name x z)) names (i + 1));
+      omega (arith, times_first_left x x d names i within is, sum_by-take-drop (λ (z : Name). one_if (same_name x z)) names i);
 }
 
 -- what a test of two lists answers

@@ -31,5 +31,5 @@ module _ (m : Move) (members : List Member) (subs : List SubOf) where
   by_size false = inl refl
 
   -- where memory is refused the sizes alone may be in the way
-  pub may_starve : (pending : Bool) → pending ≡ false → lacks_heir m members ≡ false → list_any is_last_hop subs ≡ false → (refusal m pending members subs ≡ None) ⊎ (refusal m pending members subs ≡ Some error.TooBig)
-  may_starve pending a b c = rw (a, b, c) (by_size (list_any is_too_big (offers m subs)))
+  pub may_lack_memory : (pending : Bool) → pending ≡ false → lacks_heir m members ≡ false → list_any is_last_hop subs ≡ false → (refusal m pending members subs ≡ None) ⊎ (refusal m pending members subs ≡ Some error.TooBig)
+  may_lack_memory pending a b c = rw (a, b, c) (by_size (list_any is_too_big (offers m subs)))

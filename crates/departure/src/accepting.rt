@@ -16,7 +16,9 @@ ghost use Rattle.departure.specs.Offers.{accepted, offered};
 
 use codec::Offer;
 use frames::Frames;
-use ids::{Frame, FrameNo, GrantId, Incarnation, Listed, Named, Progress, Record, Return, Store};
+use ids::{
+    Frame, FrameNo, GrantId, Incarnation, Listed, Named, Progress, Record, Return, SortedMap,
+};
 use kind_check::Checked;
 use std::alloc::{AllocError, Global};
 use std::marker::Model;
@@ -37,7 +39,7 @@ pub fn accept_offer(
     alloc: Global,
     checked: &Checked,
     own: Incarnation,
-    subs: &Store<Sub>,
+    subs: &SortedMap<Sub>,
     offer: Offer,
 ) -> Result<Option<Sub>, AllocError>
     requires { IsTrue (table.offer.fits offer) }
@@ -89,7 +91,7 @@ fn takes(checked: &Checked, thread: u8, count: usize) -> bool
 fn fits_node(
     alloc: Global,
     own: Incarnation,
-    subs: &Store<Sub>,
+    subs: &SortedMap<Sub>,
     offer: &Offer,
 ) -> Result<bool, AllocError>
     ensures { IfOk result (λ fits. fits ≡ fitting.progress_fits own subs.now (offered offer.now).content offer.now.progress) }
@@ -234,11 +236,11 @@ fn are_same(alloc: Global, left: &[Mark], right: &[Mark]) -> Result<bool, AllocE
     }
 }
 
-/// These names in a store; none where one of them stands there twice.
-fn kept(alloc: Global, names: &[Mark]) -> Result<Option<Store<Mark>>, AllocError>
+/// These names in a map; none where one of them stands there twice.
+fn kept(alloc: Global, names: &[Mark]) -> Result<Option<SortedMap<Mark>>, AllocError>
     ensures { IfOk result (λ o. MatchOption o (links.HasTwice names.now) (λ kept. links.AreKept names.now kept)) }
 {
-    let mut kept = Store::new(alloc);
+    let mut kept = SortedMap::new(alloc);
     for name in names {
         if kept.get(name.name()).is_some() {
             return Ok(None);
@@ -248,13 +250,16 @@ fn kept(alloc: Global, names: &[Mark]) -> Result<Option<Store<Mark>>, AllocError
     Ok(Some(kept))
 }
 
-/// Takes names away, up to the first that isn't there any more; whether all of them were there.
-fn take_each(rest: &mut Store<Mark>, names: &[Mark]) -> bool
+/// Takes names away, from the last one on, up to the first that isn't there any more; whether all of them were there. Names that
+/// rise, as those of frames and records do, are taken from the end of what is left, where no other has to move.
+fn take_each(rest: &mut SortedMap<Mark>, names: &[Mark]) -> bool
     ensures { MatchBool result (links.AreTaken names.now rest.old rest.new) (links.HasMore names.now rest.old) }
 {
-    for name in names {
-        rest.stand_in_order();
-        if rest.take(name.name()).is_none() {
+    let mut left = names.len();
+    while 0 < left {
+        left -= 1;
+        rest.law_stand_in_order();
+        if rest.take(names[left].name()).is_none() {
             return false;
         }
     }
@@ -262,10 +267,10 @@ fn take_each(rest: &mut Store<Mark>, names: &[Mark]) -> bool
 }
 
 /// The grants of which subcomputations have open records.
-fn held_grants(alloc: Global, subs: &Store<Sub>) -> Result<Store<Mark>, AllocError>
+fn held_grants(alloc: Global, subs: &SortedMap<Sub>) -> Result<SortedMap<Mark>, AllocError>
     ensures { IfOk result (λ held. (g : NameOfGrant) → is_some (item_in links.itself (name_of_grant g) held) ≡ is_some (host_in g subs.now)) }
 {
-    let mut held = Store::new(alloc);
+    let mut held = SortedMap::new(alloc);
     for sub in subs.values() {
         add_grants(&mut held, &sub.content().records)?;
     }
@@ -273,7 +278,7 @@ fn held_grants(alloc: Global, subs: &Store<Sub>) -> Result<Store<Mark>, AllocErr
 }
 
 /// Adds the grants of records.
-fn add_grants(held: &mut Store<Mark>, records: &Records) -> Result<(), AllocError>
+fn add_grants(held: &mut SortedMap<Mark>, records: &Records) -> Result<(), AllocError>
     ensures { OnOk result ((g : NameOfGrant) → is_some (item_in links.itself (name_of_grant g) held.new) ≡ (is_some (item_in links.itself (name_of_grant g) held.old) || is_some (record_in g records.now))) }
 {
     for record in records.values() {
@@ -283,14 +288,14 @@ fn add_grants(held: &mut Store<Mark>, records: &Records) -> Result<(), AllocErro
 }
 
 /// Whether no record's grant was minted at the node or is among those of which it has open records.
-fn all_foreign(own: Incarnation, held: &Store<Mark>, records: &[Record]) -> bool
+fn all_foreign(own: Incarnation, held: &SortedMap<Mark>, records: &[Record]) -> bool
     ensures { result ≡ list_all (λ r. not (nat_eq r.grant.minter own) && not (is_some (item_in links.itself (name_of_grant r.grant) held.now))) records.now }
 {
     (records.iter()).all(|record| is_foreign(own, held, record.grant))
 }
 
 /// Whether a grant wasn't minted at the node and isn't among those of which it has open records.
-fn is_foreign(own: Incarnation, held: &Store<Mark>, grant: GrantId) -> bool
+fn is_foreign(own: Incarnation, held: &SortedMap<Mark>, grant: GrantId) -> bool
     ensures { result ≡ (not (nat_eq grant.minter own) && not (is_some (item_in links.itself (name_of_grant grant) held.now))) }
 {
     grant.minter().word() != own.word() && held.get(Mark::grant(grant).name()).is_none()

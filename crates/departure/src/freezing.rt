@@ -12,7 +12,7 @@ ghost use Rattle.departure.specs.Typed.{FrameTyped, IsFew, RecordTyped, SubTyped
 
 use codec::{Body, Datagram, EncodeError, Offer, Packet};
 use frames::Frames;
-use ids::{Actor, Address, Frame, Incarnation, Listed, Member, Outcome, Record, Status, Store};
+use ids::{Actor, Address, Frame, Incarnation, Listed, Member, Outcome, Record, SortedMap, Status};
 use kind_check::Checked;
 use packet_fields::fits;
 use std::alloc::{AllocError, Global};
@@ -72,7 +72,7 @@ impl Move {
         checked: &Checked,
         is_pending: bool,
         members: &[Member],
-        subs: &Store<Sub>,
+        subs: &SortedMap<Sub>,
     ) -> Result<Listed<Datagram>, FreezeError>
         requires { AllFit checked.now subs.now }
         ensures answer { Freezes (refusal self.now is_pending members.now subs.now) (offers self.now subs.now) result }
@@ -99,7 +99,7 @@ impl Move {
         &self,
         alloc: Global,
         checked: &Checked,
-        subs: &Store<Sub>,
+        subs: &SortedMap<Sub>,
     ) -> Result<Listed<Datagram>, AllocError>
         requires fits { AllFit checked.now subs.now }
         requires movable { AreMovable self.now subs.now }
@@ -124,7 +124,7 @@ impl Move {
         &self,
         alloc: Global,
         checked: &Checked,
-        subs: &Store<Sub>,
+        subs: &SortedMap<Sub>,
     ) -> Result<Listed<Datagram>, EncodeError>
         requires fits { AllFit checked.now subs.now }
         requires hops { list_any is_last_hop subs.now ≡ false }
@@ -162,9 +162,9 @@ impl Move {
         requires hop { is_last_hop sub.now ≡ false }
         ensures { IfOk result (λ p. p ≡ offer self.now.job self.now.from self.now.heir sub.now) }
     {
-        what_fits_is_few(checked);
-        sub_is_typed(sub);
-        job_is_a_number(self.job);
+        law_what_fits_is_few(checked);
+        law_sub_is_typed(sub);
+        law_job_is_a_number(self.job);
         prove!(fits::worker(&self.from));
         let _ = self.heir.word();
         let offer = self.offer_of(alloc, sub)?;
@@ -209,7 +209,7 @@ fn is_live(members: &[Member], worker: Incarnation) -> bool
 }
 
 /// Whether a subcomputation has moved as often as is counted.
-fn has_last_hop(subs: &Store<Sub>) -> bool
+fn has_last_hop(subs: &SortedMap<Sub>) -> bool
     ensures { result ≡ list_any is_last_hop subs.now }
 {
     for sub in subs.values() {
@@ -227,7 +227,7 @@ fn copied_frames(alloc: Global, frames: &Frames) -> Result<Listed<Frame>, AllocE
 {
     let mut copies = Listed::with_capacity(alloc, frames.len())?;
     for frame in frames.values() {
-        frame_is_typed(frame);
+        law_frame_is_typed(frame);
         copies.push(frame.clone()?)?;
     }
     Ok(copies)
@@ -240,21 +240,21 @@ fn copied_records(alloc: Global, records: &Records) -> Result<Listed<Record>, Al
 {
     let mut copies = Listed::with_capacity(alloc, records.len())?;
     for kept in records.values() {
-        record_is_typed(kept);
+        law_record_is_typed(kept);
         copies.push(kept.clone()?)?;
     }
     Ok(copies)
 }
 
 /// The number of a job fits its type. Does nothing.
-fn job_is_a_number(job: u64)
+fn law_job_is_a_number(job: u64)
     ensures { job < 2 ^ 64 }
 {
     let _ = job;
 }
 
 /// What fits an accepted program has threads below 64, with at most 8 numbers or slots. Does nothing.
-fn what_fits_is_few(checked: &Checked)
+fn law_what_fits_is_few(checked: &Checked)
     ensures { (c : declared.Content) → Fits checked.now c → IsFew c }
 {
     kind_check::accepted_threads_are_few();
@@ -262,12 +262,12 @@ fn what_fits_is_few(checked: &Checked)
 }
 
 /// What the type of a subcomputation sees to. Does nothing.
-fn sub_is_typed(sub: &Sub)
+fn law_sub_is_typed(sub: &Sub)
     ensures { SubTyped sub.now }
 {
     let content = sub.content();
-    content.frames.stand_in_order();
-    content.records.stand_in_order();
+    content.frames.law_stand_in_order();
+    content.records.law_stand_in_order();
     prove!(fits::grant(&sub.grant()));
     prove!(fits::actor(&content.parent));
     prove!(fits::progress(&content.progress));
@@ -276,7 +276,7 @@ fn sub_is_typed(sub: &Sub)
 }
 
 /// What the type of a frame sees to. Does nothing.
-fn frame_is_typed(frame: &Frame)
+fn law_frame_is_typed(frame: &Frame)
     ensures { FrameTyped frame.now }
 {
     prove!(fits::place(&frame.place));
@@ -284,7 +284,7 @@ fn frame_is_typed(frame: &Frame)
 }
 
 /// What the type of a record sees to. Does nothing.
-fn record_is_typed(kept: &Record)
+fn law_record_is_typed(kept: &Record)
     ensures { RecordTyped kept.now }
 {
     prove!(fits::grant(&kept.grant));

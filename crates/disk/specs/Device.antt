@@ -1,7 +1,7 @@
 -- A device that holds one file, and what its calls make of it.
 use Rattle.std.specs.Prelude.{◌≡◌, ◌+◌, ◌%◌, ◌^◌, ℕ, zero, suc, Bool, IsTrue, List, [], Option, Some, None, IfSome, unwrap_or, refl}
 use Rattle.disk.specs.declared.cells.Cell.{Cell}
-use Rattle.disk.specs.File.{settled}
+use Rattle.disk.specs.File.{settled_file}
 
 -- what `arm` asked for: nothing; to let so many calls pass, and then to settle the file by these bytes and to stop; or the
 -- device has stopped
@@ -79,7 +79,7 @@ pub record Failed (old new : Device) (plan : Option (List ℕ)) : Type 0 where
   pub counted : new.failures ≡ (old.failures + 1) % 2 ^ 64
   pub one_call : new.arming ≡ called old.arming
   pub same : new.can_cut ≡ old.can_cut
-  pub settles : IsTrue old.can_cut → new.file ≡ settled old.file (unwrap_or plan (armed_bytes old.arming))
+  pub settles : IsTrue old.can_cut → new.file ≡ settled_file old.file (unwrap_or plan (armed_bytes old.arming))
 
 -- after `arm`
 abbrev pub armed : Device → ℕ → List ℕ → Device
@@ -87,4 +87,4 @@ armed d calls bytes = record d { arming = rearmed d.arming calls bytes }
 
 -- after `crash`: the file is settled by the bytes that `arm` gave, if any
 abbrev pub crashed : Device → Device
-crashed d = record d { file = settled d.file (armed_bytes d.arming); arming = Unarmed }
+crashed d = record d { file = settled_file d.file (armed_bytes d.arming); arming = Unarmed }

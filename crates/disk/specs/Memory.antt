@@ -1,7 +1,7 @@
 -- A device in memory.
 use Rattle.std.specs.Prelude.{ℕ, List, Option, true, ◌+◌, ◌%◌, ◌^◌}
 use Rattle.disk.specs.Device.{Arming, Unarmed, Armed, Stopped, Device, and_once, once_after, stop_after}
-use Rattle.disk.specs.File.{settled}
+use Rattle.disk.specs.File.{settled_file}
 use Rattle.disk.specs.declared.memory.Stop.{Stop}
 use Rattle.disk.specs.declared.memory.Stop.TheVariants.{Never, After, Now}
 use Rattle.disk.specs.declared.memory.MemDisk.{MemDisk}
@@ -19,7 +19,7 @@ device_of m = record { file = m.cells.items; arming = arming_of m.stop m.bytes.i
 
 -- with the file settled by these bytes
 abbrev pub settling : Device → List ℕ → Device
-settling d bytes = record d { file = settled d.file bytes }
+settling d bytes = record d { file = settled_file d.file bytes }
 
 -- with one more failure counted
 abbrev pub counting : Device → Device

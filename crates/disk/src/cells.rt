@@ -1,6 +1,6 @@
 //! A file in memory, and what becomes of it.
 ghost use Rattle.std.specs.Prelude.{◌≡◌, ◌+◌, ◌-◌, ◌<◌, ◌≤◌, ◌∷◌, ◌++◌, List, length, replicate, take, IfOk, OnOk, OnErr};
-ghost use Rattle.disk.specs.File.{blank_cell, bytes_of, over, settled, synced, written};
+ghost use Rattle.disk.specs.File.{blank_cell, bytes_of, over, settled_file, synced, written_file};
 
 use std::alloc::{AllocError, Global};
 
@@ -24,7 +24,7 @@ pub(crate) struct Cell {
 
 // Settles the first of the cells by the first of the bytes if it isn't synced. Answers the bytes that are left.
 fn settle_cell<'a>(cell: &mut Cell, bytes: &'a [u8]) -> &'a [u8]
-    ensures { (file : List Cell) → settled (cell.old ∷ file) bytes.now ≡ cell.new ∷ settled file result.now }
+    ensures { (file : List Cell) → settled_file (cell.old ∷ file) bytes.now ≡ cell.new ∷ settled_file file result.now }
 {
     if let Mark::Synced = cell.mark {
         return bytes;
@@ -41,7 +41,7 @@ fn settle_cell<'a>(cell: &mut Cell, bytes: &'a [u8]) -> &'a [u8]
 
 /// What isn't synced becomes the bytes in turn, and is synced.
 pub(crate) fn settle(cells: &mut Vec<Cell>, bytes: &[u8])
-    ensures { cells.new.items ≡ settled cells.old.items bytes.now }
+    ensures { cells.new.items ≡ settled_file cells.old.items bytes.now }
 {
     let mut rest = bytes;
     for cell in cells.iter_mut() {
@@ -89,7 +89,7 @@ fn write_over(cells: &mut [Cell], bytes: &[u8])
 // Writes bytes over cells that are there, from a place on.
 fn write_within(cells: &mut Vec<Cell>, at: usize, bytes: &[u8])
     requires { at + length bytes.now ≤ length cells.old.items }
-    ensures { cells.new.items ≡ written cells.old.items at bytes.now }
+    ensures { cells.new.items ≡ written_file cells.old.items at bytes.now }
 {
     write_over(&mut cells[at..], bytes);
 }
@@ -114,7 +114,7 @@ fn grow(cells: &mut Vec<Cell>, len: usize) -> Result<(), AllocError>
 /// more cells to be.
 pub(crate) fn write(cells: &mut Vec<Cell>, at: usize, bytes: &[u8]) -> Result<(), AllocError>
     requires { at ≤ length cells.old.items }
-    ensures ok { OnOk result (cells.new.items ≡ written cells.old.items at bytes.now) }
+    ensures ok { OnOk result (cells.new.items ≡ written_file cells.old.items at bytes.now) }
     ensures err { OnErr result (cells.new.items ≡ cells.old.items) }
     ensures growth { OnErr result (length cells.old.items < at + length bytes.now) }
 {

@@ -1,12 +1,12 @@
 ghost use Rattle.std.specs.Prelude.{◌≡◌, ◌⊎◌, ◌+◌, ◌<◌, ◌≤◌, List, ℕ, suc, Option, Some, None, IsSome, IsTrue, length, take, false, IfOk, IfSome, OnOk, OnErr};
 ghost use Rattle.disk.specs.Crash.{Only, Shrinks, Follows, Torn, Shortened};
 ghost use Rattle.disk.specs.Device.{Device, Failed, armed, crashed, passed, stop_after};
-ghost use Rattle.disk.specs.File.{CrashLeaves, bytes_of, synced, written};
+ghost use Rattle.disk.specs.File.{CrashLeaves, bytes_of, synced, written_file};
 
 use std::alloc::Global;
 use thiserror::Error;
 
-/// A call of a device failed: by the device, or for want of memory.
+/// A call of a device failed: by the device, or when out of memory.
 #[derive(Clone, Copy, Debug, PartialEq, Eq, Error)]
 #[error("E72")]
 pub struct DeviceFailed;
@@ -41,7 +41,7 @@ pub trait Disk {
     /// Writes bytes over those at a place, and past the end. It fails where that place is behind the end.
     fn write_at(&mut self, at: usize, bytes: &[u8]) -> Result<(), DeviceFailed>
         ensures place { OnOk result (at ≤ length (device self.old).file) }
-        ensures ok { OnOk result (device self.new ≡ passed (device self.old) (written (device self.old).file at bytes.now)) }
+        ensures ok { OnOk result (device self.new ≡ passed (device self.old) (written_file (device self.old).file at bytes.now)) }
         ensures err { OnErr result (Failed (device self.old) (device self.new) (planned self.old 0)) }
         ensures crash { Follows (Torn at (length bytes.now)) (CrashLeaves (device self.old).file) (CrashLeaves (device self.new).file) }
         ensures passes { OnOk result (planned self.old 0 ≡ None) }

@@ -26,7 +26,7 @@ pub struct MemDisk {
 
 impl MemDisk {
     ghost use Rattle.disk.specs.Device.{Failed, Unarmed, armed_bytes, passed, stop_after};
-    ghost use Rattle.disk.specs.File.{bytes_of, synced, written};
+    ghost use Rattle.disk.specs.File.{bytes_of, synced, written_file};
     ghost use Rattle.disk.specs.Memory.{counting, device_of, failing, settling};
 
     /// An empty file; takes no memory.
@@ -113,7 +113,7 @@ impl MemDisk {
     /// `write_at`, of a call that passes.
     pub(crate) fn write_now(&mut self, at: usize, bytes: &[u8]) -> Result<(), DeviceFailed>
         ensures place { OnOk result (at ≤ length (device_of self.old).file) }
-        ensures ok { OnOk result (device_of self.new ≡ record (device_of self.old) { file = written (device_of self.old).file at bytes.now }) }
+        ensures ok { OnOk result (device_of self.new ≡ record (device_of self.old) { file = written_file (device_of self.old).file at bytes.now }) }
         ensures err { OnErr result (device_of self.new ≡ failing (device_of self.old) (armed_bytes (device_of self.old).arming)) }
         ensures cause { OnErr result (length (device_of self.old).file < at + length bytes.now) }
     {

@@ -1,7 +1,8 @@
 //! Events of a world.
-ghost use Rattle.std.specs.Prelude.{◌≡◌, ◌<◌, nat_lt, Some, None, if◌then◌else◌};
+ghost use Rattle.std.specs.Prelude.{◌≡◌, ◌<◌, nat_lt, Some, None, IfOk, if◌then◌else◌};
 
 use ids::Listed;
+use std::alloc::{AllocError, Global};
 use std::marker::Model;
 
 /// How many places of nodes a world has.
@@ -89,6 +90,38 @@ pub struct Cut {
     pub event: HouseEvent,
 }
 
+/// A Cut in a place of its own: so an event stays small, of which a history keeps one a turn. Contracts see the Cut.
+#[derive(Drop)]
+pub struct BoxedCut {
+    cut: Box<Cut>,
+}
+
+impl Model for BoxedCut {
+    ghost use Rattle.event_script.specs.declared.event.Cut.{Cut};
+
+    ghost Value = { Cut };
+
+    ghost view = { λ b. b.cut.value };
+}
+
+impl BoxedCut {
+    /// The Cut in its place; refused only when out of memory.
+    pub fn new(alloc: Global, cut: Cut) -> Result<BoxedCut, AllocError>
+        ensures { IfOk result (λ boxed. boxed ≡ cut) }
+    {
+        Ok(BoxedCut {
+            cut: Box::new(alloc, cut)?,
+        })
+    }
+
+    /// The Cut.
+    pub fn as_ref(&self) -> &Cut
+        ensures { result.now ≡ self.now }
+    {
+        &self.cut
+    }
+}
+
 /// An event. Numbers that name nothing are events too, which change nothing.
 #[derive(Drop)]
 pub enum Event {
@@ -103,5 +136,5 @@ pub enum Event {
     /// The clearinghouse loses its memory.
     HouseCrash,
     /// It is stopped within an event.
-    Cut(Cut),
+    Cut(BoxedCut),
 }

@@ -3,11 +3,11 @@
 
 mod event;
 mod numbers;
-mod parts;
+mod pieces;
 mod reading;
 mod script;
 mod written;
 
-pub use event::{Asked, Cut, Event, FrameOf, HouseEvent, NodeEvent, NodePlace};
+pub use event::{Asked, BoxedCut, Cut, Event, FrameOf, HouseEvent, NodeEvent, NodePlace};
 pub use script::{Line, Script};
 pub use written::line;

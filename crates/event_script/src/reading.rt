@@ -2,12 +2,12 @@ ghost use Rattle.std.specs.Prelude.{◌≡◌, ◌≤◌, ◌∷◌, option_map,
 ghost use Rattle.event_script.specs.Lines as defined;
 ghost use Rattle.event_script.specs.Left.{told_event, found_line, is_cut};
 
-use crate::event::{Asked, Cut, Event, FrameOf, HouseEvent, NodeEvent, NodePlace};
+use crate::event::{Asked, BoxedCut, Cut, Event, FrameOf, HouseEvent, NodeEvent, NodePlace};
 use crate::numbers::{Hex, number};
-use crate::parts::Parts;
+use crate::pieces::Pieces;
 use std::alloc::{AllocError, Global};
 
-/// An event as a line says it, of which a Cut's bytes have no memory yet.
+/// An event as a line says it, of which a Cut has no memory yet, nor have its bytes.
 #[derive(Drop)]
 pub enum LineRead<'a> {
     /// After so many device calls, with these bytes left, an event of the clearinghouse is stopped.
@@ -24,17 +24,21 @@ pub enum Found<'a> {
 }
 
 impl<'a> LineRead<'a> {
-    /// The event; refused only when out of memory, which the bytes of a Cut take.
+    /// The event; refused only when out of memory, which a Cut takes, as do its bytes.
     pub fn event(self, alloc: Global) -> Result<Event, AllocError>
         ensures event { IfOk result (λ event. event ≡ told_event self.entry) }
         ensures cut { OnErr result (is_cut (told_event self.entry) ≡ true) }
     {
         match self {
-            LineRead::Stopped(calls, hex, event) => Ok(Event::Cut(Cut {
-                calls,
-                bytes: hex.listed(alloc)?,
-                event,
-            })),
+            LineRead::Stopped(calls, hex, event) => {
+                let bytes = hex.listed(alloc)?;
+                let cut = Cut {
+                    calls,
+                    bytes,
+                    event,
+                };
+                Ok(Event::Cut(BoxedCut::new(alloc, cut)?))
+            }
             LineRead::Whole(event) => Ok(event),
         }
     }
@@ -42,7 +46,7 @@ impl<'a> LineRead<'a> {
 
 /// The number that is the only word left.
 #[inline(always)]
-fn only_number(mut words: Parts<'_>) -> Option<u64>
+fn only_number(mut words: Pieces<'_>) -> Option<u64>
     ensures { result ≡ defined.only_number words.entry }
 {
     let n = number(words.next()?)?;
@@ -50,7 +54,7 @@ fn only_number(mut words: Parts<'_>) -> Option<u64>
 }
 
 #[inline(always)]
-fn frame_of(mut words: Parts<'_>) -> Option<FrameOf>
+fn frame_of(mut words: Pieces<'_>) -> Option<FrameOf>
     ensures { result ≡ defined.frame_of words.entry }
 {
     let minter = words.next()?;
@@ -77,7 +81,7 @@ fn asked(word: &[u8]) -> Option<Asked>
 }
 
 #[inline(always)]
-fn ask(mut words: Parts<'_>) -> Option<NodeEvent>
+fn ask(mut words: Pieces<'_>) -> Option<NodeEvent>
     ensures { result ≡ defined.ask words.entry }
 {
     let word = words.next()?;
@@ -88,7 +92,7 @@ fn ask(mut words: Parts<'_>) -> Option<NodeEvent>
     }
 }
 
-fn house_event(mut words: Parts<'_>) -> Option<HouseEvent>
+fn house_event(mut words: Pieces<'_>) -> Option<HouseEvent>
     ensures { result ≡ defined.house_event words.entry }
 {
     let name = words.next()?;
@@ -97,7 +101,7 @@ fn house_event(mut words: Parts<'_>) -> Option<HouseEvent>
 
 /// The event of the clearinghouse of this name, with the words behind it.
 #[inline(always)]
-fn house_event_of(name: &[u8], words: Parts<'_>) -> Option<HouseEvent>
+fn house_event_of(name: &[u8], words: Pieces<'_>) -> Option<HouseEvent>
     ensures { result ≡ defined.house_event (name.now ∷ words.entry) }
 {
     if name == b"house-deliver".as_slice() {
@@ -112,7 +116,7 @@ fn house_event_of(name: &[u8], words: Parts<'_>) -> Option<HouseEvent>
 }
 
 #[inline(always)]
-fn node_event(name: &[u8], words: Parts<'_>) -> Option<NodeEvent>
+fn node_event(name: &[u8], words: Pieces<'_>) -> Option<NodeEvent>
     ensures { result ≡ defined.node_event name.now words.entry }
 {
     if name == b"deliver".as_slice() {
@@ -145,7 +149,7 @@ fn place(places: u8, word: &[u8]) -> Option<NodePlace>
 }
 
 #[inline(always)]
-fn at_place(name: &[u8], place: NodePlace, words: Parts<'_>) -> Option<Event>
+fn at_place(name: &[u8], place: NodePlace, words: Pieces<'_>) -> Option<Event>
     ensures { result ≡ defined.at_place name.now place words.entry }
 {
     if name == b"start".as_slice() {
@@ -162,7 +166,7 @@ fn at_place(name: &[u8], place: NodePlace, words: Parts<'_>) -> Option<Event>
 }
 
 #[inline(always)]
-fn placed(places: u8, name: &[u8], mut words: Parts<'_>) -> Option<Event>
+fn placed(places: u8, name: &[u8], mut words: Pieces<'_>) -> Option<Event>
     requires { places ≤ 64 }
     ensures { result ≡ defined.placed places name.now words.entry }
 {
@@ -171,7 +175,7 @@ fn placed(places: u8, name: &[u8], mut words: Parts<'_>) -> Option<Event>
 }
 
 /// What a Cut says behind its name.
-fn cut<'a>(mut words: Parts<'a>) -> Option<LineRead<'a>>
+fn cut<'a>(mut words: Pieces<'a>) -> Option<LineRead<'a>>
     ensures { option_map told_event result ≡ defined.cut words.entry }
 {
     let calls = words.next()?;
@@ -179,7 +183,7 @@ fn cut<'a>(mut words: Parts<'a>) -> Option<LineRead<'a>>
     Some(LineRead::Stopped(number(calls)?, Hex::of(hex)?, house_event(words)?))
 }
 
-fn event_of<'a>(places: u8, words: Parts<'a>) -> Option<LineRead<'a>>
+fn event_of<'a>(places: u8, words: Pieces<'a>) -> Option<LineRead<'a>>
     requires { places ≤ 64 }
     ensures { option_map told_event result ≡ defined.event_of places words.entry }
 {
@@ -230,7 +234,7 @@ pub fn read<'a>(places: u8, line: &'a [u8]) -> Found<'a>
     if is_skipped(line) {
         return Found::Skipped;
     }
-    match event_of(places, Parts::of(b' ', line)) {
+    match event_of(places, Pieces::of(b' ', line)) {
         Some(told) => Found::Says(told),
         None => Found::Refused,
     }

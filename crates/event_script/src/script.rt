@@ -6,7 +6,7 @@ ghost use Rattle.event_script.specs.Scripts.{script, places};
 ghost use Rattle.event_script.specs.Words.{lines, next_left};
 
 use crate::event::{Event, PLACES};
-use crate::parts::Parts;
+use crate::pieces::Pieces;
 use crate::reading::{Found, is_ascii, read};
 use std::alloc::{AllocError, Global};
 use std::marker::Model;
@@ -48,7 +48,7 @@ impl Line {
 #[derive(Drop)]
 pub struct Script<'a> {
     places: u8,
-    lines: Parts<'a>,
+    lines: Pieces<'a>,
 }
 
 impl<'a> Model for Script<'a> {
@@ -69,7 +69,7 @@ fn places_of(text: &[u8]) -> u8
     ensures few { result ≡ places (lines text.now) }
     ensures within { result ≤ 64 }
 {
-    match Parts::of(b'\n', text).next_line() {
+    match Pieces::of(b'\n', text).next() {
         Some(first) if first == b"# nodes 64".as_slice() => PLACES,
         _ => FEW_PLACES,
     }
@@ -94,8 +94,8 @@ fn is_read(all_ascii: bool, places: u8, line: &[u8]) -> bool
 fn first_event<'a>(
     alloc: Global,
     places: u8,
-    lines: &Parts<'a>,
-) -> Result<(Option<Event>, Parts<'a>), AllocError>
+    lines: &Pieces<'a>,
+) -> Result<(Option<Event>, Pieces<'a>), AllocError>
     requires few { places ≤ 64 }
     requires read { all_read places lines.now ≡ true }
     ensures first { IfOk result (λ r. next_left r.0 (events_of places lines.now) (events_of places r.1)) }
@@ -103,7 +103,7 @@ fn first_event<'a>(
     ensures cut { OnErr result (is_cut_next (events_of places lines.now) ≡ true) }
 {
     let mut left = lines.again();
-    while let Some(line) = left.next_line() {
+    while let Some(line) = left.next() {
         match read(places, line) {
             Found::Says(told) => return Ok((Some(told.event(alloc)?), left)),
             Found::Skipped => {}
@@ -123,9 +123,9 @@ impl<'a> Script<'a> {
     {
         let places = places_of(text);
         let all_ascii = is_ascii(text);
-        let mut left = Parts::of(b'\n', text);
+        let mut left = Pieces::of(b'\n', text);
         let mut number = 0;
-        while let Some(line) = left.next_line() {
+        while let Some(line) = left.next() {
             number += 1;
             if !is_read(all_ascii, places, line) {
                 return Err(Line { number });
@@ -133,12 +133,12 @@ impl<'a> Script<'a> {
         }
         Ok(Script {
             places,
-            lines: Parts::of(b'\n', text),
+            lines: Pieces::of(b'\n', text),
         })
     }
 
-    /// Takes the next event; none behind the last. Refused only when out of memory, which the bytes of a Cut take: the next event
-    /// is a Cut then, and nothing changes.
+    /// Takes the next event; none behind the last. Refused only when out of memory, which a Cut takes, as do its bytes: the next
+    /// event is a Cut then, and nothing changes.
     pub fn next(&mut self, alloc: Global) -> Result<Option<Event>, AllocError>
         ensures next { IfOk result (λ event. next_left event self.old self.new) }
         ensures err { OnErr result (self.new ≡ self.old) }

@@ -6,7 +6,11 @@ ghost use Rattle.event_script.specs.Back.{AreRead, IsRead, IsReadHouse};
 ghost use Rattle.event_script.specs.Written.{written, written_bytes, spaced, house_words, node_words, hex_code};
 
 use crate::event::{Asked, Cut, Event, HouseEvent, NodeEvent, NodePlace};
+use itoa::Buffer;
 use std::alloc::{AllocError, Global};
+
+/// As many bytes as most lines have at most.
+const SHORT: usize = 64;
 
 /// Adds a word behind others.
 fn word(out: &mut Vec<u8>, word: &[u8]) -> Result<(), AllocError>
@@ -17,11 +21,12 @@ fn word(out: &mut Vec<u8>, word: &[u8]) -> Result<(), AllocError>
 }
 
 /// Adds a number behind other words.
-fn number(alloc: Global, out: &mut Vec<u8>, n: u64) -> Result<(), AllocError>
+fn number(out: &mut Vec<u8>, n: u64) -> Result<(), AllocError>
     ensures fits { n < 2 ^ 64 }
     ensures written { IfOk result (λ _. out.new.items ≡ out.old.items ++ 32 ∷ decimal n) }
 {
-    word(out, n.to_string(alloc)?.as_bytes())
+    let mut digits = Buffer::new();
+    word(out, digits.format(n).as_bytes())
 }
 
 fn hex_code(d: u8) -> u8
@@ -49,18 +54,18 @@ fn bytes(out: &mut Vec<u8>, bytes: &[u8]) -> Result<(), AllocError>
 }
 
 /// Adds the words of an event of the clearinghouse.
-fn house(alloc: Global, out: &mut Vec<u8>, event: HouseEvent) -> Result<(), AllocError>
+fn house(out: &mut Vec<u8>, event: HouseEvent) -> Result<(), AllocError>
     ensures read { IfOk result (λ _. IsReadHouse event) }
     ensures written { IfOk result (λ _. out.new.items ≡ out.old.items ++ spaced (house_words event)) }
 {
     match event {
         HouseEvent::Deliver(packet) => {
             out.extend_from_slice(b"house-deliver")?;
-            number(alloc, out, packet)?;
+            number(out, packet)?;
         }
         HouseEvent::Tick(moment) => {
             out.extend_from_slice(b"house-tick")?;
-            number(alloc, out, moment)?;
+            number(out, moment)?;
         }
         HouseEvent::Restart => out.extend_from_slice(b"house-restart")?,
     }
@@ -68,107 +73,97 @@ fn house(alloc: Global, out: &mut Vec<u8>, event: HouseEvent) -> Result<(), Allo
 }
 
 /// Adds a name and a place.
-fn at_place(
-    alloc: Global,
-    out: &mut Vec<u8>,
-    name: &[u8],
-    place: NodePlace,
-) -> Result<(), AllocError>
+fn at_place(out: &mut Vec<u8>, name: &[u8], place: NodePlace) -> Result<(), AllocError>
     ensures within { place < 64 }
     ensures written { IfOk result (λ _. out.new.items ≡ out.old.items ++ name.now ++ 32 ∷ decimal place) }
 {
     out.extend_from_slice(name)?;
-    number(alloc, out, u64::from(place.index()))
+    number(out, u64::from(place.index()))
 }
 
 /// Adds the words of a node that asks.
-fn ask(alloc: Global, out: &mut Vec<u8>, place: NodePlace, whom: Asked) -> Result<(), AllocError>
+fn ask(out: &mut Vec<u8>, place: NodePlace, whom: Asked) -> Result<(), AllocError>
     ensures read { IfOk result (λ _. IsRead (Event.AtNode place (NodeEvent.Ask whom))) }
     ensures written { IfOk result (λ _. out.new.items ≡ out.old.items ++ spaced (node_words place (NodeEvent.Ask whom))) }
 {
-    at_place(alloc, out, b"ask", place)?;
+    at_place(out, b"ask", place)?;
     match whom {
         Asked::House => word(out, b"house")?,
-        Asked::Worker(start) => number(alloc, out, start)?,
+        Asked::Worker(start) => number(out, start)?,
     }
     Ok(())
 }
 
 /// Adds the words of what comes to the node of a place.
-fn node(
-    alloc: Global,
-    out: &mut Vec<u8>,
-    place: NodePlace,
-    event: NodeEvent,
-) -> Result<(), AllocError>
+fn node(out: &mut Vec<u8>, place: NodePlace, event: NodeEvent) -> Result<(), AllocError>
     ensures read { IfOk result (λ _. IsRead (Event.AtNode place event)) }
     ensures written { IfOk result (λ _. out.new.items ≡ out.old.items ++ spaced (node_words place event)) }
 {
     match event {
         NodeEvent::Deliver(packet) => {
-            at_place(alloc, out, b"deliver", place)?;
-            number(alloc, out, packet)?;
+            at_place(out, b"deliver", place)?;
+            number(out, packet)?;
         }
         NodeEvent::Exec(frame) => {
-            at_place(alloc, out, b"exec", place)?;
-            number(alloc, out, frame.minter)?;
-            number(alloc, out, frame.number)?;
-            number(alloc, out, frame.frame)?;
+            at_place(out, b"exec", place)?;
+            number(out, frame.minter)?;
+            number(out, frame.number)?;
+            number(out, frame.frame)?;
         }
-        NodeEvent::Ask(whom) => ask(alloc, out, place, whom)?,
-        NodeEvent::Resend => at_place(alloc, out, b"resend", place)?,
+        NodeEvent::Ask(whom) => ask(out, place, whom)?,
+        NodeEvent::Resend => at_place(out, b"resend", place)?,
         NodeEvent::Depart(heir) => {
-            at_place(alloc, out, b"depart", place)?;
-            number(alloc, out, heir)?;
+            at_place(out, b"depart", place)?;
+            number(out, heir)?;
         }
     }
     Ok(())
 }
 
 /// Adds the words of a start.
-fn start(alloc: Global, out: &mut Vec<u8>, place: NodePlace, word: u64) -> Result<(), AllocError>
+fn start(out: &mut Vec<u8>, place: NodePlace, word: u64) -> Result<(), AllocError>
     ensures read { IfOk result (λ _. IsRead (Event.Start place word)) }
     ensures written { IfOk result (λ _. out.new.items ≡ out.old.items ++ written (Event.Start place word)) }
 {
-    at_place(alloc, out, b"start", place)?;
-    number(alloc, out, word)?;
+    at_place(out, b"start", place)?;
+    number(out, word)?;
     Ok(())
 }
 
 /// Adds the words of a crash.
-fn crash(alloc: Global, out: &mut Vec<u8>, place: NodePlace) -> Result<(), AllocError>
+fn crash(out: &mut Vec<u8>, place: NodePlace) -> Result<(), AllocError>
     ensures read { IfOk result (λ _. IsRead (Event.Crash place)) }
     ensures written { IfOk result (λ _. out.new.items ≡ out.old.items ++ written (Event.Crash place)) }
 {
-    at_place(alloc, out, b"crash", place)?;
+    at_place(out, b"crash", place)?;
     Ok(())
 }
 
 /// Adds the words of a Cut.
-fn cut(alloc: Global, out: &mut Vec<u8>, cut: &Cut) -> Result<(), AllocError>
+fn cut(out: &mut Vec<u8>, cut: &Cut) -> Result<(), AllocError>
     ensures read { IfOk result (λ _. IsRead (Event.Cut cut.now)) }
     ensures written { IfOk result (λ _. out.new.items ≡ out.old.items ++ written (Event.Cut cut.now)) }
 {
     out.extend_from_slice(b"cut")?;
-    number(alloc, out, cut.calls)?;
+    number(out, cut.calls)?;
     bytes(out, cut.bytes.as_slice())?;
     out.push(b' ')?;
-    house(alloc, out, cut.event)?;
+    house(out, cut.event)?;
     Ok(())
 }
 
 /// Adds the words of an event.
-fn each(alloc: Global, out: &mut Vec<u8>, event: &Event) -> Result<(), AllocError>
+fn each(out: &mut Vec<u8>, event: &Event) -> Result<(), AllocError>
     ensures read { IfOk result (λ _. IsRead event.now) }
     ensures written { IfOk result (λ _. out.new.items ≡ out.old.items ++ written event.now) }
 {
     match event {
-        Event::Start(place, word) => start(alloc, out, *place, *word)?,
-        Event::AtNode(place, event) => node(alloc, out, *place, *event)?,
-        Event::Crash(place) => crash(alloc, out, *place)?,
-        Event::AtHouse(event) => house(alloc, out, *event)?,
+        Event::Start(place, word) => start(out, *place, *word)?,
+        Event::AtNode(place, event) => node(out, *place, *event)?,
+        Event::Crash(place) => crash(out, *place)?,
+        Event::AtHouse(event) => house(out, *event)?,
         Event::HouseCrash => out.extend_from_slice(b"house-crash")?,
-        Event::Cut(stopped) => cut(alloc, out, stopped)?,
+        Event::Cut(stopped) => cut(out, stopped.as_ref())?,
     }
     Ok(())
 }
@@ -179,7 +174,7 @@ pub fn line(alloc: Global, event: &Event) -> Result<Vec<u8>, AllocError>
     ensures written { IfOk result (λ bytes. bytes.items ≡ written event.now) }
     ensures read { IfOk result (λ bytes. line_of 64 bytes.items ≡ Says event.now) }
 {
-    let mut out = Vec::new(alloc);
-    each(alloc, &mut out, event)?;
+    let mut out = Vec::with_capacity(alloc, SHORT)?;
+    each(&mut out, event)?;
     Ok(out)
 }

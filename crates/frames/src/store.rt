@@ -3,7 +3,7 @@ ghost use Rattle.ids.specs.Naming.{name_of_frame};
 ghost use Rattle.ids.specs.Ordered.{AreInOrder};
 ghost use Rattle.frames.specs.Frames.{frame_in, put_frame, without_frame, missing_of, missing_in, is_empty_of, is_vacant, fill_of, filling, if_ready, with_slot, readiness, readiness_of, AreBelow, AreNumbered};
 
-use ids::{Change, Frame, FrameNo, Store, Values};
+use ids::{Frame, FrameNo, ItemChange, SortedMap, Values};
 use std::alloc::{AllocError, Global};
 use std::marker::Model;
 
@@ -17,7 +17,7 @@ pub enum Filled {
 /// The frames of one subcomputation, each number once. Contracts see the list of them, by rising number.
 #[derive(Drop)]
 pub struct Frames {
-    frames: Store<Frame>,
+    frames: SortedMap<Frame>,
 }
 
 impl Model for Frames {
@@ -35,7 +35,7 @@ impl Frames {
         ensures { result ≡ [] }
     {
         Frames {
-            frames: Store::new(alloc),
+            frames: SortedMap::new(alloc),
         }
     }
 
@@ -54,10 +54,10 @@ impl Frames {
     }
 
     /// The frames stand by rising number, each number once. Does nothing.
-    pub fn stand_in_order(&self)
+    pub fn law_stand_in_order(&self)
         ensures { AreInOrder name_of_frame self.now }
     {
-        self.frames.stand_in_order();
+        self.frames.law_stand_in_order();
     }
 
     /// The frame of a number, if there is one.
@@ -68,7 +68,7 @@ impl Frames {
         self.frames.get(name(number))
     }
 
-    /// Puts a frame under its number, in the place of one that is there; refused for want of memory alone, which changes
+    /// Puts a frame under its number, in the place of one that is there; refused only when out of memory, which changes
     /// nothing.
     pub fn insert(&mut self, frame: Frame) -> Result<(), AllocError>
         ensures ok { OnOk result (self.new ≡ put_frame frame self.old) }
@@ -77,15 +77,15 @@ impl Frames {
         self.frames.put(frame)
     }
 
-    /// Adds the frames of a join, numbered from `first` on, which is above all numbers that are there; refused for want of
-    /// memory alone, which changes nothing.
+    /// Adds the frames of a join, numbered from `first` on, which is above all numbers that are there; refused only when out of
+    /// memory, which changes nothing.
     pub fn insert_join(&mut self, first: FrameNo, frames: Vec<Frame>) -> Result<(), AllocError>
         requires below { AreBelow first self.old }
         requires numbered { AreNumbered first frames.items }
         ensures ok { OnOk result (self.new ≡ self.old ++ frames.items) }
         ensures err { OnErr result (self.new ≡ self.old) }
     {
-        self.stand_in_order();
+        self.law_stand_in_order();
         self.frames.append(frames)
     }
 
@@ -168,7 +168,7 @@ struct Fill {
     value: i64,
 }
 
-impl Change<Frame> for Fill {
+impl ItemChange<Frame> for Fill {
     ghost fits = { λ fill frame. IsTrue (is_vacant (slice_get frame.slots fill.slot)) };
 
     ghost changed = { λ fill frame. with_slot fill.slot fill.value frame };

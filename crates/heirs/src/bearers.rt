@@ -9,7 +9,7 @@ mod following;
 
 use chains::{Chain, after_steps, first_step, guessed, listed};
 pub use following::bearer_of;
-use ids::{Actor, Incarnation, Member, Named, Store};
+use ids::{Actor, Incarnation, Member, Named, SortedMap};
 use std::alloc::{AllocError, Global};
 use std::marker::Model;
 
@@ -32,7 +32,7 @@ impl Named for Bearing {
 /// Who has the work of each worker of a roster. Contracts see the table, by rising worker.
 #[derive(Drop)]
 pub struct Bearers {
-    table: Store<Bearing>,
+    table: SortedMap<Bearing>,
 }
 
 impl Model for Bearers {
@@ -46,12 +46,12 @@ impl Model for Bearers {
 
 impl Bearers {
     /// Looks through a roster's members once: time about their number, times its logarithm, however long the chains of
-    /// heirs are. Refused for want of memory alone.
+    /// heirs are. Refused only when out of memory.
     pub fn of(alloc: Global, members: &[Member]) -> Result<Bearers, AllocError>
         ensures { IfOk result (λ b. (i : ℕ) → bearer_in i b ≡ resolve members.now i) }
     {
         let table = first_step(alloc, members)?;
-        table.stand_in_order();
+        table.law_stand_in_order();
         let chains = listed(alloc, &table)?;
         let step = guessed(alloc, chains.as_slice())?;
         let chains = after_steps(alloc, &step, members.len() + 1)?;
@@ -73,11 +73,11 @@ impl Bearers {
 }
 
 /// Who has the work at the end of each chain, of chains by rising worker.
-fn ends(alloc: Global, chains: &[Chain]) -> Result<Store<Bearing>, AllocError>
+fn ends(alloc: Global, chains: &[Chain]) -> Result<SortedMap<Bearing>, AllocError>
     requires { AreInOrder name_of_chain chains.now }
     ensures { IfOk result (λ table. table ≡ map bearing_of chains.now) }
 {
-    let mut table = Store::new(alloc);
+    let mut table = SortedMap::new(alloc);
     for chain in chains {
         table.put(Bearing {
             worker: chain.worker,

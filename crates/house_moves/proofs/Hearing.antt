@@ -36,7 +36,7 @@ use Rattle.actor_moves.proofs.Sent.{all_kept}
 use Rattle.node_moves.specs.Shows.{RosterShown}
 use Rattle.node_moves.proofs.Told.{one_shown}
 use Rattle.house_moves.specs.Shows.{OpenShown}
-use Rattle.house_moves.specs.Steps.{HouseStepShown, HouseAnswerShown, meaning_of}
+use Rattle.house_moves.specs.Steps.{HouseStepShown, HouseAnswerShown, tables_meaning}
 use Rattle.house_moves.proofs.Listed.{kept_found, mapped_status, status_kept}
 use Rattle.house_moves.proofs.Joining.{new_joined_shown}
 use Rattle.house_moves.proofs.Then.{quietly}
@@ -86,7 +86,7 @@ module _ (i moment : ℕ) where
   heard_live [] = refl
   heard_live (w ∷ ws) = let here : one_if (says_live (Some (hear_at i moment w).status)) ≡ one_if (says_live (Some w.status)) = ap (λ x. one_if (says_live (Some x))) (same_status w) in let rest = heard_live ws in omega (arith, here, rest)
 
-module _ (job : JobOf) (v : View) (run : Run (meaning_of job) v) (h : HouseOf) (s : OpenShown v h) where
+module _ (job : JobOf) (v : View) (run : Run (tables_meaning job) v) (h : HouseOf) (s : OpenShown v h) where
   -- somebody is heard
   pub hears_shown : (i : ℕ) → AreInOrder name_of_enlisted h.workers → OpenShown v (moves.hears i h)
   hears_shown i rising =
@@ -106,10 +106,10 @@ module _ (job : JobOf) (v : View) (run : Run (meaning_of job) v) (h : HouseOf) (
   }
 
 -- a step that tells a worker who is listed
-pub tells_shown : (job : JobOf) (v : View) (run : Run (meaning_of job) v) (i : ℕ) (h k : HouseOf) → name_of h ≡ name_of k → OpenShown v k → HouseStepShown job v h (moves.tells job i k)
+pub tells_shown : (job : JobOf) (v : View) (run : Run (tables_meaning job) v) (i : ℕ) (h k : HouseOf) → name_of h ≡ name_of k → OpenShown v k → HouseStepShown job v h (moves.tells job i k)
 tells_shown job v run i h k name s = record { view = v; run = λ x. x; since = λ base x. x; keeps = all_kept v; others = λ j apart. all_same v j; used = refl; same_name = name; after = s; sent = one_shown v (moves.roster_for job i k) (told_shown job v run k s i); transfers = λ t m. inl m; fills = refl; keeps_transfers = λ k e. cc }
 
-module _ (job : JobOf) (v : View) (run : Run (meaning_of job) v) (h : HouseOf) (s : OpenShown v h) (rising : AreInOrder name_of_enlisted h.workers) where
+module _ (job : JobOf) (v : View) (run : Run (tables_meaning job) v) (h : HouseOf) (s : OpenShown v h) (rising : AreInOrder name_of_enlisted h.workers) where
   -- a Join
   pub joined_shown : (i : ℕ) → i ∈ v.used → of_worker i ≡ true → HouseAnswerShown job v h (cases.joined job i h)
   unfolding cases.by_status

@@ -24,11 +24,11 @@ use Rattle.run_tables.proofs.Lists.{same_or}
 use Rattle.node_moves.proofs.Told.{one_shown}
 use Rattle.run_tables.specs.Moves.{publish}
 use Rattle.house_moves.specs.Shows.{OpenShown}
-use Rattle.house_moves.specs.Steps.{HouseStepShown, HouseAnswerShown, meaning_of}
+use Rattle.house_moves.specs.Steps.{HouseStepShown, HouseAnswerShown, tables_meaning}
 use Rattle.house_moves.proofs.Listed.{kept_found, status_kept}
 use Rattle.house_moves.proofs.Publishing.{IsNext, next_roster, publishes_shown, tells_next}
 
-module _ (job : JobOf) (v : View) (run : Run (meaning_of job) v) (h : HouseOf) (s : OpenShown v h) (i : ℕ) (unlisted : status_in i (members_of h) ≡ None) (used : i ∈ v.used) (worker : of_worker i ≡ true) where
+module _ (job : JobOf) (v : View) (run : Run (tables_meaning job) v) (h : HouseOf) (s : OpenShown v h) (i : ℕ) (unlisted : status_in i (members_of h) ≡ None) (used : i ∈ v.used) (worker : of_worker i ≡ true) where
   abbrev new : Enlisted
   new = record { incarnation = i; status = member.Live; heard = h.moment }
 

@@ -28,7 +28,7 @@ use Rattle.run_tables.specs.Runs.{Run}
 use Rattle.run_tables.proofs.Lists.{same_or, some_same}
 use Rattle.node_moves.proofs.Told.{one_shown}
 use Rattle.house_moves.specs.Shows.{OpenShown}
-use Rattle.house_moves.specs.Steps.{HouseStepShown, HouseAnswerShown, meaning_of}
+use Rattle.house_moves.specs.Steps.{HouseStepShown, HouseAnswerShown, tables_meaning}
 use Rattle.house_moves.proofs.Hearing.{tells_shown}
 use Rattle.house_moves.proofs.Listed.{kept_found, mapped_status, status_kept}
 use Rattle.house_moves.proofs.Mapping.{Goes, stands, dies, leaves_to, next_by_map}
@@ -43,7 +43,7 @@ live_is (Some member.Live) e = refl
 live_is (Some member.Dead) e = cc
 live_is (Some (member.Left heir)) e = cc
 
-module _ (job : JobOf) (v : View) (run : Run (meaning_of job) v) (h : HouseOf) (s : OpenShown v h) (rising : AreInOrder name_of_enlisted h.workers) (b : Leave) (live : status_in b.from (members_of h) ≡ Some member.Live) (said : record { from = b.from; heir = b.heir; epoch = h.epoch } ∈ v.leaves) where
+module _ (job : JobOf) (v : View) (run : Run (tables_meaning job) v) (h : HouseOf) (s : OpenShown v h) (rising : AreInOrder name_of_enlisted h.workers) (b : Leave) (live : status_in b.from (members_of h) ≡ Some member.Live) (said : record { from = b.from; heir = b.heir; epoch = h.epoch } ∈ v.leaves) where
   abbrev status : Status
   status = moves.leaving_status b.from b.heir (members_of h)
 
@@ -129,7 +129,7 @@ module _ (job : JobOf) (v : View) (run : Run (meaning_of job) v) (h : HouseOf) (
       rw everywhere (then_shown job v h (house.sends (moves.roster_for job b.from (moves.with_workers ws h) ∷ []) (moves.with_workers ws h)) (moves.settles job (moves.with_workers ws h)) (settles_quiet job (moves.with_workers ws h)) told (settles_shown job told.view (moves.with_workers ws h) told.after))
 
 -- a Leave, which was said to this clearinghouse
-pub left_shown_by : (job : JobOf) (v : View) (run : Run (meaning_of job) v) (h : HouseOf) (s : OpenShown v h) → AreInOrder name_of_enlisted h.workers → (b : Leave) → (record { from = b.from; heir = b.heir; epoch = h.epoch } ∈ v.leaves) → HouseAnswerShown job v h (cases.left job b h)
+pub left_shown_by : (job : JobOf) (v : View) (run : Run (tables_meaning job) v) (h : HouseOf) (s : OpenShown v h) → AreInOrder name_of_enlisted h.workers → (b : Leave) → (record { from = b.from; heir = b.heir; epoch = h.epoch } ∈ v.leaves) → HouseAnswerShown job v h (cases.left job b h)
 unfolding cases.by_status
 left_shown_by job v run h s rising b said = by_what (status_in b.from (members_of h)) refl
   where

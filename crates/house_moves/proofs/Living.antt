@@ -9,7 +9,7 @@ use Rattle.ids.specs.declared.member.Status.{Status}
 use Rattle.ids.specs.declared.member.Status.TheVariants as member
 use Rattle.clearinghouse.specs.House.{member_of, name_of_enlisted}
 use Rattle.clearinghouse.specs.Laws.{living, one_if}
-use Rattle.clearinghouse.specs.Moves.{buried, is_lost}
+use Rattle.clearinghouse.specs.Moves.{declared_dead, is_lost}
 use Rattle.clearinghouse.specs.declared.parts.Enlisted.{Enlisted}
 
 abbrev pub lives : Enlisted → Bool
@@ -21,8 +21,8 @@ no_more_live f less [] = omega arith
 no_more_live f less (w ∷ ws) = let rest : living (map f ws) ≤ living ws = no_more_live f less ws in omega (arith, less w, rest)
 
 module _ (limit now : ℕ) where
-  pub bury_less : (w : Enlisted) → one_if (lives (buried limit now w)) ≤ one_if (lives w)
-  bury_less w = by_test (is_lost limit now w)
+  pub declare_dead_less : (w : Enlisted) → one_if (lives (declared_dead limit now w)) ≤ one_if (lives w)
+  declare_dead_less w = by_test (is_lost limit now w)
     where
       by_test : (b : Bool) → one_if (says_live (Some (cond b member.Dead w.status))) ≤ one_if (lives w)
       by_test true = omega arith

@@ -22,7 +22,7 @@ use Rattle.run_tables.specs.Acts as acts
 use Rattle.run_tables.specs.Runs.{Run, by_right, leads_on}
 use Rattle.run_tables.proofs.RostersReached.{rosters_reached}
 use Rattle.run_tables.proofs.ValuesKept.{run_reached}
-use Rattle.actor_moves.specs.Beside.{Keeps}
+use Rattle.actor_moves.specs.Beside.{KeepsSent}
 use Rattle.actor_moves.specs.Listed.{status_of}
 use Rattle.actor_moves.proofs.Others.{all_same}
 use Rattle.actor_moves.proofs.Resolving.{resolved}
@@ -31,7 +31,7 @@ use Rattle.node_moves.specs.Shows.{PacketShown, ShowsRoster}
 use Rattle.node_moves.specs.Steps.{AllShown}
 use Rattle.node_moves.proofs.Told.{packet_kept}
 use Rattle.house_moves.specs.Shows.{OpenShown}
-use Rattle.house_moves.specs.Steps.{HouseStepShown, meaning_of}
+use Rattle.house_moves.specs.Steps.{HouseStepShown, tables_meaning}
 
 -- a status of packets is told by that of tables
 none_of : (o : Option Status) → status_of o ≡ tables.Unlisted → o ≡ None
@@ -73,7 +73,7 @@ pub record IsNext (v : View) (h : HouseOf) (ws : List Enlisted) (more : ℕ) : T
   pub leaves : (i x : ℕ) → status_in i (map member_of ws) ≡ Some (member.Left x) → (status_in i (members_of h) ≡ Some (member.Left x)) ⊎ NewlyLeft v h ws more i x
   pub room : living ws + more + length h.workers ≤ living h.workers + length ws
 
-module _ (job : JobOf) (v : View) (run : Run (meaning_of job) v) (h : HouseOf) (s : OpenShown v h) (ws : List Enlisted) (more : ℕ) (next : IsNext v h ws more) where
+module _ (job : JobOf) (v : View) (run : Run (tables_meaning job) v) (h : HouseOf) (s : OpenShown v h) (ws : List Enlisted) (more : ℕ) (next : IsNext v h ws more) where
   -- the next roster
   abbrev pub next_roster : tables.Roster
   next_roster = record { epoch = s.roster.epoch; version = h.version + 1; left = s.roster.left + more; status = λ i. status_of (status_in i (map member_of ws)) }
@@ -130,7 +130,7 @@ module _ (job : JobOf) (v : View) (run : Run (meaning_of job) v) (h : HouseOf) (
   publishes_shown sent told =
       let act : acts.Act v (publish v next_roster) = acts.publishes s.roster next_roster may in
       let view : View = publish v next_roster in
-      let keeps : Keeps v view = keeps_one act in
+      let keeps : KeepsSent v view = keeps_one act in
       let room = next.room in
       let old = s.room in
       record {

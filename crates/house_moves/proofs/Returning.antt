@@ -21,14 +21,14 @@ use Rattle.run_tables.specs.Guards.{MayCommit, MaySettleAtHouse}
 use Rattle.run_tables.specs.Moves.{commit, settle}
 use Rattle.run_tables.specs.Acts as acts
 use Rattle.run_tables.specs.Runs.{Run, by_right, leads_on}
-use Rattle.content_moves.specs.Shown.{number_of}
-use Rattle.actor_moves.specs.Beside.{Keeps}
+use Rattle.content_moves.specs.Shown.{outcome_number}
+use Rattle.actor_moves.specs.Beside.{KeepsSent}
 use Rattle.actor_moves.proofs.Others.{all_same}
 use Rattle.actor_moves.proofs.Sent.{keeps_one}
 use Rattle.node_moves.proofs.LeavingRows.{exact_grants}
 use Rattle.node_moves.proofs.Told.{packet_kept, one_shown}
 use Rattle.house_moves.specs.Shows.{OpenShown, ShowsRoot}
-use Rattle.house_moves.specs.Steps.{HouseStepShown, HouseAnswerShown, meaning_of}
+use Rattle.house_moves.specs.Steps.{HouseStepShown, HouseAnswerShown, tables_meaning}
 
 itself : (g : Grant) → eq_by_cmp grant_cmp g g ≡ true
 itself g = ap is_eq (equal_to_itself (name_of_grant g))
@@ -51,16 +51,16 @@ the_root g None (Some r) s e = absurd s
 the_root g (Some k) None s e = absurd s
 the_root g (Some k) (Some r) s e = ap (λ (x : Grant). Some x) (s ∙ exact_grants r.grant g e)
 
-module _ (job : JobOf) (v : View) (run : Run (meaning_of job) v) (h : HouseOf) (s : OpenShown v h) (b : TaskResult) (came : result_to b.grant (name_of h) (number_of b.outcome) ∈ v.results) where
+module _ (job : JobOf) (v : View) (run : Run (tables_meaning job) v) (h : HouseOf) (s : OpenShown v h) (b : TaskResult) (came : result_to b.grant (name_of h) (outcome_number b.outcome) ∈ v.results) where
   abbrev ack : PacketOf
   ack = moves.packet job b.from (body.ResultAck (record { grant = b.grant }))
 
   settles_shown : is_root b.grant h.root ≡ false → HouseStepShown job v h (house.sends (ack ∷ []) h)
   settles_shown other =
-      let may : MaySettleAtHouse v (name_of h) b.grant = record { house = s.mode; outcome = number_of b.outcome; result = came; other = not_root b.grant v.root h.root s.root other } in
+      let may : MaySettleAtHouse v (name_of h) b.grant = record { house = s.mode; outcome = outcome_number b.outcome; result = came; other = not_root b.grant v.root h.root s.root other } in
       let act : acts.Act v (settle v b.grant) = acts.settles_at_house (name_of h) b.grant may in
       let view : View = settle v b.grant in
-      let keeps : Keeps v view = keeps_one act in
+      let keeps : KeepsSent v view = keeps_one act in
       record {
         view = view;
         run = λ k. by_right k act tt;
@@ -78,10 +78,10 @@ module _ (job : JobOf) (v : View) (run : Run (meaning_of job) v) (h : HouseOf) (
 
   records_shown : is_root b.grant h.root ≡ true → HouseStepShown job v h (moves.records b.outcome (ack ∷ []) h)
   records_shown own =
-      let may : MayCommit v (name_of h) b.grant (number_of b.outcome) = record { house = s.mode; recorded = the_root b.grant v.root h.root s.root own; result = came } in
-      let act : acts.Act v (commit v b.grant (number_of b.outcome)) = acts.commits (name_of h) b.grant (number_of b.outcome) may in
-      let view : View = commit v b.grant (number_of b.outcome) in
-      let keeps : Keeps v view = keeps_one act in
+      let may : MayCommit v (name_of h) b.grant (outcome_number b.outcome) = record { house = s.mode; recorded = the_root b.grant v.root h.root s.root own; result = came } in
+      let act : acts.Act v (commit v b.grant (outcome_number b.outcome)) = acts.commits (name_of h) b.grant (outcome_number b.outcome) may in
+      let view : View = commit v b.grant (outcome_number b.outcome) in
+      let keeps : KeepsSent v view = keeps_one act in
       record {
         view = view;
         run = λ k. by_right k act tt;

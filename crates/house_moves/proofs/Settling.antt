@@ -12,7 +12,7 @@ use Rattle.run_tables.specs.View.{View}
 use Rattle.run_tables.specs.Moves.{close_root}
 use Rattle.run_tables.specs.Acts as acts
 use Rattle.run_tables.specs.Runs.{by_right, leads_on}
-use Rattle.actor_moves.specs.Beside.{Keeps}
+use Rattle.actor_moves.specs.Beside.{KeepsSent}
 use Rattle.actor_moves.proofs.Others.{all_same}
 use Rattle.actor_moves.proofs.Sent.{keeps_one}
 use Rattle.node_moves.proofs.Told.{one_shown, packet_kept}
@@ -39,7 +39,7 @@ module _ (job : JobOf) (v : View) (h : HouseOf) (s : OpenShown v h) where
       by_grant g is same =
           let act : acts.Act v (close_root v g) = acts.closes_root g is in
           let view : View = close_root v g in
-          let keeps : Keeps v view = keeps_one act in
+          let keeps : KeepsSent v view = keeps_one act in
           let abort : PacketOf = moves.packet job r.holder (body.Abort (record { grant = r.grant })) in
           record {
             view = view;

@@ -24,15 +24,15 @@ use Rattle.run_tables.specs.Content.{given, Task as TableTask}
 use Rattle.run_tables.specs.View.{Transfer, View}
 use Rattle.run_tables.specs.Facts.{Answered, grant_of, steal_of}
 use Rattle.run_tables.specs.Guards.{MayAnswer, MayBegin}
-use Rattle.run_tables.specs.Meaning.{Fits}
+use Rattle.run_tables.specs.Meaning.{FitsMeaning}
 use Rattle.run_tables.specs.Moves.{grant_root, refuse}
 use Rattle.run_tables.specs.Acts as acts
 use Rattle.run_tables.specs.Runs.{Run, by_right, leads_on}
 use Rattle.run_tables.proofs.Entries.{put_here, put_other, at_other_row}
-use Rattle.content_moves.specs.Moved.{IsBegun}
+use Rattle.content_moves.specs.Moved.{BeginsTask}
 use Rattle.content_moves.proofs.Beginning.{task_begins}
 use Rattle.content_moves.proofs.Rooting.{first_fits}
-use Rattle.actor_moves.specs.Beside.{Keeps}
+use Rattle.actor_moves.specs.Beside.{KeepsSent}
 use Rattle.actor_moves.proofs.Sent.{keeps_one, all_kept}
 use Rattle.actor_moves.proofs.Others.{all_same}
 use Rattle.node_moves.specs.Shows.{ShowsReply, PacketShown}
@@ -41,15 +41,15 @@ use Rattle.node_moves.proofs.Held.{reply_put}
 use Rattle.node_moves.proofs.Members.{unanswered_none, unanswered_newer}
 use Rattle.node_moves.proofs.Told.{one_shown}
 use Rattle.house_moves.specs.Shows.{OpenShown, ShowsRoot, stored_of}
-use Rattle.house_moves.specs.Steps.{HouseStepShown, HouseAnswerShown, meaning_of}
+use Rattle.house_moves.specs.Steps.{HouseStepShown, HouseAnswerShown, tables_meaning}
 
-module _ (job : JobOf) (v : View) (run : Run (meaning_of job) v) (h : HouseOf) (s : OpenShown v h) where
+module _ (job : JobOf) (v : View) (run : Run (tables_meaning job) v) (h : HouseOf) (s : OpenShown v h) where
   -- it refuses
   refuses_shown : (b : Steal) → MayAnswer v (name_of h) b.from b.seq → HouseStepShown job v h (moves.refuses job b h)
   refuses_shown b may =
       let act : acts.Act v (refuse v (name_of h) b.from b.seq) = acts.refuses (name_of h) b.from b.seq (rw s.mode tt) may in
       let view : View = refuse v (name_of h) b.from b.seq in
-      let keeps : Keeps v view = keeps_one act in
+      let keeps : KeepsSent v view = keeps_one act in
       let sent : PacketOf = moves.packet job b.from (body.Refuse (record { seq = b.seq })) in
       let answer : PacketShown view sent = record { steal = steal_of b.from b.seq (name_of h); sent = inl refl; thief = refl; seq_is = refl } in
       record {
@@ -71,15 +71,15 @@ module _ (job : JobOf) (v : View) (run : Run (meaning_of job) v) (h : HouseOf) (
   grants_shown : (b : Steal) (call : Call) → MayAnswer v (name_of h) b.from b.seq → root job.program job.input ≡ Some call → h.root ≡ None → h.outcome ≡ None → HouseStepShown job v h (moves.grants job b (record { place = []; thread = call.thread; numbers = call.numbers }) h)
   grants_shown b call may first out none =
       let task : Task = record { place = []; thread = call.thread; numbers = call.numbers } in
-      let begun : IsBegun (name_of h) task = task_begins (name_of h) task in
+      let begun : BeginsTask (name_of h) task = task_begins (name_of h) task in
       let c = begun.content in
       let unrecorded : v.root ≡ None = no_root v.root h.root s.root out in
       let unstored : v.stored ≡ None = s.stored ∙ ap stored_of none in
       let begin : MayBegin v c = record { unrecorded = unrecorded; unstored = unstored; place = ap (λ (t : TableTask). t.place) begun.task_is } in
       let act : acts.Act v (grant_root v (name_of h) b.from b.seq c) = acts.grants_root (name_of h) b.from b.seq c s.mode begin may begun.begins in
-      let fits : Fits (meaning_of job) [] c.task.thread (λ j. given c.task.numbers j) = rw begun.task_is (first_fits job.program job.input call first) in
+      let fits : FitsMeaning (tables_meaning job) [] c.task.thread (λ j. given c.task.numbers j) = rw begun.task_is (first_fits job.program job.input call first) in
       let view : View = grant_root v (name_of h) b.from b.seq c in
-      let keeps : Keeps v view = keeps_one act in
+      let keeps : KeepsSent v view = keeps_one act in
       let name : Grant = record { minter = name_of h; number = h.minted + 1 } in
       let same : record { minter = name_of h; number = v.minted (name_of h) + 1 } ≡ name = ap (λ (k : ℕ). let g : Grant = record { minter = name_of h; number = k + 1 } in g) s.minted in
       let sent : PacketOf = moves.packet job b.from (body.Grant (record { seq = b.seq; grant = name; task = task })) in

@@ -14,15 +14,15 @@ use Rattle.run_tables.specs.View.{View}
 use Rattle.run_tables.specs.Runs.{Run}
 use Rattle.node_moves.specs.Shows.{BodyShown, PacketShown}
 use Rattle.house_moves.specs.Shows.{OpenShown}
-use Rattle.house_moves.specs.Steps.{HouseAnswerShown, meaning_of}
+use Rattle.house_moves.specs.Steps.{HouseAnswerShown, tables_meaning}
 use Rattle.house_moves.proofs.Hearing.{beats_shown, joined_shown}
 use Rattle.house_moves.proofs.Leaving.{left_shown_by}
 use Rattle.house_moves.proofs.Returning.{returned_shown}
 use Rattle.house_moves.proofs.Stealing.{stolen_shown}
 
-module _ (job : JobOf) (v : View) (run : Run (meaning_of job) v) (h : HouseOf) (s : OpenShown v h) (rising : AreInOrder name_of_enlisted h.workers) where
+module _ (job : JobOf) (v : View) (run : Run (tables_meaning job) v) (h : HouseOf) (s : OpenShown v h) (rising : AreInOrder name_of_enlisted h.workers) where
   -- one that goes to this clearinghouse
-  if_own_shown : (to : ℕ) (a : house.Answer) → (to ≡ name_of h → HouseAnswerShown job v h a) → HouseAnswerShown job v h (cases.if_own job to h a)
+  if_own_shown : (to : ℕ) (a : house.HouseAnswer) → (to ≡ name_of h → HouseAnswerShown job v h a) → HouseAnswerShown job v h (cases.if_own job to h a)
   if_own_shown to a own = by_name (nat_eq to (name_of h)) refl
     where
       by_name : (b : Bool) → nat_eq to (name_of h) ≡ b → HouseAnswerShown job v h (cond b a house.Ignored)

@@ -9,7 +9,7 @@ use Rattle.clearinghouse.specs.Laws.{living}
 use Rattle.clearinghouse.specs.declared.parts.RootGrant.{RootGrant}
 use Rattle.run_tables.specs.View.{House, View}
 use Rattle.run_tables.specs.View as tables
-use Rattle.content_moves.specs.Shown.{number_of}
+use Rattle.content_moves.specs.Shown.{outcome_number}
 use Rattle.node_moves.specs.Shows.{ShowsReply, ShowsRoster, PacketShown}
 
 -- the root's grant; who holds it stands in no table
@@ -22,7 +22,7 @@ ShowsRoot (Some k) (Some r) = k ≡ r.grant
 -- the outcome, as tables have it
 abbrev pub stored_of : Option Outcome → Option (Option ℤ)
 stored_of None = None
-stored_of (Some o) = Some (number_of o)
+stored_of (Some o) = Some (outcome_number o)
 
 -- all that an open clearinghouse has
 pub record OpenShown (v : View) (h : HouseOf) : Type 0 where

@@ -9,19 +9,19 @@ ghost use Rattle.run_tables.specs.View.{View};
 ghost use Rattle.run_tables.specs.Runs.{Run};
 ghost use Rattle.node_moves.specs.Shows.{PacketShown};
 ghost use Rattle.house_moves.specs.Shows.{OpenShown};
-ghost use Rattle.house_moves.specs.Steps.{HouseStepShown, HouseAnswerShown, meaning_of};
+ghost use Rattle.house_moves.specs.Steps.{HouseStepShown, HouseAnswerShown, tables_meaning};
 
 /// What an open clearinghouse answers to a packet that was sent, and what it does at a moment, is shown by right moves of it. Does
 /// nothing.
 pub fn what_the_house_does_is_moves()
     ensures packets { (job : JobOf) (v : View) (h : HouseOf) (p : PacketOf)
-        → Run (meaning_of job) v
+        → Run (tables_meaning job) v
         → OpenShown v h
         → IsHouse h
         → PacketShown v p
         → HouseAnswerShown job v h (on_packet job p h) }
     ensures moments { (job : JobOf) (v : View) (h : HouseOf) (now : ℕ)
-        → Run (meaning_of job) v
+        → Run (tables_meaning job) v
         → OpenShown v h
         → HouseStepShown job v h (passes job now h) }
 {}

@@ -1,4 +1,4 @@
--- Searching by halves among items that stand by rising name.
+-- Binary search among items that stand by rising name.
 use Rattle.std.proofs.Common.{◌≡◌, ℕ, zero, suc, Bool, true, false, nat_lt, ◌<◌, ◌≤◌, List, [], ◌∷◌, map, length, cond, Some, None, Ok, Err, refl, sym, ap, ◌∙◌, Ordering, Less, Equal, Greater, arith}
 use Rattle.std.specs.List.{AllByRecursion, slice_index_or}
 use Rattle.std.specs.List.Sorted.{IsBinarySearchResult, IsSearchInRange}
@@ -7,7 +7,7 @@ use Rattle.std.proofs.lemmas.Map.Keys.{sorted_head, sorted_tail}
 use Rattle.ids.specs.Named.{Name, name_cmp, item_in}
 use Rattle.ids.specs.Ordered.{AreInOrder}
 use Rattle.ids.specs.Stored.{IsFound, IsMissing, AreAbove}
-use Rattle.ids.specs.declared.store.Entry.{Entry}
+use Rattle.ids.specs.declared.sorted_map.Entry.{Entry}
 use Rattle.ids.proofs.NameOrder.{equal_to_itself, exact_names, names_total}
 use Rattle.ids.proofs.Parts.{of_names}
 

@@ -7,7 +7,7 @@ use Rattle.std.proofs.lemmas.List.Elements.{filter_map-append}
 use Rattle.std.proofs.lemmas.List.Sums.{sum_by-set, sum_by-cons}
 use Rattle.slab.specs.Slab.{Slab, get, slab_len, ContainsKey, Updates, with_value, RetainsFrom}
 use Rattle.slab.proofs.SlabLemmas.{Updates-with_value, ContainsKey-within}
-use Rattle.ids.specs.declared.store.Entry.{Entry}
+use Rattle.ids.specs.declared.sorted_map.Entry.{Entry}
 use Rattle.ids.specs.Named.{Name, name_cmp, item_in, put_in, without_in}
 use Rattle.ids.specs.Ordered.{AreInOrder}
 use Rattle.ids.specs.Stored.{items_at, AreHeld, AreNamed, IsFilled, IsStored, AreBelow, AreAbove, IsFound, IsMissing}

@@ -1,5 +1,5 @@
 -- Names of incarnations, actors and grants, as numbers.
-use Rattle.std.specs.Prelude.{ℕ, ◌+◌, ◌^◌, ◌&&◌, ◌||◌, Bool, nat_lt, nat_eq}
+use Rattle.std.specs.Prelude.{ℕ, ◌+◌, ◌^◌, ◌&&◌, ◌||◌, Bool, nat_lt, nat_eq, if◌then◌else◌}
 use Rattle.std.specs.declared.cmp.Ordering.{Ordering}
 use Rattle.std.specs.Ordering.{nat_cmp, on, then_cmp}
 
@@ -31,6 +31,14 @@ is_counted number = nat_lt 0 number && nat_lt number (2 ^ 64)
 pub record Grant : Type 0 where
   pub minter : ℕ
   pub number : ℕ
+
+-- 1 where a test holds, else 0
+abbrev pub one_if : Bool → ℕ
+one_if b = if b then 1 else 0
+
+-- whether two grants are the same
+abbrev pub same_grant : Grant → Grant → Bool
+same_grant g h = nat_eq g.minter h.minter && nat_eq g.number h.number
 
 -- the order of grants: by the minter, then by the number
 abbrev pub grant_cmp : Grant → Grant → Ordering

@@ -3,7 +3,7 @@ use Rattle.std.specs.Prelude.{◌≡◌, ℕ, List, ◌∷◌, ◌++◌, length,
 use Rattle.std.specs.List.{AllByRecursion, filter_map}
 use Rattle.std.specs.declared.cmp.Ordering.TheVariants.{Less}
 use Rattle.slab.specs.Slab.{Slab, get, slab_len, ContainsKey}
-use Rattle.ids.specs.declared.store.Entry.{Entry}
+use Rattle.ids.specs.declared.sorted_map.Entry.{Entry}
 use Rattle.ids.specs.Named.{Name, name_cmp}
 use Rattle.ids.specs.Ordered.{AreInOrder}
 

@@ -8,7 +8,7 @@ mod names;
 mod outcome;
 mod place;
 mod returns;
-mod store;
+mod sorted_map;
 mod work;
 
 pub use listed::Listed;
@@ -17,5 +17,5 @@ pub use names::{Actor, Address, Count, Epoch, FrameNo, GrantId, Hop, Incarnation
 pub use outcome::{Outcome, Progress};
 pub use place::{Place, PlaceError};
 pub use returns::Return;
-pub use store::{Change, Exact, Named, Store, TryChange, Values, item_of};
+pub use sorted_map::{Exact, ItemChange, Named, SortedMap, TryItemChange, Values, item_of};
 pub use work::{Frame, Record, Task};

@@ -1,7 +1,7 @@
 ghost use Rattle.ids.specs.Naming.{name_of_member};
 
 use crate::names::Incarnation;
-use crate::store::Named;
+use crate::sorted_map::Named;
 
 /// What the clearinghouse says of a worker: it lives, is dead, or left to an heir.
 #[derive(Clone, Copy, PartialEq, Eq, Debug)]

@@ -5,7 +5,7 @@ use crate::listed::Listed;
 use crate::names::{FrameNo, GrantId, Incarnation};
 use crate::place::Place;
 use crate::returns::Return;
-use crate::store::{Exact, Named};
+use crate::sorted_map::{Exact, Named};
 use std::alloc::AllocError;
 
 /// A thread on numbers, and where it stands. In a packet the thread is below 64 and there are at most 8 numbers.

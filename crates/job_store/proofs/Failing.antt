@@ -1,7 +1,7 @@
 -- What failed where the device refuses.
 use Rattle.std.proofs.Common.{◌≡◌, ◌⊎◌, ℕ, suc, Bool, true, false, List, [], ◌∷◌, Option, Result, Ok, Err, IfErr, inl, inr, refl}
 use Rattle.disk.specs.Device.{Device, passed}
-use Rattle.checkpoint.specs.Calls.{Call, Stopped, after, changed}
+use Rattle.checkpoint.specs.Calls.{DeviceCall, Stopped, after, changed}
 use Rattle.checkpoint.specs.Commit.{opening}
 use Rattle.checkpoint.specs.Store.{Opened}
 use Rattle.checkpoint.specs.declared.record.StoreError.{StoreError}
@@ -9,13 +9,13 @@ use Rattle.checkpoint.specs.declared.record.StoreError.TheVariants.{Device as De
 use Rattle.job_store.specs.Kept.{HasFailed}
 
 -- calls that pass count no failure
-pub after_failures : (calls : List Call) (d : Device) → (after d calls).failures ≡ d.failures
+pub after_failures : (calls : List DeviceCall) (d : Device) → (after d calls).failures ≡ d.failures
 unfolding after
 after_failures [] d = refl
 after_failures (call ∷ calls) d = after_failures calls (passed d (changed d.file call))
 
 -- one of several calls failed
-pub stopped_failed : (calls : List Call) (plan : ℕ → Option (List ℕ)) (old new : Device) → Stopped calls plan old new → HasFailed old new
+pub stopped_failed : (calls : List DeviceCall) (plan : ℕ → Option (List ℕ)) (old new : Device) → Stopped calls plan old new → HasFailed old new
 unfolding Stopped
 stopped_failed [] plan old new never = absurd never
 stopped_failed (call ∷ calls) plan old new stopped = elim stopped [
@@ -28,7 +28,7 @@ pub failed_behind : (old mid new : Device) → mid.failures ≡ old.failures →
 failed_behind old mid new same failed = rw same at failed
 
 -- a commit is refused: the store had ended, or one of its calls failed
-pub failed_commit : (ended : Bool) (plan : ℕ → Option (List ℕ)) (old new : Device) (Is : List Call → Type 0) → (ended ≡ false → (calls : List Call) × Is calls × Stopped calls plan old new) → (ended ≡ true) ⊎ HasFailed old new
+pub failed_commit : (ended : Bool) (plan : ℕ → Option (List ℕ)) (old new : Device) (Is : List DeviceCall → Type 0) → (ended ≡ false → (calls : List DeviceCall) × Is calls × Stopped calls plan old new) → (ended ≡ true) ⊎ HasFailed old new
 failed_commit true plan old new Is stopped = inl refl
 failed_commit false plan old new Is stopped = let s = stopped refl in inr (stopped_failed s.0 plan old new s.2)
 

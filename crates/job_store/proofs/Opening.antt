@@ -7,38 +7,38 @@ use Rattle.disk.proofs.Crashes.{crash-leaves-bytes_of}
 use Rattle.checkpoint.specs.Calls.{Passed, after}
 use Rattle.checkpoint.specs.Commit.{opening}
 use Rattle.checkpoint.specs.Format.{IsFormatted, IsStore, fresh}
-use Rattle.checkpoint.specs.Store.{IsRefused, Keeps, Opened, Reads}
-use Rattle.checkpoint.specs.declared.record.Record.{Record}
+use Rattle.checkpoint.specs.Store.{IsRefused, KeepsRecord, Opened, ReadsAsStore}
+use Rattle.checkpoint.specs.declared.record.CheckpointRecord.{CheckpointRecord}
 use Rattle.checkpoint.specs.declared.record.StoreError.{StoreError}
 use Rattle.checkpoint.specs.declared.record.StoreError.TheVariants.{Device as DeviceError}
 
 -- # A store that was made
 
 -- whatever a crash leaves of it has the record of a job that has just begun
-pub made_keeps : (d : Device) (job : ℕ) → ((c : List ℕ) → CrashLeaves d.file c → IsFormatted c job) → Keeps d.file 0 (fresh job)
+pub made_keeps : (d : Device) (job : ℕ) → ((c : List ℕ) → CrashLeaves d.file c → IsFormatted c job) → KeepsRecord d.file 0 (fresh job)
 made_keeps d job left = record { second = false; each = λ c leaves. (left c leaves).store }
 
-pub made_reads : (d : Device) (job : ℕ) → ((c : List ℕ) → CrashLeaves d.file c → IsFormatted c job) → Reads (bytes_of d.file) 0 (fresh job)
+pub made_reads : (d : Device) (job : ℕ) → ((c : List ℕ) → CrashLeaves d.file c → IsFormatted c job) → ReadsAsStore (bytes_of d.file) 0 (fresh job)
 made_reads d job left = (false, (left (bytes_of d.file) (crash-leaves-bytes_of d.file)).store)
 
 abbrev pub StaysKept : {D : Type 0} → (D → Device) → Device → Opened D → Type 0
-StaysKept device d s = (n : ℕ) (r : Record) → Keeps d.file n r → Keeps (device s.disk).file s.sequence s.«record» × (s.«record» ≡ r)
+StaysKept device d s = (n : ℕ) (r : CheckpointRecord) → KeepsRecord d.file n r → KeepsRecord (device s.disk).file s.sequence s.«record» × (s.«record» ≡ r)
 
 abbrev pub IsOpened : {D : Type 0} → (D → Device) → ℕ → Opened D → Type 0
-IsOpened device job s = (s.ended ≡ false) × Reads (bytes_of (device s.disk).file) s.sequence s.«record» × (s.«record».job ≡ job)
+IsOpened device job s = (s.ended ≡ false) × ReadsAsStore (bytes_of (device s.disk).file) s.sequence s.«record» × (s.«record».job ≡ job)
 
-pub opened_made : {D : Type 0} (device : D → Device) (d : Device) (job : ℕ) (r : Result (Opened D) (StoreError × D)) → Keeps d.file 0 (fresh job) →
+pub opened_made : {D : Type 0} (device : D → Device) (d : Device) (job : ℕ) (r : Result (Opened D) (StoreError × D)) → KeepsRecord d.file 0 (fresh job) →
     IfOk r (IsOpened device job) → IfOk r (StaysKept device d) → IfOk r (λ s. (s.ended ≡ false) × (s.«record» ≡ fresh job))
 opened_made device d job (Ok s) keeps opened stays = (opened.0, (stays 0 (fresh job) keeps).1)
 opened_made device d job (Err e) keeps opened stays = tt
 
-pub opened_keeps : {D : Type 0} (device : D → Device) (d : Device) (job : ℕ) (r : Result (Opened D) (StoreError × D)) → Keeps d.file 0 (fresh job) →
-    IfOk r (StaysKept device d) → IfOk r (λ s. Keeps (device s.disk).file s.sequence s.«record»)
+pub opened_keeps : {D : Type 0} (device : D → Device) (d : Device) (job : ℕ) (r : Result (Opened D) (StoreError × D)) → KeepsRecord d.file 0 (fresh job) →
+    IfOk r (StaysKept device d) → IfOk r (λ s. KeepsRecord (device s.disk).file s.sequence s.«record»)
 opened_keeps device d job (Ok s) keeps stays = (stays 0 (fresh job) keeps).0
 opened_keeps device d job (Err e) keeps stays = tt
 
-pub refused_made : {D : Type 0} (d : Device) (job : ℕ) (r : Result (Opened D) (StoreError × D)) → Reads (bytes_of d.file) 0 (fresh job) →
-    IfErr r (λ e. (n : ℕ) (x : Record) → Reads (bytes_of d.file) n x → x.job ≡ job → e.0 ≡ DeviceError) → IfErr r (λ e. e.0 ≡ DeviceError)
+pub refused_made : {D : Type 0} (d : Device) (job : ℕ) (r : Result (Opened D) (StoreError × D)) → ReadsAsStore (bytes_of d.file) 0 (fresh job) →
+    IfErr r (λ e. (n : ℕ) (x : CheckpointRecord) → ReadsAsStore (bytes_of d.file) n x → x.job ≡ job → e.0 ≡ DeviceError) → IfErr r (λ e. e.0 ≡ DeviceError)
 refused_made d job (Ok s) reads alone = tt
 refused_made d job (Err e) reads alone = alone 0 (fresh job) reads refl
 
@@ -49,26 +49,26 @@ pub none_first : (bytes first : List ℕ) (n : ℕ) → first ≡ take 1 bytes �
 none_first [] first n is long none = refl
 none_first (b ∷ bytes) first n is long none = let one : n ≡ 1 = long ∙ ap length is in let no : true ≡ (1 == 0) = rw one at none in cc
 
-pub found_made : {D : Type 0} (bytes : List ℕ) (r : Result (Opened D) (StoreError × D)) → bytes ≡ [] → IfOk r (λ s. bytes ≢ [] → Reads bytes s.sequence s.«record»)
+pub found_made : {D : Type 0} (bytes : List ℕ) (r : Result (Opened D) (StoreError × D)) → bytes ≡ [] → IfOk r (λ s. bytes ≢ [] → ReadsAsStore bytes s.sequence s.«record»)
 found_made bytes (Ok s) none = λ some. absurd (some none)
 found_made bytes (Err e) none = tt
 
 -- a read doesn't change it
-pub reads_same : {D : Type 0} (device : D → Device) (d : Device) (plan : ℕ → Option (List ℕ)) (job : ℕ) (s : Opened D) → IsOpened device job s → Passed opening plan d (device s.disk) → Reads (bytes_of d.file) s.sequence s.«record»
+pub reads_same : {D : Type 0} (device : D → Device) (d : Device) (plan : ℕ → Option (List ℕ)) (job : ℕ) (s : Opened D) → IsOpened device job s → Passed opening plan d (device s.disk) → ReadsAsStore (bytes_of d.file) s.sequence s.«record»
 unfolding after
-reads_same device d plan job s opened passed = subst (λ (x : Device). Reads (bytes_of x.file) s.sequence s.«record») passed.made opened.1
+reads_same device d plan job s opened passed = subst (λ (x : Device). ReadsAsStore (bytes_of x.file) s.sequence s.«record») passed.made opened.1
 
 pub opened_found : {D : Type 0} (device : D → Device) (before d : Device) (plan : ℕ → Option (List ℕ)) (job : ℕ) (r : Result (Opened D) (StoreError × D)) → d.file ≡ before.file →
-    IfOk r (IsOpened device job) → IfOk r (λ s. Passed opening plan d (device s.disk)) → IfOk r (λ s. bytes_of before.file ≢ [] → Reads (bytes_of before.file) s.sequence s.«record»)
+    IfOk r (IsOpened device job) → IfOk r (λ s. Passed opening plan d (device s.disk)) → IfOk r (λ s. bytes_of before.file ≢ [] → ReadsAsStore (bytes_of before.file) s.sequence s.«record»)
 opened_found device before d plan job (Ok s) same opened passed = λ some. rw same at (reads_same device d plan job s opened passed)
 opened_found device before d plan job (Err e) same opened passed = tt
 
-keeps_only : (d : Device) (n : ℕ) (r : Record) → Only (bytes_of d.file) (CrashLeaves d.file) → Reads (bytes_of d.file) n r → Keeps d.file n r
+keeps_only : (d : Device) (n : ℕ) (r : CheckpointRecord) → Only (bytes_of d.file) (CrashLeaves d.file) → ReadsAsStore (bytes_of d.file) n r → KeepsRecord d.file n r
 keeps_only d n r only reads = record { second = reads.0; each = λ c left. subst (λ (l : List ℕ). IsStore l reads.0 n r) (sym (only c left)) reads.1 }
 
 pub found_keeps : {D : Type 0} (device : D → Device) (before d : Device) (plan : ℕ → Option (List ℕ)) (job : ℕ) (r : Result (Opened D) (StoreError × D)) → d.file ≡ before.file →
     IfOk r (IsOpened device job) → IfOk r (λ s. Passed opening plan d (device s.disk)) → IfOk r (StaysKept device d) →
-    IfOk r (λ s. Only (bytes_of before.file) (CrashLeaves before.file) → Keeps (device s.disk).file s.sequence s.«record»)
+    IfOk r (λ s. Only (bytes_of before.file) (CrashLeaves before.file) → KeepsRecord (device s.disk).file s.sequence s.«record»)
 found_keeps device before d plan job (Ok s) same opened passed stays = λ only. (stays s.sequence s.«record» (keeps_only d s.sequence s.«record» (rw same only) (reads_same device d plan job s opened passed))).0
 found_keeps device before d plan job (Err e) same opened passed stays = tt
 

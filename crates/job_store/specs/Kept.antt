@@ -4,18 +4,18 @@ use Rattle.disk.specs.Device.{Device}
 use Rattle.ids.specs.declared.outcome.Outcome.{Outcome}
 use Rattle.checkpoint.specs.Commit.{next_of}
 use Rattle.checkpoint.specs.Store.{Opened}
-use Rattle.checkpoint.specs.declared.record.Record.{Record}
+use Rattle.checkpoint.specs.declared.record.CheckpointRecord.{CheckpointRecord}
 
 -- a run began: its epoch is the next, and there is no outcome
-abbrev pub begun : Record → Record
+abbrev pub begun : CheckpointRecord → CheckpointRecord
 begun r = next_of r (r.epoch + 1) None
 
 -- a run ended with this outcome
-abbrev pub finished : Outcome → Record → Record
+abbrev pub finished : Outcome → CheckpointRecord → CheckpointRecord
 finished o r = next_of r r.epoch (Some o)
 
 -- this record was committed behind the current one
-abbrev pub IsCommitted : {D : Type 0} → Record → (old new : Opened D) → Type 0
+abbrev pub IsCommitted : {D : Type 0} → CheckpointRecord → (old new : Opened D) → Type 0
 IsCommitted r old new = new ≡ record { disk = new.disk; «record» = r; sequence = old.sequence + 1; ended = false }
 
 -- one more call of the device failed

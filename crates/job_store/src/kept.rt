@@ -4,7 +4,7 @@ ghost use Rattle.disk.specs.File.{CrashLeaves, bytes_of};
 ghost use Rattle.ids.specs.declared.outcome.Outcome.{Outcome as OutcomeOf};
 ghost use Rattle.checkpoint.specs.Format.{fresh};
 ghost use Rattle.checkpoint.specs.Moments.{KeepsEither};
-ghost use Rattle.checkpoint.specs.Store.{IsRefused, IsSpent, Keeps, Reads};
+ghost use Rattle.checkpoint.specs.Store.{IsRefused, IsSpent, KeepsRecord, ReadsAsStore};
 ghost use Rattle.job_store.specs.Kept.{HasFailed, IsCommitted, begun, finished};
 
 use checkpoint::{LastEpoch, Store, StoreError, format};
@@ -18,10 +18,10 @@ use std::alloc::Global;
 pub fn open_store<D: Disk>(alloc: Global, disk: D, job: u64) -> Result<Store<D>, (StoreError, D)>
     ensures opened { IfOk result (λ s. (s.ended ≡ false) × (s.record.job ≡ job)) }
     ensures made { IfOk result (λ s. bytes_of (D.device disk).file ≡ [] → s.record ≡ fresh job) }
-    ensures found { IfOk result (λ s. bytes_of (D.device disk).file ≢ [] → Reads (bytes_of (D.device disk).file) s.sequence s.record) }
+    ensures found { IfOk result (λ s. bytes_of (D.device disk).file ≢ [] → ReadsAsStore (bytes_of (D.device disk).file) s.sequence s.record) }
 
     // Where a crash leaves what a read gives, it has the store's record, whatever a crash leaves.
-    ensures kept { IfOk result (λ s. Only (bytes_of (D.device disk).file) (CrashLeaves (D.device disk).file) → Keeps (D.device s.disk).file s.sequence s.record) }
+    ensures kept { IfOk result (λ s. Only (bytes_of (D.device disk).file) (CrashLeaves (D.device disk).file) → KeepsRecord (D.device s.disk).file s.sequence s.record) }
     ensures refused { IfErr result (λ e. e.0 ≢ StoreError.Device → IsRefused e.0 (bytes_of (D.device disk).file) job) }
     ensures failed { IfErr result (λ e. e.0 ≡ StoreError.Device → HasFailed (D.device disk) (D.device e.1)) }
     ensures unchanged { IfErr result (λ e. bytes_of (D.device disk).file ≢ [] → e.0 ≢ StoreError.Device → (D.device e.1).file ≡ (D.device disk).file) }
@@ -37,7 +37,7 @@ pub fn open_store<D: Disk>(alloc: Global, disk: D, job: u64) -> Result<Store<D>,
 /// Makes the store of a job on a disk, and opens it. Only the device refuses it.
 fn make_store<D: Disk>(alloc: Global, disk: D, job: u64) -> Result<Store<D>, (StoreError, D)>
     ensures made { IfOk result (λ s. (s.ended ≡ false) × (s.record ≡ fresh job)) }
-    ensures kept { IfOk result (λ s. Keeps (D.device s.disk).file s.sequence s.record) }
+    ensures kept { IfOk result (λ s. KeepsRecord (D.device s.disk).file s.sequence s.record) }
     ensures refused { IfErr result (λ e. e.0 ≡ StoreError.Device) }
     ensures failed { IfErr result (λ e. HasFailed (D.device disk) (D.device e.1)) }
 {
@@ -59,8 +59,8 @@ pub fn begin_run<D: Disk>(store: &mut Store<D>) -> Result<Option<Outcome>, Store
     ensures unchanged { IsErrOf result StoreError.Spent → store.new ≡ store.old }
 
     // Where whatever a crash leaves has the current record, it is so after it, and at any moment it has that one or the one of the new epoch.
-    ensures kept { Keeps (D.device store.old.disk).file store.old.sequence store.old.record → OnOk result (Keeps (D.device store.new.disk).file store.new.sequence store.new.record) }
-    ensures either { Keeps (D.device store.old.disk).file store.old.sequence store.old.record → KeepsEither (D.device store.new.disk).file store.old.sequence store.old.record (begun store.old.record) }
+    ensures kept { KeepsRecord (D.device store.old.disk).file store.old.sequence store.old.record → OnOk result (KeepsRecord (D.device store.new.disk).file store.new.sequence store.new.record) }
+    ensures either { KeepsRecord (D.device store.old.disk).file store.old.sequence store.old.record → KeepsEither (D.device store.new.disk).file store.old.sequence store.old.record (begun store.old.record) }
 {
     let record = store.record();
     if let Some(outcome) = record.outcome {
@@ -84,8 +84,8 @@ pub fn keep_outcome<D: Disk>(store: &mut Store<D>, outcome: Outcome) -> Result<O
     ensures unchanged { IsErrOf result StoreError.Spent → store.new ≡ store.old }
 
     // Where whatever a crash leaves has the current record, it is so after it, and at any moment it has that one or the one with the outcome.
-    ensures kept { Keeps (D.device store.old.disk).file store.old.sequence store.old.record → OnOk result (Keeps (D.device store.new.disk).file store.new.sequence store.new.record) }
-    ensures either { Keeps (D.device store.old.disk).file store.old.sequence store.old.record → KeepsEither (D.device store.new.disk).file store.old.sequence store.old.record (finished outcome store.old.record) }
+    ensures kept { KeepsRecord (D.device store.old.disk).file store.old.sequence store.old.record → OnOk result (KeepsRecord (D.device store.new.disk).file store.new.sequence store.new.record) }
+    ensures either { KeepsRecord (D.device store.old.disk).file store.old.sequence store.old.record → KeepsEither (D.device store.new.disk).file store.old.sequence store.old.record (finished outcome store.old.record) }
 {
     let record = store.record();
     if let Some(kept) = record.outcome {

@@ -31,7 +31,7 @@ number_of_fault (faults.Kind e) = kinds.number_of_error e
 number_of_fault (faults.Input e) = number_of_job_error e
 number_of_fault faults.Memory = 9
 
--- a text or an input that is refused is 1, and want of memory is 3
+-- a text or an input that is refused is 1, and running out of memory is 3
 abbrev pub status_of : JobFault → ℕ
 status_of (faults.Parse e) = 1
 status_of (faults.Kind e) = 1

@@ -48,7 +48,7 @@ impl JobFault {
         }
     }
 
-    /// The status that a program ends with: 1 for a text or an input that is refused, 3 for want of memory.
+    /// The status that a program ends with: 1 for a text or an input that is refused, 3 when out of memory.
     pub fn status(self) -> u8
         ensures { result ≡ status_of self }
     {

@@ -4,7 +4,7 @@ use Rattle.kind_check.specs.declared.checked.KindError.{KindError}
 use Rattle.kind_check.specs.declared.checked.KindError.TheVariants as error
 use Rattle.kind_check.specs.Faults.{Fault, IsLeast, number_of_fault}
 
--- the answer is the least fault; nothing is said for want of memory
+-- the answer is the least fault; nothing is said when out of memory
 abbrev pub RefusedFor : List Fault → KindError → Type 0
 RefusedFor fs (error.Fault kind at) = IsLeast fs (at, kind)
 RefusedFor fs error.Memory = Unit {0}

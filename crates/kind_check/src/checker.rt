@@ -12,7 +12,7 @@ use task_tree::Program;
 /// memory for the names in scope and for the bodies by places, and a nesting of blocks and operators is walked by recursion.
 ///
 /// # Errors
-/// The least fault and its offset; `Memory` for want of memory alone.
+/// The least fault and its offset; `Memory` only when out of memory.
 pub fn check(alloc: Global, program: Program) -> Result<Checked, KindError>
     ensures accepted { IfOk result (λ c. c ≡ program) }
     ensures faultless { OnOk result (faults program ≡ []) }

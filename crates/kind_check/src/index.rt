@@ -35,7 +35,7 @@ impl<'a> Index<'a> {
         }
     }
 
-    /// Adds a name behind the others; refused for want of memory alone, which leaves the names as they were.
+    /// Adds a name behind the others; refused only when out of memory, which leaves the names as they were.
     pub fn add(&mut self, name: &'a [u8]) -> Result<(), AllocError>
         ensures ok { OnOk result (self.new ≡ self.old ++ name.now ∷ []) }
         ensures err { OnErr result (self.new ≡ self.old) }

@@ -4,7 +4,7 @@ use Rattle.std.specs.List.{AllByRecursion}
 use Rattle.std.proofs.lemmas.Bool.{le-ltb, lt-ltb}
 use Rattle.level_deques.specs.declared.posts.Post.{Post}
 use Rattle.level_deques.specs.Levels.{IsByLevel, newest}
-use Rattle.level_deques.specs.Posts.{choice, chosen, deepest, goes_above, goes_below, posted, shallowest}
+use Rattle.level_deques.specs.Posts.{newest_of, newest_by, deepest, goes_above, goes_below, posted, shallowest}
 use Rattle.level_deques.proofs.Lists.{all_both, all_since}
 
 -- posts of one level, and others of greater ones
@@ -44,33 +44,33 @@ newest_second (p ∷ r ∷ rs) q qs = newest_second (r ∷ rs) q qs
 pub deepest_is : (ps : List Post) → IsByLevel ps → deepest ps ≡ newest ps
 deepest_is [] rise = refl
 deepest_is (p ∷ []) rise = refl
-deepest_is (p ∷ q ∷ qs) rise = ap (choice goes_below p) (deepest_is (q ∷ qs) rise.1) ∙ by_newest (newest (q ∷ qs)) (newest_some q qs) (newest_is (λ r. p.level ≤ r.level) (q ∷ qs) rise.0)
+deepest_is (p ∷ q ∷ qs) rise = ap (newest_of goes_below p) (deepest_is (q ∷ qs) rise.1) ∙ by_newest (newest (q ∷ qs)) (newest_some q qs) (newest_is (λ r. p.level ≤ r.level) (q ∷ qs) rise.0)
   where
-    by_newest : (o : Option Post) → (r : Post) × (o ≡ Some r) → IfSome o (λ r. p.level ≤ r.level) → choice goes_below p o ≡ o
+    by_newest : (o : Option Post) → (r : Post) × (o ≡ Some r) → IfSome o (λ r. p.level ≤ r.level) → newest_of goes_below p o ≡ o
     by_newest None (r, is) le = cc
     by_newest (Some r) there le = ap (λ b. cond b (Some p) (Some r)) (le-ltb r.level p.level le)
 
 -- the shallowest is the newest of the first level
-chosen_is : (P : Post → Type 0) (ps : List Post) → AllByRecursion P ps → IfSome (chosen goes_above ps) P
+chosen_is : (P : Post → Type 0) (ps : List Post) → AllByRecursion P ps → IfSome (newest_by goes_above ps) P
 chosen_is P [] all = tt
-chosen_is P (p ∷ ps) all = by_choice (chosen goes_above ps) (chosen_is P ps all.1)
+chosen_is P (p ∷ ps) all = by_choice (newest_by goes_above ps) (chosen_is P ps all.1)
   where
     by_test : (q : Post) (b : Bool) → P q → IfSome (cond b (Some p) (Some q)) P
     by_test q true is = all.0
     by_test q false is = is
 
-    by_choice : (o : Option Post) → IfSome o P → IfSome (choice goes_above p o) P
+    by_choice : (o : Option Post) → IfSome o P → IfSome (newest_of goes_above p o) P
     by_choice None is = all.0
     by_choice (Some q) is = by_test q (goes_above p q) is
 
 pub shallowest_is : (n : ℕ) (p : Post) (ps qs : List Post) → AllByRecursion (λ r. r.level ≡ n) (p ∷ ps) → AllByRecursion (λ r. n < r.level) qs → shallowest ((p ∷ ps) ++ qs) ≡ newest (p ∷ ps)
-shallowest_is n p [] qs own above = by_chosen (chosen goes_above qs) (chosen_is (λ r. n < r.level) qs above)
+shallowest_is n p [] qs own above = by_chosen (newest_by goes_above qs) (chosen_is (λ r. n < r.level) qs above)
   where
-    by_chosen : (o : Option Post) → IfSome o (λ r. n < r.level) → choice goes_above p o ≡ Some p
+    by_chosen : (o : Option Post) → IfSome o (λ r. n < r.level) → newest_of goes_above p o ≡ Some p
     by_chosen None less = refl
     by_chosen (Some r) less = ap (λ b. cond b (Some p) (Some r)) (lt-ltb p.level r.level (let here = own.0 in omega arith))
-shallowest_is n p (q ∷ qs) rest own above = ap (choice goes_above p) (shallowest_is n q qs rest own.1 above) ∙ by_newest (newest (q ∷ qs)) (newest_some q qs) (newest_is (λ r. r.level ≡ n) (q ∷ qs) own.1)
+shallowest_is n p (q ∷ qs) rest own above = ap (newest_of goes_above p) (shallowest_is n q qs rest own.1 above) ∙ by_newest (newest (q ∷ qs)) (newest_some q qs) (newest_is (λ r. r.level ≡ n) (q ∷ qs) own.1)
   where
-    by_newest : (o : Option Post) → (r : Post) × (o ≡ Some r) → IfSome o (λ r. r.level ≡ n) → choice goes_above p o ≡ o
+    by_newest : (o : Option Post) → (r : Post) × (o ≡ Some r) → IfSome o (λ r. r.level ≡ n) → newest_of goes_above p o ≡ o
     by_newest None (r, is) same = cc
     by_newest (Some r) there same = ap (λ b. cond b (Some p) (Some r)) (le-ltb p.level r.level (let here = own.0 in omega arith))

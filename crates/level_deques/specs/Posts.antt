@@ -22,22 +22,22 @@ abbrev pub goes_below : Post → Post → Bool
 goes_below p q = nat_lt q.level p.level
 
 -- a post or what was chosen of newer ones, which has to be passed strictly
-abbrev pub choice : (Post → Post → Bool) → Post → Option Post → Option Post
-choice passes p None = Some p
-choice passes p (Some q) = if passes p q then Some p else Some q
+abbrev pub newest_of : (Post → Post → Bool) → Post → Option Post → Option Post
+newest_of passes p None = Some p
+newest_of passes p (Some q) = if passes p q then Some p else Some q
 
 -- the newest of those that none passes
-abbrev pub chosen : (Post → Post → Bool) → List Post → Option Post
-chosen passes [] = None
-chosen passes (p ∷ ps) = choice passes p (chosen passes ps)
+abbrev pub newest_by : (Post → Post → Bool) → List Post → Option Post
+newest_by passes [] = None
+newest_by passes (p ∷ ps) = newest_of passes p (newest_by passes ps)
 
 -- the newest of the least level
 abbrev pub shallowest : List Post → Option Post
-shallowest posts = chosen goes_above posts
+shallowest posts = newest_by goes_above posts
 
 -- the newest of the greatest level
 abbrev pub deepest : List Post → Option Post
-deepest posts = chosen goes_below posts
+deepest posts = newest_by goes_below posts
 
 -- the one to keep of the best so far and a newer one
 abbrev pub pick : (Post → Post → Bool) → Option Post → Post → Post

@@ -24,7 +24,7 @@ impl Model for Level {
 }
 
 impl Level {
-    /// One post, and its level; refused for want of memory alone.
+    /// One post, and its level; refused only when out of memory.
     pub fn of(alloc: Global, post: Post) -> Result<Level, AllocError>
         ensures { IfOk result (λ l. l ≡ record { level = post.level; posts = post ∷ [] }) }
     {
@@ -62,7 +62,7 @@ impl Level {
         self.posts.get(index).copied()
     }
 
-    /// Adds a post, the newest; refused for want of memory alone, which changes nothing.
+    /// Adds a post, the newest; refused only when out of memory, which changes nothing.
     pub fn post(&mut self, post: Post) -> Result<(), AllocError>
         ensures ok { OnOk result (self.new ≡ record self.old { posts = self.old.posts ++ post ∷ [] }) }
         ensures err { OnErr result (self.new ≡ self.old) }

@@ -69,13 +69,13 @@ impl Posts {
     }
 
     /// The posts stand by rising level.
-    pub fn stand_by_level(&self)
+    pub fn law_stand_by_level(&self)
         ensures { IsByLevel self.now }
     {
         let _ = &self.levels;
     }
 
-    /// Adds a post, the newest of its level; refused for want of memory alone, which changes nothing.
+    /// Adds a post, the newest of its level; refused only when out of memory, which changes nothing.
     pub fn post(&mut self, post: Post) -> Result<(), AllocError>
         ensures ok { OnOk result (self.new ≡ posted post self.old) }
         ensures err { OnErr result (self.new ≡ self.old) }
@@ -180,7 +180,7 @@ fn levels_below(levels: &[Level], level: u16) -> usize
     count
 }
 
-/// Puts a post behind those of its level; refused for want of memory alone, which changes nothing.
+/// Puts a post behind those of its level; refused only when out of memory, which changes nothing.
 fn put(alloc: Global, levels: &mut Vec<Level>, post: Post) -> Result<(), AllocError>
     requires { AreLevels levels.old.items }
     ensures ok { OnOk result (all_posts levels.new.items ≡ posted post (all_posts levels.old.items)) }

@@ -34,7 +34,7 @@ impl<T> Model for Owner<T> {
 }
 
 impl<T> Owner<T> {
-    /// Puts a ticket behind all others in the pool. It comes back only where the pool can't grow, for want of memory or past its
+    /// Puts a ticket behind all others in the pool. It comes back only where the pool can't grow, out of memory or past its
     /// limits (2^39 tickets at once, 2^62 in all), and never among the first `room` offers.
     pub fn offer(&mut self, ticket: T) -> Result<(), T>
         ensures pool { (self.new.pool ≡ self.old.pool) × (self.new.workers ≡ self.old.workers) × (self.new.room ≡ self.old.room) }

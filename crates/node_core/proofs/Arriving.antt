@@ -35,7 +35,7 @@ use Rattle.node_state.specs.Posts.{posts_after}
 use Rattle.node_core.proofs.Keeping.{FitsIf}
 use Rattle.node_core.proofs.Stopping.{all_stops}
 use Rattle.node_core.specs.Meeting.{NodeOn, comes}
-use Rattle.node_core.specs.Cases.{Choice, is_above, on_body}
+use Rattle.node_core.specs.Cases.{Candidate, is_above, on_body}
 use Rattle.node_core.specs.Moves.{aborts, acknowledges, stops}
 use Rattle.node_core.specs.Steps.{Does}
 use Rattle.node_core.proofs.Returning.{behind}
@@ -147,7 +147,7 @@ pub fits_here : (p : Program) (i : ℕ) (subs : List SubOf) (o : Offer) (s : Sub
 fits_here p i subs o s taken =
     rw taken.same (second_of (task_fits p (offered o).content.task && list_all (frame_fits p) (offered o).content.frames && list_all (record_fits p) (offered o).content.records) (progress_fits i subs (offered o).content (offered o).content.progress) taken.fits)
 
-pub offer_taken : (job : JobOf) (choice : Option Choice) (o : Offer) (n : NodeOf) (r : Roster) → n.state ≡ Member r → is_above o.hop (hop_in o.grant n.seen) ≡ true → sub_in o.grant n.subs ≡ None → content_fits job.program n.incarnation n.subs (offered o).content ≡ true → on_body job choice (body.Offer o) n ≡ Does (behind (acknowledges job o n) (comes job r (offered o) n))
+pub offer_taken : (job : JobOf) (choice : Option Candidate) (o : Offer) (n : NodeOf) (r : Roster) → n.state ≡ Member r → is_above o.hop (hop_in o.grant n.seen) ≡ true → sub_in o.grant n.subs ≡ None → content_fits job.program n.incarnation n.subs (offered o).content ≡ true → on_body job choice (body.Offer o) n ≡ Does (behind (acknowledges job o n) (comes job r (offered o) n))
 unfolding on_body by_state
 offer_taken job choice o n r at above absent fits = rw at (rw above (rw absent (rw fits refl)))
 

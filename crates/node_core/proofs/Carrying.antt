@@ -4,11 +4,11 @@ use Rattle.ids.specs.Names.{Grant}
 use Rattle.body_eval.specs.Done.{DoneOf}
 use Rattle.codec.specs.declared.body.Roster.{Roster}
 use Rattle.serial_meaning.specs.Job.{JobOf}
-use Rattle.sub_rules.specs.Carrying.{exec as carry}
-use Rattle.sub_rules.specs.declared.change.Change.{Change}
+use Rattle.sub_rules.specs.Carrying.{exec_content as carry}
+use Rattle.sub_rules.specs.declared.change.ContentChange.{ContentChange}
 use Rattle.sub_rules.specs.declared.change.SubError.{SubError}
 use Rattle.subcomputation.specs.Subs.{SubOf, sub_in}
-use Rattle.subcomputation.specs.Told.{carried_out, changed, Changed}
+use Rattle.subcomputation.specs.Told.{carried_out, changed, SubChange}
 use Rattle.node_state.specs.Node.{NodeOf, by_state}
 use Rattle.node_state.specs.Parts.{IsMember}
 use Rattle.node_state.specs.declared.parts.State.{State}
@@ -28,7 +28,7 @@ joined (Member r) member leaving other a is h = h r
 joined (Leaving r heir) member leaving other a is h = absurd is
 joined Ended member leaving other a is h = absurd is
 
-at_sub : (job : JobOf) (d : DoneOf) (g : Grant) (f : ℕ) (n : NodeOf) (s : SubOf) (c : Changed) (o : Result Change SubError) → carried_out s o ≡ Ok c → calls.changed job s n o ≡ Does (changes_of job c n)
+at_sub : (job : JobOf) (d : DoneOf) (g : Grant) (f : ℕ) (n : NodeOf) (s : SubOf) (c : SubChange) (o : Result ContentChange SubError) → carried_out s o ≡ Ok c → calls.changed job s n o ≡ Does (changes_of job c n)
 at_sub job d g f n s c (Ok change) is = let equal : changed s change ≡ c = cc in ap (λ k. Does (changes_of job k n)) equal
 at_sub job d g f n s c (Err e) is = cc
 
@@ -36,7 +36,7 @@ pub found : (job : JobOf) (d : DoneOf) (g : Grant) (f : ℕ) (n : NodeOf) (s : S
 unfolding by_option
 found job d g f n s a there is = rw there is
 
-pub exec_known : (job : JobOf) (d : DoneOf) (g : Grant) (f : ℕ) (n : NodeOf) (s : SubOf) (c : Changed) → IsMember n.state → sub_in g n.subs ≡ Some s → carried_out s (carry d f s.content) ≡ Ok c → calls.exec job d g f n ≡ Does (changes_of job c n)
+pub exec_known : (job : JobOf) (d : DoneOf) (g : Grant) (f : ℕ) (n : NodeOf) (s : SubOf) (c : SubChange) → IsMember n.state → sub_in g n.subs ≡ Some s → carried_out s (carry d f s.content) ≡ Ok c → calls.exec job d g f n ≡ Does (changes_of job c n)
 unfolding calls.exec
 exec_known job d g f n s c member there is = joined n.state _ _ (Refused error.NotJoined) (Does (changes_of job c n)) member (λ r. found job d g f n s (Does (changes_of job c n)) there (at_sub job d g f n s c (carry d f s.content) is))
 

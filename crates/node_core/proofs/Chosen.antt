@@ -5,13 +5,13 @@ use Rattle.std.proofs.lemmas.List.Sums.{sum_by-cons}
 use Rattle.ids.specs.Names.{Grant}
 use Rattle.ids.specs.Place.{level_of}
 use Rattle.level_deques.specs.declared.posts.Post.{Post}
-use Rattle.level_deques.specs.Posts.{choice, goes_above, shallowest}
+use Rattle.level_deques.specs.Posts.{newest_of, goes_above, shallowest}
 use Rattle.sub_rules.specs.Debts.{one_if}
 use Rattle.node_state.specs.Node.{NodeOf}
 use Rattle.node_state.specs.Parts.{ArePosts, is_post_at, is_same_post, times_posted}
 use Rattle.node_state.specs.Posts.{ReadyFrame, ready_at}
 use Rattle.node_state.proofs.Kept.{same_post}
-use Rattle.node_core.specs.Choosing.{MayChoose, choice_of, own_choice}
+use Rattle.node_core.specs.Choosing.{IsCandidate, candidate_of, own_candidate}
 
 -- of some posts one is chosen
 none_posted : (posts : List Post) → shallowest posts ≡ None → posts ≡ []
@@ -22,7 +22,7 @@ none_posted (p ∷ ps) none = by_rest (shallowest ps) none
     by_test q true at = absurd cc
     by_test q false at = absurd cc
 
-    by_rest : (o : Option Post) → choice goes_above p o ≡ None → p ∷ ps ≡ []
+    by_rest : (o : Option Post) → newest_of goes_above p o ≡ None → p ∷ ps ≡ []
     by_rest None at = absurd cc
     by_rest (Some q) at = by_test q (goes_above p q) at
 
@@ -43,7 +43,7 @@ chosen_stands q (p ∷ ps) first none = by_rest (chosen_stands q ps) (shallowest
     by_test r true rest is at = here cc
     by_test r false rest is at = rest (is ∙ at) behind
 
-    by_rest : (shallowest ps ≡ Some q → times_posted q ps ≡ 0 → ⊥) → (o : Option Post) → shallowest ps ≡ o → choice goes_above p o ≡ Some q → ⊥
+    by_rest : (shallowest ps ≡ Some q → times_posted q ps ≡ 0 → ⊥) → (o : Option Post) → shallowest ps ≡ o → newest_of goes_above p o ≡ Some q → ⊥
     by_rest rest None is at = here cc
     by_rest rest (Some r) is at = by_test r (goes_above p r) rest is at
 
@@ -63,12 +63,12 @@ unready_by g f (Some r) none =
     let level = level_of r.ready.frame.place in
     absurd (not_zero (nat_eq level level) (eq-eqb level level refl) (none (record { level = level; grant = g; frame = f }) refl refl))
 
-pub own_may_be_chosen : (n : NodeOf) (posts : List Post) → ArePosts n posts → MayChoose n (own_choice posts)
+pub own_may_be_chosen : (n : NodeOf) (posts : List Post) → ArePosts n posts → IsCandidate n (own_candidate posts)
 own_may_be_chosen n posts are = by_post (shallowest posts) refl
   where
     unposted : shallowest posts ≡ None → (p : Post) → is_post_at p (ready_at n p.grant p.frame) ≡ 0
     unposted none p = sym (are.each p) ∙ ap (times_posted p) (none_posted posts none)
 
-    by_post : (o : Option Post) → shallowest posts ≡ o → MayChoose n (choice_of o)
+    by_post : (o : Option Post) → shallowest posts ≡ o → IsCandidate n (candidate_of o)
     by_post None is = λ g f. unready_by g f (ready_at n g f) (λ p grant frame. rw grant at (rw frame at (unposted is p)))
     by_post (Some p) is = ready_by p (ready_at n p.grant p.frame) (λ zero. chosen_stands p posts is (are.each p ∙ zero))

@@ -14,10 +14,10 @@ use Rattle.kind_check.specs.declared.turn.Turn.{Turn}
 use Rattle.body_eval.specs.Done.{DoneOf}
 use Rattle.frames.specs.Frames.{frame_in}
 use Rattle.serial_meaning.specs.Job.{JobOf}
-use Rattle.sub_rules.specs.Carrying.{exec as carry, executed, holds_numbers, is_stale_of, is_turn_of, within_numbers}
+use Rattle.sub_rules.specs.Carrying.{exec_content as carry, executed, holds_numbers, is_stale_of, is_turn_of, within_numbers}
 use Rattle.sub_rules.specs.Changes.{granted_out, turned}
 use Rattle.sub_rules.specs.Content.{Ready, ready, ready_in, task_of}
-use Rattle.sub_rules.specs.declared.change.Change.{Change}
+use Rattle.sub_rules.specs.declared.change.ContentChange.{ContentChange}
 use Rattle.sub_rules.specs.declared.change.SubError.{SubError}
 use Rattle.sub_rules.specs.declared.change.SubError.TheVariants as sub
 use Rattle.sub_rules.specs.declared.content.Content.{Content}
@@ -30,7 +30,7 @@ use Rattle.node_state.specs.Posts.{ReadyFrame, ready_at, ready_of_sub}
 use Rattle.node_state.proofs.Kept.{member_holds}
 use Rattle.node_core.specs.Calls as calls
 use Rattle.node_core.specs.Cases.{by_option}
-use Rattle.node_core.specs.Meeting.{MayStarve}
+use Rattle.node_core.specs.Meeting.{MayLackMemory}
 use Rattle.node_core.specs.Steps.{Refused}
 use Rattle.node_core.specs.Views.{work_in, work_with}
 use Rattle.node_core.specs.declared.error.NodeError.TheVariants as error
@@ -187,10 +187,10 @@ module _ (job : JobOf) (g : Grant) (f : ℕ) (n : NodeOf) (s : SubOf) (member : 
       ready_known own.ready d own.there program own.thread own.numbers reached
 
   -- of a frame that is ready the turn is evaluated, and it isn't refused as stale
-  turned_starves : (change : Change) → MayStarve (calls.changed job s n (within_numbers change))
-  turned_starves change = by_test (nat_lt change.after.next (2 ^ 32))
+  turned_lacks_memory : (change : ContentChange) → MayLackMemory (calls.changed job s n (within_numbers change))
+  turned_lacks_memory change = by_test (nat_lt change.after.next (2 ^ 32))
     where
-      by_test : (b : Bool) → MayStarve (calls.changed job s n (cond {A = Result Change SubError} b (Ok change) (Err sub.Spent)))
+      by_test : (b : Bool) → MayLackMemory (calls.changed job s n (cond {A = Result ContentChange SubError} b (Ok change) (Err sub.Spent)))
       by_test true = tt
       by_test false = tt
 
@@ -198,8 +198,8 @@ module _ (job : JobOf) (g : Grant) (f : ℕ) (n : NodeOf) (s : SubOf) (member : 
   unfolding calls.exec
   exec_is d = joined n.state _ _ (Refused error.NotJoined) (calls.changed job s n (carry d f s.content)) member (λ _. found job d g f n s (calls.changed job s n (carry d f s.content)) there refl)
 
-  pub ready_starves : IsTotal job.program → Fits job.program s.content → is_some (ready_in f s.content) ≡ true → MayStarve (calls.exec_ready job g f n)
-  ready_starves total fits some =
+  pub ready_lacks_memory : IsTotal job.program → Fits job.program s.content → is_some (ready_in f s.content) ≡ true → MayLackMemory (calls.exec_ready job g f n)
+  ready_lacks_memory total fits some =
       let has = some_ready f s.content some in
       let r = has.ready in
       let is = has.there in
@@ -208,4 +208,4 @@ module _ (job : JobOf) (g : Grant) (f : ℕ) (n : NodeOf) (s : SubOf) (member : 
       let carried : carry d f s.content ≡ within_numbers (turned r.frame d.turn s.content) = carried_is f s.content r d is refl refl in
       let known : calls.exec job d g f n ≡ calls.changed job s n (within_numbers (turned r.frame d.turn s.content)) =
       exec_is d ∙ ap (calls.changed job s n) carried in
-      rw (ready_known r d is refl refl refl reaches.reached ∙ known) (turned_starves (turned r.frame d.turn s.content))
+      rw (ready_known r d is refl refl refl reaches.reached ∙ known) (turned_lacks_memory (turned r.frame d.turn s.content))

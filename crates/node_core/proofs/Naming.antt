@@ -11,7 +11,7 @@ use Rattle.body_eval.specs.Done.{DoneOf}
 use Rattle.codec.specs.declared.body.Roster.{Roster}
 use Rattle.frames.specs.Frames.{AreBelow, frame_in}
 use Rattle.serial_meaning.specs.Job.{JobOf}
-use Rattle.sub_rules.specs.Carrying.{exec as carry, executed}
+use Rattle.sub_rules.specs.Carrying.{exec_content as carry, executed}
 use Rattle.sub_rules.specs.Content.{ready}
 use Rattle.sub_rules.proofs.Sums.{all_found, found_name}
 use Rattle.subcomputation.specs.Subs.{SubOf, sub_in}
@@ -24,7 +24,7 @@ use Rattle.node_state.specs.declared.parts.State.{State}
 use Rattle.node_state.specs.declared.parts.State.TheVariants.{Joining, Member, Leaving, Ended}
 use Rattle.node_core.specs.Calls as calls
 use Rattle.node_core.specs.Cases.{by_option}
-use Rattle.node_core.specs.Meeting.{MayStarve, Meets, NodeOn}
+use Rattle.node_core.specs.Meeting.{MayLackMemory, Meets, NodeOn}
 use Rattle.node_core.specs.Moves.{move_to}
 use Rattle.node_core.specs.Steps.{Answer, Refused}
 use Rattle.node_core.specs.declared.error.NodeError.{NodeError}
@@ -44,8 +44,8 @@ meets_refused a error.NotJoined old is = (is, refl)
 meets_refused a error.Busy old is = (is, refl)
 meets_refused a error.Spent old is = (is, refl)
 
-pub starves_refused : (a : Answer) (e : NodeError) → a ≡ Refused e → e ≡ error.Memory → MayStarve a
-starves_refused a e is memory = rw is (rw memory tt)
+pub lacks_memory_refused : (a : Answer) (e : NodeError) → a ≡ Refused e → e ≡ error.Memory → MayLackMemory a
+lacks_memory_refused a e is memory = rw is (rw memory tt)
 
 -- a number above all that are given is that of no frame
 pub none_above : (n next : ℕ) (frames : List Frame) → AreBelow next frames → next ≤ n → frame_in n frames ≡ None

@@ -10,7 +10,7 @@ use Rattle.node_state.specs.Node.{NodeOf, by_state, put_confirmed}
 use Rattle.node_state.specs.Parts.{IsMember, PartsOf, with_posts}
 use Rattle.node_state.specs.declared.parts.State.{State}
 use Rattle.node_state.specs.declared.parts.State.TheVariants as stands
-use Rattle.node_core.specs.Cases.{Choice, confirms, is_released, left_behind, on_body}
+use Rattle.node_core.specs.Cases.{Candidate, confirms, is_released, left_behind, on_body}
 use Rattle.node_core.specs.Meeting.{CanLeave, CanOffer, Carries, NodeOn}
 use Rattle.node_core.specs.declared.parts.Step.{Step}
 use Rattle.node_core.specs.Moves
@@ -31,11 +31,11 @@ pub offering : (job : JobOf) (n : NodeOf) (r : Roster) (heir : ℕ) → n.state 
 offering job n r heir is can = rw is at can
 
 -- what an OfferAck leaves
-pub released : (job : JobOf) (choice : Option Choice) (b : OfferAck) (n : NodeOf) (r : Roster) (heir : ℕ) → n.state ≡ stands.Leaving r heir → is_released heir b (sub_in b.grant n.subs) ≡ true → on_body job choice (body.OfferAck b) n ≡ left_behind job r heir (record n { subs = without_sub b.grant n.subs })
+pub released : (job : JobOf) (choice : Option Candidate) (b : OfferAck) (n : NodeOf) (r : Roster) (heir : ℕ) → n.state ≡ stands.Leaving r heir → is_released heir b (sub_in b.grant n.subs) ≡ true → on_body job choice (body.OfferAck b) n ≡ left_behind job r heir (record n { subs = without_sub b.grant n.subs })
 unfolding on_body by_state
 released job choice b n r heir at is = rw at (rw is refl)
 
-pub confirmed : (job : JobOf) (choice : Option Choice) (b : OfferAck) (n : NodeOf) (r : Roster) (heir : ℕ) → n.state ≡ stands.Leaving r heir → is_released heir b (sub_in b.grant n.subs) ≡ false → (nat_eq b.hop 0 && list_any (confirms b) (Moves.awaited r n)) ≡ true → on_body job choice (body.OfferAck b) n ≡ left_behind job r heir (record n { confirmed = put_confirmed (record { thief = b.from; grant = b.grant }) n.confirmed })
+pub confirmed : (job : JobOf) (choice : Option Candidate) (b : OfferAck) (n : NodeOf) (r : Roster) (heir : ℕ) → n.state ≡ stands.Leaving r heir → is_released heir b (sub_in b.grant n.subs) ≡ false → (nat_eq b.hop 0 && list_any (confirms b) (Moves.awaited r n)) ≡ true → on_body job choice (body.OfferAck b) n ≡ left_behind job r heir (record n { confirmed = put_confirmed (record { thief = b.from; grant = b.grant }) n.confirmed })
 unfolding on_body by_state
 confirmed job choice b n r heir at not_so is = rw at (rw not_so (rw is refl))
 

@@ -9,7 +9,7 @@ use Rattle.node_state.specs.Node.{NodeOf}
 use Rattle.node_state.specs.Posts.{posts_after}
 use Rattle.node_core.specs.Calls.{ask, depart, exec_ready, resend}
 use Rattle.node_core.specs.Cases.{on_packet}
-use Rattle.node_core.specs.Choosing.{own_choice}
+use Rattle.node_core.specs.Choosing.{own_candidate}
 use Rattle.node_core.specs.Steps.{StepOf, Answer, Ignored, Refused, Does, quiet, ◌then◌}
 use Rattle.node_core.specs.declared.parts.Victim.{Victim}
 
@@ -27,7 +27,7 @@ job_of p = record { program = fib p; input = pos 2 ∷ []; number = 1 }
 
 module _ (job : JobOf) where
   abbrev pub answer : Call → List Post → NodeOf → Answer
-  answer (Comes b) posts n = on_packet job (own_choice posts) (record { job = job.number; to = n.incarnation; body = b }) n
+  answer (Comes b) posts n = on_packet job (own_candidate posts) (record { job = job.number; to = n.incarnation; body = b }) n
   answer (Asks v) posts n = ask job v n
   answer (Runs g f) posts n = exec_ready job g f n
   answer (Departs heir) posts n = depart job heir n

@@ -12,12 +12,12 @@ use Rattle.sub_rules.specs.Readiness.{TellsReady}
 use Rattle.sub_rules.specs.declared.change.Readied.{Readied}
 use Rattle.victim_records.specs.Records.{record_in}
 use Rattle.subcomputation.specs.Subs.{SubOf, host_in, sub_in}
-use Rattle.subcomputation.specs.Told.{HasNoOthersBut, changed, changed_by, Changed}
+use Rattle.subcomputation.specs.Told.{HasNoOthersBut, changed, changed_by, SubChange}
 use Rattle.node_state.specs.Node.{NodeOf, by_state}
 use Rattle.node_state.specs.Parts.{IsFresh, IsMember, IsNext}
 use Rattle.node_state.specs.declared.parts.State.{State}
 use Rattle.node_state.specs.declared.parts.State.TheVariants.{Joining, Member, Leaving, Ended}
-use Rattle.node_core.specs.Cases.{Choice, on_body, returned}
+use Rattle.node_core.specs.Cases.{Candidate, on_body, returned}
 use Rattle.node_core.specs.Meeting.{Meets, MeetsBehind, NodeOn, changes_of}
 use Rattle.node_core.specs.Moves
 use Rattle.node_core.specs.Steps.{Answer, Does, Ignored, StepOf, for_some, sends}
@@ -44,7 +44,7 @@ unknown : (job : JobOf) (b : TaskResult) (n : NodeOf) → host_in b.grant n.subs
 unfolding for_some
 unknown job b n none = rw none refl
 
-pub result_unknown : (job : JobOf) (choice : Option Choice) (b : TaskResult) (n : NodeOf) → IsMember n.state → host_in b.grant n.subs ≡ None → on_body job choice (body.Result b) n ≡ Does (sends (ack_of job b ∷ []) n)
+pub result_unknown : (job : JobOf) (choice : Option Candidate) (b : TaskResult) (n : NodeOf) → IsMember n.state → host_in b.grant n.subs ≡ None → on_body job choice (body.Result b) n ≡ Does (sends (ack_of job b ∷ []) n)
 unfolding on_body
 result_unknown job choice b n member none = by_member n.state (λ r. returned job b n) (λ r heir. Ignored) (Does (sends (ack_of job b ∷ []) n)) member (λ r is. unknown job b n none)
 
@@ -52,7 +52,7 @@ closes_none : (job : JobOf) (b : TaskResult) (n : NodeOf) (s : SubOf) → host_i
 unfolding for_some
 closes_none job b n s there none = rw there (rw none refl)
 
-pub result_closed : (job : JobOf) (choice : Option Choice) (b : TaskResult) (n : NodeOf) (s : SubOf) → IsMember n.state → host_in b.grant n.subs ≡ Some s → None ≡ changed_by s (closed_in b.outcome s.content (record_in b.grant s.content.records)) → on_body job choice (body.Result b) n ≡ Does (sends (ack_of job b ∷ []) n)
+pub result_closed : (job : JobOf) (choice : Option Candidate) (b : TaskResult) (n : NodeOf) (s : SubOf) → IsMember n.state → host_in b.grant n.subs ≡ Some s → None ≡ changed_by s (closed_in b.outcome s.content (record_in b.grant s.content.records)) → on_body job choice (body.Result b) n ≡ Does (sends (ack_of job b ∷ []) n)
 unfolding on_body
 result_closed job choice b n s member there none = by_member n.state (λ r. returned job b n) (λ r heir. Ignored) (Does (sends (ack_of job b ∷ []) n)) member (λ r is. by_record (record_in b.grant s.content.records) refl none)
   where
@@ -64,7 +64,7 @@ closes_some : (job : JobOf) (b : TaskResult) (n : NodeOf) (s : SubOf) (x : Recor
 unfolding for_some
 closes_some job b n s x there found = rw there (rw found refl)
 
-pub result_known : (job : JobOf) (choice : Option Choice) (b : TaskResult) (n : NodeOf) (s : SubOf) (c : Changed) → IsMember n.state → host_in b.grant n.subs ≡ Some s → Some c ≡ changed_by s (closed_in b.outcome s.content (record_in b.grant s.content.records)) → on_body job choice (body.Result b) n ≡ Does (behind (ack_of job b) (changes_of job c n))
+pub result_known : (job : JobOf) (choice : Option Candidate) (b : TaskResult) (n : NodeOf) (s : SubOf) (c : SubChange) → IsMember n.state → host_in b.grant n.subs ≡ Some s → Some c ≡ changed_by s (closed_in b.outcome s.content (record_in b.grant s.content.records)) → on_body job choice (body.Result b) n ≡ Does (behind (ack_of job b) (changes_of job c n))
 unfolding on_body
 result_known job choice b n s c member there is = by_member n.state (λ r. returned job b n) (λ r heir. Ignored) (Does (behind (ack_of job b) (changes_of job c n))) member (λ r at. by_record (record_in b.grant s.content.records) refl is)
   where
@@ -96,6 +96,6 @@ fresh_after n name before after is none others h fresh =
 pub next : (n : NodeOf) (s : SubOf) (after : SubOf) (told : List Readied) → IsMember n.state → after.grant ≡ s.grant → sub_in s.grant n.subs ≡ Some s → TellsReady s.content after.content told → IsNext n after told
 next n s after told member same there ready = record { member = member; before = s; there = ap (λ g. sub_in g n.subs) same ∙ there; ready = ready }
 
-pub result_grant : (b : TaskResult) (s : SubOf) (c : Changed) (o : Option Record) → Some c ≡ changed_by s (closed_in b.outcome s.content o) → c.after.grant ≡ s.grant
+pub result_grant : (b : TaskResult) (s : SubOf) (c : SubChange) (o : Option Record) → Some c ≡ changed_by s (closed_in b.outcome s.content o) → c.after.grant ≡ s.grant
 result_grant b s c None is = cc
-result_grant b s c (Some x) is = let equal : changed s (closed x b.outcome s.content) ≡ c = cc in ap (λ (d : Changed). d.after.grant) (sym equal)
+result_grant b s c (Some x) is = let equal : changed s (closed x b.outcome s.content) ≡ c = cc in ap (λ (d : SubChange). d.after.grant) (sym equal)

@@ -9,7 +9,7 @@ use Rattle.recovery.specs.declared.plan.Stopped.{Stopped}
 use Rattle.serial_meaning.specs.Job.{JobOf}
 use Rattle.steal_protocol.specs.Requests.{settled}
 use Rattle.subcomputation.specs.Recovering.{recovered}
-use Rattle.subcomputation.specs.Subs.{grants_of}
+use Rattle.subcomputation.specs.Subs.{grants_of_subs}
 use Rattle.node_state.specs.Node.{NodeOf}
 use Rattle.node_state.specs.Parts.{PartsOf, with_posts}
 use Rattle.node_state.specs.Posts.{posts_after}
@@ -28,7 +28,7 @@ stops_sent job records stopped is = ap (map (stops job)) is ∙ all_stops job re
 
 -- a node that keeps a roster and recovered by it
 abbrev recovers_to : Roster → Option Status → NodeOf → NodeOf
-recovers_to r victim n = record n { state = Member r; subs = (recovered r.members (grants_of n.subs) n.subs).subs; asker = settled victim n.asker }
+recovers_to r victim n = record n { state = Member r; subs = (recovered r.members (grants_of_subs n.subs) n.subs).subs; asker = settled victim n.asker }
 
 abbrev on : JobOf → PartsOf → NodeOn
 on job p = record { job = job; node = p.node; posts = p.posts }
@@ -36,9 +36,9 @@ on job p = record { job = job; node = p.node; posts = p.posts }
 abbrev after : NodeOn → Roster → NodeOn
 after w r = record w { node = (recovers_by w.job r w.node).after; posts = posts_after (recovers_by w.job r w.node).after (recovers_by w.job r w.node).ready w.posts }
 
-pub recovered_view : (v w : NodeOn) (p : PartsOf) (r : Roster) (victim : Option Status) → v ≡ w → p ≡ with_posts (recovers_to r victim v.node) (recovered r.members (grants_of v.node.subs) v.node.subs).again v.posts → victim ≡ status_of r.members w.node.asker.pending → on v.job p ≡ after w r
+pub recovered_view : (v w : NodeOn) (p : PartsOf) (r : Roster) (victim : Option Status) → v ≡ w → p ≡ with_posts (recovers_to r victim v.node) (recovered r.members (grants_of_subs v.node.subs) v.node.subs).again v.posts → victim ≡ status_of r.members w.node.asker.pending → on v.job p ≡ after w r
 recovered_view v w p r victim same is told =
     ap (on v.job) is
-    ∙ (ap (λ (x : NodeOn). on x.job (with_posts (recovers_to r victim x.node) (recovered r.members (grants_of x.node.subs) x.node.subs).again x.posts)) same
-    ∙ (ap (λ s. on w.job (with_posts (recovers_to r s w.node) (recovered r.members (grants_of w.node.subs) w.node.subs).again w.posts)) told
-    ∙ ap (λ again. on w.job (with_posts (recovers_to r (status_of r.members w.node.asker.pending) w.node) again w.posts)) (sym (append-nil (recovered r.members (grants_of w.node.subs) w.node.subs).again))))
+    ∙ (ap (λ (x : NodeOn). on x.job (with_posts (recovers_to r victim x.node) (recovered r.members (grants_of_subs x.node.subs) x.node.subs).again x.posts)) same
+    ∙ (ap (λ s. on w.job (with_posts (recovers_to r s w.node) (recovered r.members (grants_of_subs w.node.subs) w.node.subs).again w.posts)) told
+    ∙ ap (λ again. on w.job (with_posts (recovers_to r (status_of r.members w.node.asker.pending) w.node) again w.posts)) (sym (append-nil (recovered r.members (grants_of_subs w.node.subs) w.node.subs).again))))

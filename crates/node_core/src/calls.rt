@@ -6,7 +6,7 @@ ghost use Rattle.ids.specs.Ordered.{AreInOrder};
 ghost use Rattle.node_core.specs.Calls as calls;
 ghost use Rattle.node_core.specs.Moves as moves;
 ghost use Rattle.node_state.specs.Node.{NodeOf};
-ghost use Rattle.node_core.specs.Meeting.{MayStarve, Meets, StarvesLast};
+ghost use Rattle.node_core.specs.Meeting.{MayLackMemory, Meets, LacksMemoryLast};
 ghost use Rattle.node_core.specs.declared.error.NodeError.TheVariants.{Memory};
 
 use crate::error::NodeError;
@@ -28,9 +28,9 @@ impl<'a> Node<'a> {
     #[tactic(auto, unfolding(crate::specs::Calls::ask, node_state::specs::Node::by_state))]
     pub fn ask(&mut self, alloc: Global, victim: Victim) -> Result<Step, NodeError>
         ensures answer { Meets (calls.ask self.old.job victim self.old.node) result self.old self.new }
-        ensures starved { IsErrOf result Memory → StarvesLast (calls.ask self.old.job victim self.old.node) }
+        ensures out_of_memory { IsErrOf result Memory → LacksMemoryLast (calls.ask self.old.job victim self.old.node) }
     {
-        self.roster_rises();
+        self.law_roster_rises();
         let roster = match self.parts.state() {
             State::Member(roster) => roster,
             State::Leaving(roster, _) => {
@@ -81,7 +81,7 @@ impl<'a> Node<'a> {
     ) -> Result<Step, NodeError>
         requires { done.now.program ≡ self.old.job.program }
         ensures answer { Meets (calls.exec self.old.job done.now grant frame self.old.node) result self.old self.new }
-        ensures starved { IsErrOf result Memory → MayStarve (calls.exec self.old.job done.now grant frame self.old.node) }
+        ensures out_of_memory { IsErrOf result Memory → MayLackMemory (calls.exec self.old.job done.now grant frame self.old.node) }
     {
         match self.parts.state() {
             State::Member(_) => {}
@@ -102,9 +102,9 @@ impl<'a> Node<'a> {
     #[tactic(auto, unfolding(crate::specs::Calls::resend, node_state::specs::Node::by_state))]
     pub fn resend(&self, alloc: Global) -> Result<Step, NodeError>
         ensures answer { Meets (calls.resend self.now.job self.now.node) result self.now self.now }
-        ensures starved { IsErrOf result Memory → MayStarve (calls.resend self.now.job self.now.node) }
+        ensures out_of_memory { IsErrOf result Memory → MayLackMemory (calls.resend self.now.job self.now.node) }
     {
-        self.parts.nothing_goes();
+        self.parts.law_nothing_goes();
         match self.parts.state() {
             State::Joining => {
                 let join = Join {

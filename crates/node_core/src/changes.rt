@@ -5,7 +5,7 @@ ghost use Rattle.node_state.specs.Parts.{IsMember};
 ghost use Rattle.subcomputation.specs.Subs.{SubOf, sub_in};
 ghost use Rattle.subcomputation.specs.Told.{changed_of};
 ghost use Rattle.node_core.specs.Cases as cases;
-ghost use Rattle.node_core.specs.Choosing.{own_choice};
+ghost use Rattle.node_core.specs.Choosing.{own_candidate};
 ghost use Rattle.node_core.specs.Meeting.{Meets, MeetsBehind, MayChangeIn, changes_of};
 
 use crate::error::NodeError;
@@ -26,7 +26,7 @@ impl<'a> Node<'a> {
         outcome: TaskResult,
     ) -> Result<Step, NodeError>
         requires { IsMember self.old.node.state }
-        ensures { Meets (cases.on_body self.old.job (own_choice self.old.posts) (body.Result outcome) self.old.node) result self.old self.new }
+        ensures { Meets (cases.on_body self.old.job (own_candidate self.old.posts) (body.Result outcome) self.old.node) result self.old self.new }
     {
         let ack = ResultAck {
             grant: outcome.grant,
@@ -35,7 +35,7 @@ impl<'a> Node<'a> {
             alloc,
             &Packet::result_ack(self.job.number(), outcome.from, ack),
         )?;
-        self.parts.nothing_goes();
+        self.parts.law_nothing_goes();
         let Some(host) = self.parts.host(outcome.grant) else {
             return Ok(sends(alloc, sent));
         };
@@ -88,7 +88,7 @@ impl<'a> Node<'a> {
     #[tactic(auto, unfolding(crate::specs::Cases::on_body, crate::specs::Cases::by_option, node_state::specs::Node::by_state))]
     pub(crate) fn member_abort(&mut self, alloc: Global, abort: Abort) -> Result<Step, NodeError>
         requires { IsMember self.old.node.state }
-        ensures { Meets (cases.on_body self.old.job (own_choice self.old.posts) (body.Abort abort) self.old.node) result self.old self.new }
+        ensures { Meets (cases.on_body self.old.job (own_candidate self.old.posts) (body.Abort abort) self.old.node) result self.old self.new }
     {
         let Some(sub) = self.parts.sub(abort.grant) else {
             return Ok(ignored(alloc));

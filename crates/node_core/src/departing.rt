@@ -13,8 +13,8 @@ ghost use Rattle.node_state.specs.Parts.{IsMember, IsLeaving, IsJoined};
 ghost use Rattle.node_state.specs.declared.parts.State.TheVariants.{Member, Leaving};
 ghost use Rattle.node_core.specs.Calls as calls;
 ghost use Rattle.node_core.specs.Cases as cases;
-ghost use Rattle.node_core.specs.Choosing.{own_choice};
-ghost use Rattle.node_core.specs.Meeting.{MayStarve, Meets};
+ghost use Rattle.node_core.specs.Choosing.{own_candidate};
+ghost use Rattle.node_core.specs.Meeting.{MayLackMemory, Meets};
 ghost use Rattle.node_core.specs.Moves as moves;
 ghost use Rattle.node_core.specs.declared.error.NodeError.TheVariants.{Memory};
 
@@ -27,7 +27,7 @@ use codec::{
     Beat, Body, Datagram, Grant, Leave, Offer, OfferAck, Packet, Roster, Steal, alone, send,
 };
 use departure::{FreezeError, Move};
-use ids::{Actor, GrantId, Incarnation, Listed, Named, Store};
+use ids::{Actor, GrantId, Incarnation, Listed, Named, SortedMap};
 use node_state::{Confirmed, State};
 use std::alloc::{AllocError, Global};
 use std::marker::Model;
@@ -42,7 +42,7 @@ impl<'a> Node<'a> {
     #[tactic(auto, unfolding(crate::specs::Calls::depart, node_state::specs::Node::by_state))]
     pub fn depart(&mut self, alloc: Global, heir: Incarnation) -> Result<Step, NodeError>
         ensures answer { Meets (calls.depart self.old.job heir self.old.node) result self.old self.new }
-        ensures starved { IsErrOf result Memory → MayStarve (calls.depart self.old.job heir self.old.node) }
+        ensures out_of_memory { IsErrOf result Memory → MayLackMemory (calls.depart self.old.job heir self.old.node) }
     {
         match self.parts.state() {
             State::Member(_) => {}
@@ -65,10 +65,10 @@ impl<'a> Node<'a> {
         let State::Member(roster) = self.parts.state() else {
             return Err(FreezeError::Memory);
         };
-        self.roster_rises();
+        self.law_roster_rises();
         let is_pending = self.parts.asker().pending().is_some();
         let step = self.move_to(heir);
-        self.all_fit();
+        self.law_all_fit();
         let mut sent = step.freeze_all(
             alloc,
             self.job.checked(),
@@ -94,10 +94,10 @@ impl<'a> Node<'a> {
     }
 
     /// All that a node holds fits the program. Does nothing.
-    fn all_fit(&self)
+    fn law_all_fit(&self)
         ensures { AllFit self.now.job.program self.now.node.subs }
     {
-        self.parts.held().stand_in_order();
+        self.parts.held().law_stand_in_order();
     }
 
     /// A newer roster is kept, and nothing that is frozen changes; but a node that holds something ends where its heir isn't
@@ -110,7 +110,7 @@ impl<'a> Node<'a> {
     ) -> Result<Step, NodeError>
         requires leaving { IsLeaving self.old.node.state }
         requires rising { AreInOrder name_of_member roster.members }
-        ensures { Meets (cases.on_body self.old.job (own_choice self.old.posts) (body.Roster roster) self.old.node) result self.old self.new }
+        ensures { Meets (cases.on_body self.old.job (own_candidate self.old.posts) (body.Roster roster) self.old.node) result self.old self.new }
     {
         let State::Leaving(kept, heir) = self.parts.state() else {
             return Ok(ignored(alloc));
@@ -138,16 +138,16 @@ impl<'a> Node<'a> {
     #[tactic(auto, unfolding(crate::specs::Cases::on_body, steal_protocol::specs::Replies::by_order, node_state::specs::Node::by_state))]
     pub(crate) fn leaving_steal(&mut self, alloc: Global, steal: Steal) -> Result<Step, NodeError>
         requires { IsLeaving self.old.node.state }
-        ensures { Meets (cases.on_body self.old.job (own_choice self.old.posts) (body.Steal steal) self.old.node) result self.old self.new }
+        ensures { Meets (cases.on_body self.old.job (own_candidate self.old.posts) (body.Steal steal) self.old.node) result self.old self.new }
     {
         let State::Leaving(roster, _) = self.parts.state() else {
             return Ok(ignored(alloc));
         };
-        self.roster_rises();
+        self.law_roster_rises();
         if !says_live(status_of(roster.members.as_slice(), Actor::worker(steal.from))) {
             return Ok(ignored(alloc));
         }
-        self.parts.nothing_goes();
+        self.parts.law_nothing_goes();
         match self.parts.replies().hear(steal.from, steal.seq) {
             Heard::Older => Ok(ignored(alloc)),
             Heard::Again(reply) => Ok(sends(alloc, alone(alloc, reply)?)),
@@ -159,9 +159,9 @@ impl<'a> Node<'a> {
     #[tactic(auto, unfolding(crate::specs::Cases::on_body, node_state::specs::Node::by_state))]
     pub(crate) fn leaving_grant(&mut self, alloc: Global, grant: Grant) -> Result<Step, NodeError>
         requires { IsLeaving self.old.node.state }
-        ensures { Meets (cases.on_body self.old.job (own_choice self.old.posts) (body.Grant grant) self.old.node) result self.old self.new }
+        ensures { Meets (cases.on_body self.old.job (own_candidate self.old.posts) (body.Grant grant) self.old.node) result self.old self.new }
     {
-        self.parts.waits_for_nothing();
+        self.parts.law_waits_for_nothing();
         self.acknowledge_grant(alloc, grant.grant)
     }
 
@@ -169,12 +169,12 @@ impl<'a> Node<'a> {
     #[tactic(auto, unfolding(crate::specs::Cases::on_body, node_state::specs::Node::by_state))]
     pub(crate) fn leaving_offer(&mut self, alloc: Global, offer: Offer) -> Result<Step, NodeError>
         requires { IsLeaving self.old.node.state }
-        ensures { Meets (cases.on_body self.old.job (own_choice self.old.posts) (body.Offer offer) self.old.node) result self.old self.new }
+        ensures { Meets (cases.on_body self.old.job (own_candidate self.old.posts) (body.Offer offer) self.old.node) result self.old self.new }
     {
         if self.is_above(&offer) {
             return Ok(ignored(alloc));
         }
-        self.parts.nothing_goes();
+        self.parts.law_nothing_goes();
         Ok(sends(alloc, self.acknowledged(alloc, &offer)?))
     }
 
@@ -187,13 +187,13 @@ impl<'a> Node<'a> {
         ack: OfferAck,
     ) -> Result<Step, NodeError>
         requires { IsLeaving self.old.node.state }
-        ensures { Meets (cases.on_body self.old.job (own_choice self.old.posts) (body.OfferAck ack) self.old.node) result self.old self.new }
+        ensures { Meets (cases.on_body self.old.job (own_candidate self.old.posts) (body.OfferAck ack) self.old.node) result self.old self.new }
     {
         let State::Leaving(roster, heir) = self.parts.state() else {
             return Ok(ignored(alloc));
         };
         let heir = *heir;
-        self.roster_rises();
+        self.law_roster_rises();
         let is_released = self.is_released(heir, &ack);
         let is_confirmed = self.is_confirmed_by(roster, &ack);
         let sent = alone(alloc, &self.leave(roster, heir))?;
@@ -231,7 +231,7 @@ impl<'a> Node<'a> {
         let State::Leaving(roster, _) = self.parts.state() else {
             return quiet(alloc);
         };
-        self.roster_rises();
+        self.law_roster_rises();
         if self.is_done(roster) {
             sends(alloc, leave)
         } else {
@@ -251,12 +251,12 @@ impl<'a> Node<'a> {
         ensures memory { IfErr result (λ e. e ≡ Memory) }
     {
         let mut sent = self.beat(alloc, roster)?;
-        self.all_fit();
+        self.law_all_fit();
         let offers = self
             .move_to(heir)
             .offers(alloc, self.job.checked(), self.parts.held())?;
         send_on(&mut sent, offers)?;
-        self.roster_rises();
+        self.law_roster_rises();
         let awaited = self.awaited_grants(alloc, roster)?;
         send_grants(alloc, &mut sent, &awaited)?;
         self.send_leave(alloc, &mut sent, roster, heir)?;
@@ -361,11 +361,11 @@ impl<'a> Node<'a> {
         &'b self,
         alloc: Global,
         roster: &Roster,
-    ) -> Result<Store<Given<'b>>, AllocError>
+    ) -> Result<SortedMap<Given<'b>>, AllocError>
         requires { AreInOrder name_of_member roster.now.members }
         ensures { IfOk result (λ given. given ≡ moves.with_given (moves.all_given (moves.awaited roster.now self.now.node)) []) }
     {
-        let mut given = Store::new(alloc);
+        let mut given = SortedMap::new(alloc);
         for reply in self.parts.replies().values() {
             if self.is_awaited(roster, reply) {
                 if let Some(grant) = given_by(reply.packet.body()) {
@@ -436,7 +436,7 @@ fn confirms(ack: &OfferAck, reply: &Reply) -> bool
 fn send_grants(
     alloc: Global,
     sent: &mut Listed<Datagram>,
-    given: &Store<Given>,
+    given: &SortedMap<Given>,
 ) -> Result<(), AllocError>
     ensures { OnOk result (sent.new ≡ sent.old ++ map (λ (g : moves.Given). g.packet) given.now) }
 {

@@ -5,9 +5,9 @@ ghost use Rattle.node_state.specs.Parts.{IsJoined, IsMember, MayOpenIn};
 ghost use Rattle.subcomputation.specs.Fitting.{Fits, task_fits};
 ghost use Rattle.sub_rules.specs.Updates.{opened_in};
 ghost use Rattle.subcomputation.specs.Subs.{SubOf, sub_in};
-ghost use Rattle.subcomputation.specs.Told.{given_of};
+ghost use Rattle.subcomputation.specs.Told.{sub_grant_of};
 ghost use Rattle.node_core.specs.Cases as cases;
-ghost use Rattle.node_core.specs.Choosing.{own_choice};
+ghost use Rattle.node_core.specs.Choosing.{own_candidate};
 ghost use Rattle.node_core.specs.Meeting.{Meets, gives};
 ghost use Rattle.node_core.specs.Moves as moves;
 ghost use Rattle.node_core.specs.Steps.{Does};
@@ -33,16 +33,16 @@ impl<'a> Node<'a> {
     #[tactic(auto, unfolding(crate::specs::Cases::on_body, steal_protocol::specs::Replies::by_order, node_state::specs::Node::by_state))]
     pub(crate) fn member_steal(&mut self, alloc: Global, steal: Steal) -> Result<Step, NodeError>
         requires { IsMember self.old.node.state }
-        ensures { Meets (cases.on_body self.old.job (own_choice self.old.posts) (body.Steal steal) self.old.node) result self.old self.new }
+        ensures { Meets (cases.on_body self.old.job (own_candidate self.old.posts) (body.Steal steal) self.old.node) result self.old self.new }
     {
         let State::Member(roster) = self.parts.state() else {
             return Ok(ignored(alloc));
         };
-        self.roster_rises();
+        self.law_roster_rises();
         if !says_live(status_of(roster.members.as_slice(), Actor::worker(steal.from))) {
             return Ok(ignored(alloc));
         }
-        self.parts.nothing_goes();
+        self.parts.law_nothing_goes();
         match self.parts.replies().hear(steal.from, steal.seq) {
             Heard::Older => Ok(ignored(alloc)),
             Heard::Again(reply) => Ok(sends(alloc, alone(alloc, reply)?)),
@@ -54,7 +54,7 @@ impl<'a> Node<'a> {
     /// is ready it is refused.
     fn serve(&mut self, alloc: Global, steal: Steal) -> Result<Step, NodeError>
         requires { IsMember self.old.node.state }
-        ensures { Meets (cases.served self.old.job steal (cases.chosen_in self.old.node (own_choice self.old.posts)) self.old.node) result self.old self.new }
+        ensures { Meets (cases.served self.old.job steal (cases.candidate_in self.old.node (own_candidate self.old.posts)) self.old.node) result self.old self.new }
     {
         let Some(post) = self.parts.posts().shallowest() else {
             return self.refuse(alloc, steal);
@@ -101,9 +101,9 @@ impl<'a> Node<'a> {
         requires may { MayOpenIn self.old.node host opening.opened }
         requires fits { (s : SubOf) → sub_in host self.old.node.subs ≡ Some s → Fits self.old.job.program (opened_in opening.opened s.content) }
         requires task { IsTrue (task_fits self.old.job.program opening.task) }
-        ensures { (s : SubOf) → sub_in host self.old.node.subs ≡ Some s → Meets (Does (gives self.old.job steal name (given_of s opening) self.old.node)) result self.old self.new }
+        ensures { (s : SubOf) → sub_in host self.old.node.subs ≡ Some s → Meets (Does (gives self.old.job steal name (sub_grant_of s opening) self.old.node)) result self.old self.new }
     {
-        self.fitting_task_is_few(&opening.task);
+        self.law_fitting_task_is_few(&opening.task);
         let Opening { opened, task } = opening;
         let grant = Grant {
             seq: steal.seq,
@@ -125,7 +125,7 @@ impl<'a> Node<'a> {
     }
 
     /// A task that fits the program has a thread below 64, and at most 8 numbers. Does nothing.
-    fn fitting_task_is_few(&self, task: &Task)
+    fn law_fitting_task_is_few(&self, task: &Task)
         requires { IsTrue (task_fits self.now.job.program task.now) }
         ensures thread { task.now.thread < 64 }
         ensures numbers { length task.now.numbers ≤ 8 }
@@ -147,7 +147,7 @@ impl<'a> Node<'a> {
     #[tactic(auto, unfolding(crate::specs::Cases::on_body, node_state::specs::Node::by_state))]
     pub(crate) fn member_grant(&mut self, alloc: Global, grant: Grant) -> Result<Step, NodeError>
         requires { IsMember self.old.node.state }
-        ensures { Meets (cases.on_body self.old.job (own_choice self.old.posts) (body.Grant grant) self.old.node) result self.old self.new }
+        ensures { Meets (cases.on_body self.old.job (own_candidate self.old.posts) (body.Grant grant) self.old.node) result self.old self.new }
     {
         let is_seen = self.parts.hop(grant.grant).is_some();
         if !is_seen
@@ -168,7 +168,7 @@ impl<'a> Node<'a> {
         ensures { Meets (cases.acknowledged_again self.old.job grant self.old.node) result self.old self.new }
     {
         let is_seen = self.parts.hop(grant).is_some();
-        self.parts.nothing_goes();
+        self.parts.law_nothing_goes();
         match grant.minter().incarnation() {
             Some(minter) if is_seen => {
                 let ack = OfferAck {

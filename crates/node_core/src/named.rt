@@ -10,7 +10,7 @@ ghost use Rattle.subcomputation.specs.Subs.{SubOf, sub_in};
 ghost use Rattle.node_state.specs.Node.{by_state};
 ghost use Rattle.node_state.specs.declared.parts.State.TheVariants as state;
 ghost use Rattle.node_core.specs.Calls as calls;
-ghost use Rattle.node_core.specs.Meeting.{MayStarve, Meets, StarvesLast};
+ghost use Rattle.node_core.specs.Meeting.{MayLackMemory, Meets, LacksMemoryLast};
 ghost use Rattle.node_core.specs.declared.error.NodeError.TheVariants.{Memory, NotJoined, Stale, Busy, Pending, NoHeir};
 ghost use Rattle.node_core.specs.declared.parts.Victim.TheVariants as victim;
 
@@ -33,7 +33,7 @@ impl<'a> Node<'a> {
         frame: u64,
     ) -> Result<Step, NodeError>
         ensures answer { Meets (calls.exec_ready self.old.job (record { minter = minter; number = number }) frame self.old.node) result self.old self.new }
-        ensures starved { IsErrOf result Memory → MayStarve (calls.exec_ready self.old.job (record { minter = minter; number = number }) frame self.old.node) }
+        ensures out_of_memory { IsErrOf result Memory → MayLackMemory (calls.exec_ready self.old.job (record { minter = minter; number = number }) frame self.old.node) }
     {
         match self.named(minter, number, frame) {
             Some((grant, frame)) => self.exec_ready(alloc, grant, frame),
@@ -52,7 +52,7 @@ impl<'a> Node<'a> {
     ) -> Result<Step, NodeError>
         requires { done.now.program ≡ self.old.job.program }
         ensures answer { Meets (calls.exec_ready self.old.job (record { minter = minter; number = number }) frame self.old.node) result self.old self.new }
-        ensures starved { IsErrOf result Memory → MayStarve (calls.exec_ready self.old.job (record { minter = minter; number = number }) frame self.old.node) }
+        ensures out_of_memory { IsErrOf result Memory → MayLackMemory (calls.exec_ready self.old.job (record { minter = minter; number = number }) frame self.old.node) }
     {
         match self.named(minter, number, frame) {
             Some((grant, frame)) => self.exec_turn(alloc, grant, frame, done),
@@ -86,12 +86,12 @@ impl<'a> Node<'a> {
     /// As `ask`, for a worker by its start word: E60 too for a word that is no worker's.
     pub fn ask_named(&mut self, alloc: Global, word: u64) -> Result<Step, NodeError>
         ensures answer { Meets (calls.ask self.old.job (victim.Worker word) self.old.node) result self.old self.new }
-        ensures starved { IsErrOf result Memory → StarvesLast (calls.ask self.old.job (victim.Worker word) self.old.node) }
+        ensures out_of_memory { IsErrOf result Memory → LacksMemoryLast (calls.ask self.old.job (victim.Worker word) self.old.node) }
     {
         match Incarnation::worker(word) {
             Some(worker) => self.ask(alloc, Victim::Worker(worker)),
             None => {
-                self.shows_workers(word);
+                self.law_shows_workers(word);
                 Err(NodeError::NotJoined)
             }
         }
@@ -100,12 +100,12 @@ impl<'a> Node<'a> {
     /// As `depart`, for an heir by its start word: E53 too for a word that is no worker's, where `depart` would say so.
     pub fn depart_named(&mut self, alloc: Global, heir: u64) -> Result<Step, NodeError>
         ensures answer { Meets (calls.depart self.old.job heir self.old.node) result self.old self.new }
-        ensures starved { IsErrOf result Memory → MayStarve (calls.depart self.old.job heir self.old.node) }
+        ensures out_of_memory { IsErrOf result Memory → MayLackMemory (calls.depart self.old.job heir self.old.node) }
     {
         match Incarnation::worker(heir) {
             Some(worker) => self.depart(alloc, worker),
             None => {
-                self.shows_workers(heir);
+                self.law_shows_workers(heir);
                 Err(self.heirless())
             }
         }
@@ -131,15 +131,15 @@ impl<'a> Node<'a> {
     }
 
     /// A word that is no worker's isn't shown live by the roster that the node has. Does nothing.
-    fn shows_workers(&self, word: u64)
+    fn law_shows_workers(&self, word: u64)
         requires { is_worker word ≡ false }
         ensures member { (r : declared.Roster) → self.now.node.state ≡ state.Member r → is_live word r.members ≡ false }
         ensures leaving { (r : declared.Roster) (heir : _) → self.now.node.state ≡ state.Leaving r heir → is_live word r.members ≡ false }
     {
-        self.roster_rises();
+        self.law_roster_rises();
         match self.parts.state() {
-            State::Member(roster) => lists_workers(roster.members.as_slice(), word),
-            State::Leaving(roster, _) => lists_workers(roster.members.as_slice(), word),
+            State::Member(roster) => law_lists_workers(roster.members.as_slice(), word),
+            State::Leaving(roster, _) => law_lists_workers(roster.members.as_slice(), word),
             State::Joining | State::Ended => {}
         }
     }
@@ -158,7 +158,7 @@ fn frame_named(sub: &Sub, number: u64) -> Option<FrameNo>
 }
 
 /// A word that is no worker's isn't shown live by members. Does nothing.
-fn lists_workers(members: &[Member], word: u64)
+fn law_lists_workers(members: &[Member], word: u64)
     requires order { AreInOrder name_of_member members.now }
     requires other { is_worker word ≡ false }
     ensures { is_live word members.now ≡ false }

@@ -9,7 +9,7 @@ ghost use Rattle.serial_meaning.specs.Job.{meaning_of};
 ghost use Rattle.steal_protocol.specs.declared.asker.Request as asking;
 ghost use Rattle.node_core.specs.Calls as calls;
 ghost use Rattle.node_core.specs.Cases as cases;
-ghost use Rattle.node_core.specs.Choosing.{MayChoose, own_choice};
+ghost use Rattle.node_core.specs.Choosing.{IsCandidate, own_candidate};
 ghost use Rattle.node_core.specs.Meeting.{Meets};
 ghost use Rattle.node_core.specs.declared.error.NodeError.TheVariants.{Memory};
 ghost use Rattle.node_core.specs.Moves as moves;
@@ -106,7 +106,7 @@ impl<'a> Node<'a> {
     /// where a request would be granted and no grant is left to mint, E63 where there is no memory. A refusal changes nothing.
     #[tactic(auto, unfolding(crate::specs::Cases::on_packet))]
     pub fn on_bytes(&mut self, alloc: Global, bytes: &[u8]) -> Result<Step, NodeError>
-        ensures { Meets (cases.on_bytes self.old.job (own_choice self.old.posts) bytes.now self.old.node) result self.old self.new }
+        ensures { Meets (cases.on_bytes self.old.job (own_candidate self.old.posts) bytes.now self.old.node) result self.old self.new }
     {
         let packet = match decode(alloc, bytes) {
             Ok(packet) => packet,
@@ -125,7 +125,7 @@ impl<'a> Node<'a> {
     #[tactic(auto, unfolding(crate::specs::Cases::on_body, node_state::specs::Node::by_state))]
     fn on_body(&mut self, alloc: Global, body: Body) -> Result<Step, NodeError>
         requires { IsTrue (fits_body body) }
-        ensures { Meets (cases.on_body self.old.job (own_choice self.old.posts) body self.old.node) result self.old self.new }
+        ensures { Meets (cases.on_body self.old.job (own_candidate self.old.posts) body self.old.node) result self.old self.new }
     {
         codec::rosters_rise();
         on_case! { self, alloc, body;
@@ -145,7 +145,7 @@ impl<'a> Node<'a> {
     }
 
     /// The members of the roster that a node has stand by rising incarnation. Does nothing.
-    pub(crate) fn roster_rises(&self)
+    pub(crate) fn law_roster_rises(&self)
         ensures member { (r : declared.Roster) → self.now.node.state ≡ Member r → AreInOrder name_of_member r.members }
         ensures leaving { (r : declared.Roster) (heir : _) → self.now.node.state ≡ Leaving r heir → AreInOrder name_of_member r.members }
     {
@@ -153,8 +153,8 @@ impl<'a> Node<'a> {
     }
 
     /// The frame that a thief would be granted now is one that is ready, and none only where none is. Does nothing.
-    pub fn may_choose(&self)
-        ensures { MayChoose self.now.node (own_choice self.now.posts) }
+    pub fn law_may_choose(&self)
+        ensures { IsCandidate self.now.node (own_candidate self.now.posts) }
     {
         let _ = self.parts.posts();
     }

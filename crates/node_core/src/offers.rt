@@ -10,7 +10,7 @@ ghost use Rattle.node_state.specs.Node.{hop_in};
 ghost use Rattle.node_state.specs.Parts.{IsMember, IsJoined, HasNoNewRecord};
 ghost use Rattle.node_state.specs.declared.parts.State.TheVariants.{Member};
 ghost use Rattle.node_core.specs.Cases as cases;
-ghost use Rattle.node_core.specs.Choosing.{own_choice};
+ghost use Rattle.node_core.specs.Choosing.{own_candidate};
 ghost use Rattle.node_core.specs.Meeting.{Meets, MeetsBehind, comes};
 ghost use Rattle.node_core.specs.Moves as moves;
 
@@ -33,11 +33,11 @@ impl<'a> Node<'a> {
     pub(crate) fn member_offer(&mut self, alloc: Global, offer: Offer) -> Result<Step, NodeError>
         requires member { IsMember self.old.node.state }
         requires fits { IsTrue (table.offer.fits offer) }
-        ensures { Meets (cases.on_body self.old.job (own_choice self.old.posts) (body.Offer offer) self.old.node) result self.old self.new }
+        ensures { Meets (cases.on_body self.old.job (own_candidate self.old.posts) (body.Offer offer) self.old.node) result self.old self.new }
     {
         let sent = self.acknowledged(alloc, &offer)?;
         if !self.is_above(&offer) {
-            self.parts.nothing_goes();
+            self.parts.law_nothing_goes();
             return Ok(sends(alloc, sent));
         }
         if self.parts.sub(offer.grant).is_some() {
@@ -68,7 +68,7 @@ impl<'a> Node<'a> {
         let State::Member(roster) = self.parts.state() else {
             return Err(NodeError::Memory);
         };
-        self.is_foreign(&sub);
+        self.law_is_foreign(&sub);
         recovery::recovery_alone_is_recovery_beside();
         let (grant, hop) = (sub.grant(), sub.hop());
         let alone = recover_alone(alloc, roster.members.as_slice(), sub)?;
@@ -80,7 +80,7 @@ impl<'a> Node<'a> {
     }
 
     /// What fits here has no record of what is held here, and none of a grant that was minted here. Does nothing.
-    fn is_foreign(&self, sub: &Sub)
+    fn law_is_foreign(&self, sub: &Sub)
         requires { progress_fits self.now.node.incarnation self.now.node.subs sub.now.content sub.now.content.progress ≡ true }
         ensures records { AreForeign sub.now.content.records self.now.node.subs }
         ensures minted { HasNoNewRecord self.now.node sub.now }

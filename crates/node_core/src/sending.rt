@@ -12,7 +12,7 @@ use ids::{GrantId, Incarnation, Listed, Outcome, Progress};
 use recovery::Stopped;
 use serial_meaning::Job;
 use std::alloc::{AllocError, Global};
-use sub_rules::{Filling, Leaver, Update, Work};
+use sub_rules::{Filling, Leaver, Replacement, Update};
 use subcomputation::Sub;
 use victim_records::Records;
 
@@ -140,7 +140,7 @@ pub fn send_end(
     requires active { sub.now.content.progress ≡ Active }
     ensures { OnOk result (sent.new ≡ sent.old ++ moves.aborts job.now (dropped_by update.now.work (left_by update.now.leaver sub.now.content)) ++ moves.results job.now from (updated_sub update.now sub.now)) }
 {
-    let Work::Ends(outcome) = &update.work else {
+    let Replacement::Ends(outcome) = &update.work else {
         return Ok(());
     };
     send_dropped(alloc, job, sent, sub, update.leaver)?;

@@ -1,7 +1,7 @@
 //! A node carries out a ready frame by that frame's own turn.
 ghost use Rattle.std.specs.Prelude.{◌≡◌, true, IsErrOf};
 ghost use Rattle.node_core.specs.Calls as calls;
-ghost use Rattle.node_core.specs.Meeting.{MayStarve, Meets};
+ghost use Rattle.node_core.specs.Meeting.{MayLackMemory, Meets};
 ghost use Rattle.node_core.specs.declared.error.NodeError.TheVariants.{Memory};
 
 use crate::error::NodeError;
@@ -26,7 +26,7 @@ impl<'a> Node<'a> {
         frame: FrameNo,
     ) -> Result<Step, NodeError>
         ensures answer { Meets (calls.exec_ready self.old.job grant frame self.old.node) result self.old self.new }
-        ensures starved { IsErrOf result Memory → MayStarve (calls.exec_ready self.old.job grant frame self.old.node) }
+        ensures out_of_memory { IsErrOf result Memory → MayLackMemory (calls.exec_ready self.old.job grant frame self.old.node) }
     {
         match self.parts.state() {
             State::Member(_) => {}
@@ -59,7 +59,7 @@ impl<'a> Node<'a> {
     ) -> Result<Step, NodeError>
         requires { done.now.program ≡ self.old.job.program }
         ensures answer { Meets (calls.exec_ready self.old.job grant frame self.old.node) result self.old self.new }
-        ensures starved { IsErrOf result Memory → MayStarve (calls.exec_ready self.old.job grant frame self.old.node) }
+        ensures out_of_memory { IsErrOf result Memory → MayLackMemory (calls.exec_ready self.old.job grant frame self.old.node) }
     {
         if self.is_own(grant, frame, done) {
             self.exec(alloc, grant, frame, done)

@@ -11,8 +11,8 @@ use Rattle.body_eval.specs.Done.{DoneOf}
 use Rattle.codec.specs.Table.{PacketOf}
 use Rattle.codec.specs.declared.body.Roster.{Roster}
 use Rattle.serial_meaning.specs.Job.{JobOf}
-use Rattle.sub_rules.specs.Carrying.{exec as carried_out}
-use Rattle.sub_rules.specs.declared.change.Change.{Change}
+use Rattle.sub_rules.specs.Carrying.{exec_content as carried_out}
+use Rattle.sub_rules.specs.declared.change.ContentChange.{ContentChange}
 use Rattle.sub_rules.specs.declared.change.Filling.{Filling}
 use Rattle.sub_rules.specs.declared.change.SubError.{SubError}
 use Rattle.sub_rules.specs.declared.change.SubError.TheVariants as sub
@@ -36,12 +36,12 @@ use Rattle.run_tables.specs.Program.{program_meaning}
 use Rattle.run_tables.specs.Moves.{alter}
 use Rattle.run_tables.specs.Runs.{Run}
 use Rattle.run_tables.proofs.Lists.{early}
-use Rattle.content_moves.specs.Moved.{IsKept, IsMove, fill_of, grants_of, told, told_by}
+use Rattle.content_moves.specs.Moved.{IsKept, IsMove, fill_of, grants_of_records, told, told_by}
 use Rattle.content_moves.proofs.Carrying.{turn_moves}
 use Rattle.content_moves.proofs.Evaluated.{IsCarried, carried}
 use Rattle.content_moves.proofs.Keeping.{turn_kept}
 use Rattle.content_moves.proofs.Orders.{put_order}
-use Rattle.actor_moves.specs.Beside.{Keeps, unmoved, moved}
+use Rattle.actor_moves.specs.Beside.{KeepsSent, unmoved, moved}
 use Rattle.actor_moves.proofs.Sent.{keeps_one, of_alter}
 use Rattle.node_moves.specs.Shows.{IsShown, PartsShown, NodeShown}
 use Rattle.node_moves.specs.Steps.{AllShown, StepShown, AnswerShown, shown_fills}
@@ -50,7 +50,7 @@ use Rattle.node_moves.proofs.Told.{packet_kept, both_shown}
 use Rattle.node_moves.proofs.Members.{member_shown, own_sub}
 
 -- Aborts of records whose grants are settled
-pub aborts_shown : (job : JobOf) (v : View) (records : List Record) → ((g : Grant) → g ∈ grants_of records → g ∈ v.settled) → AllShown v (aborts job records)
+pub aborts_shown : (job : JobOf) (v : View) (records : List Record) → ((g : Grant) → g ∈ grants_of_records records → g ∈ v.settled) → AllShown v (aborts job records)
 aborts_shown job v [] all p x = absurd x
 aborts_shown job v (r ∷ records) all p (inl e) = rw e (all r.grant (inl refl))
 aborts_shown job v (r ∷ records) all p (inr x) = aborts_shown job v records (λ g y. all g (inr y)) p x
@@ -71,11 +71,11 @@ fill_shown g (Some x) fills = refl
 
 module _ (m : Meaning) (job : JobOf) (v : View) (n : NodeOf) (run : Run m v) (shown : NodeShown v n) (p : PartsShown v n) where
   -- a change that is a move
-  pub changes_behind : (before : List PacketOf) (s : SubOf) (c : Change) (gone : List Grant) (held : HeldAt (v.subs n.incarnation s.grant) s) → IsMove m v n.incarnation s.grant held.sub c.after c.fill gone → IsKept c.after → ((g : Grant) → g ∈ grants_of c.dropped → g ∈ gone) → ((w : View) → Keeps v w → ((g : Grant) → g ∈ gone → g ∈ w.settled) → AllShown w before) → StepShown m job.number v n (sends before n then changes job s c)
+  pub changes_behind : (before : List PacketOf) (s : SubOf) (c : ContentChange) (gone : List Grant) (held : HeldAt (v.subs n.incarnation s.grant) s) → IsMove m v n.incarnation s.grant held.sub c.after c.fill gone → IsKept c.after → ((g : Grant) → g ∈ grants_of_records c.dropped → g ∈ gone) → ((w : View) → KeepsSent v w → ((g : Grant) → g ∈ gone → g ∈ w.settled) → AllShown w before) → StepShown m job.number v n (sends before n then changes job s c)
   changes_behind before s c gone held move kept all told_first =
       let t = held.sub in
       let view : View = alter v n.incarnation s.grant t move.content (fill_of s.grant c.fill) (told s.grant c.after) gone in
-      let keeps : Keeps v view = keeps_one move.move in
+      let keeps : KeepsSent v view = keeps_one move.move in
       let after : SubOf = with_content s c.after in
       let new : IsShown (record { hop = t.hop; content = move.content }) after = record { hop = held.shown.hop; content = move.shown; kept = kept } in
       let parts : PartsShown view (changes job s c n).after = record {
@@ -104,27 +104,27 @@ module _ (m : Meaning) (job : JobOf) (v : View) (n : NodeOf) (run : Run m v) (sh
         fills = fill_shown s.grant c.fill v.fills;
       }
 
-  pub changes_shown : (s : SubOf) (c : Change) (gone : List Grant) (held : HeldAt (v.subs n.incarnation s.grant) s) → IsMove m v n.incarnation s.grant held.sub c.after c.fill gone → IsKept c.after → ((g : Grant) → g ∈ grants_of c.dropped → g ∈ gone) → StepShown m job.number v n (changes job s c n)
+  pub changes_shown : (s : SubOf) (c : ContentChange) (gone : List Grant) (held : HeldAt (v.subs n.incarnation s.grant) s) → IsMove m v n.incarnation s.grant held.sub c.after c.fill gone → IsKept c.after → ((g : Grant) → g ∈ grants_of_records c.dropped → g ∈ gone) → StepShown m job.number v n (changes job s c n)
   changes_shown s c gone held move kept all = changes_behind [] s c gone held move kept all (λ w k x p m. absurd m)
 
 -- a turn is carried out that ends as the job's program does
 module _ (job : JobOf) (v : View) (n : NodeOf) (r : Roster) (run : Run (program_meaning job.program job.input) v) (is : n.state ≡ Member r) (shown : NodeShown v n) where
-  turned_shown : (d : DoneOf) (s : SubOf) (f : ℕ) (c : Change) → turn_of job.program d.thread d.numbers ≡ Some d.turn → sub_in s.grant n.subs ≡ Some s → carried_out d f s.content ≡ Ok c → StepShown (program_meaning job.program job.input) job.number v n (changes job s c n)
+  turned_shown : (d : DoneOf) (s : SubOf) (f : ℕ) (c : ContentChange) → turn_of job.program d.thread d.numbers ≡ Some d.turn → sub_in s.grant n.subs ≡ Some s → carried_out d f s.content ≡ Ok c → StepShown (program_meaning job.program job.input) job.number v n (changes job s c n)
   turned_shown d s f c end there ok =
       let h = member_shown v n r is shown in
       let held : HeldAt (v.subs n.incarnation s.grant) s = held_at (v.subs n.incarnation s.grant) (sub_in s.grant n.subs) s (h.parts.subs s.grant) there in
       let live : Live v n.incarnation s.grant held.sub = record { member = h.mode; holds = held.is } in
       let x : IsCarried d f s.content c = carried d f s.content c ok in
       let turn : turn_of job.program x.frame.thread d.numbers ≡ Some d.turn = rw x.thread end in
-      let move : IsMove (program_meaning job.program job.input) v n.incarnation s.grant held.sub c.after c.fill (grants_of c.dropped) = rw (← x.is) (turn_moves job.program job.input v n.incarnation s.grant held.sub s.content x.frame d.numbers live (record { kept = held.shown.kept; shows = held.shown.content; there = x.there; full = x.full }) d.turn turn) in
+      let move : IsMove (program_meaning job.program job.input) v n.incarnation s.grant held.sub c.after c.fill (grants_of_records c.dropped) = rw (← x.is) (turn_moves job.program job.input v n.incarnation s.grant held.sub s.content x.frame d.numbers live (record { kept = held.shown.kept; shows = held.shown.content; there = x.there; full = x.full }) d.turn turn) in
       let kept : IsKept c.after = rw (← x.is) (turn_kept s.content x.frame d.numbers held.shown.kept x.there x.full d.turn) in
-      changes_shown (program_meaning job.program job.input) job v n run shown h.parts s c (grants_of c.dropped) held move kept (λ g y. y)
+      changes_shown (program_meaning job.program job.input) job v n run shown h.parts s c (grants_of_records c.dropped) held move kept (λ g y. y)
 
   pub exec_member_shown : (d : DoneOf) (g : Grant) (f : ℕ) → turn_of job.program d.thread d.numbers ≡ Some d.turn → AnswerShown (program_meaning job.program job.input) job.number v n (by_option (sub_in g n.subs) (Refused error.Stale) (λ s. calls.changed job s n (carried_out d f s.content)))
   unfolding by_option
   exec_member_shown d g f end = by_sub (sub_in g n.subs) refl
     where
-      by_change : (s : SubOf) → sub_in s.grant n.subs ≡ Some s → (o : Result Change SubError) → carried_out d f s.content ≡ o → AnswerShown (program_meaning job.program job.input) job.number v n (calls.changed job s n o)
+      by_change : (s : SubOf) → sub_in s.grant n.subs ≡ Some s → (o : Result ContentChange SubError) → carried_out d f s.content ≡ o → AnswerShown (program_meaning job.program job.input) job.number v n (calls.changed job s n o)
       by_change s there (Ok c) ok = turned_shown d s f c end there ok
       by_change s there (Err sub.Stale) e = tt
       by_change s there (Err sub.Spent) e = tt

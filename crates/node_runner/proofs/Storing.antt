@@ -3,7 +3,7 @@ use Rattle.std.proofs.Common.{◌≡◌, ◌⊎◌, ℕ, ◌+◌, List, Option, 
 use Rattle.ids.specs.declared.outcome.Outcome.{Outcome}
 use Rattle.disk.specs.declared.cells.Cell.{Cell}
 use Rattle.checkpoint.specs.Moments.{KeepsEither}
-use Rattle.checkpoint.specs.declared.record.Record.{Record}
+use Rattle.checkpoint.specs.declared.record.CheckpointRecord.{CheckpointRecord}
 use Rattle.checkpoint.specs.declared.record.StoreError.{StoreError}
 use Rattle.node_runner.specs.Stored.{LeavesOutcomes}
 
@@ -18,7 +18,7 @@ some_before None r x begins known is = let none : Some x ≡ None = rw is at (be
 some_before (Some y) r x begins known is = let said : r ≡ Ok (Some y) = known y refl in cc
 
 -- a disk that keeps one of two records
-pub leaves_either : (file : List Cell) (n : ℕ) (before next : Record) (number : ℕ) (Is : Outcome → Type 0) → KeepsEither file n before next → before.job ≡ number → next.job ≡ number → IfSome before.outcome Is → IfSome next.outcome Is → LeavesOutcomes file number Is
+pub leaves_either : (file : List Cell) (n : ℕ) (before next : CheckpointRecord) (number : ℕ) (Is : Outcome → Type 0) → KeepsEither file n before next → before.job ≡ number → next.job ≡ number → IfSome before.outcome Is → IfSome next.outcome Is → LeavesOutcomes file number Is
 leaves_either file n before next number Is either own next_own was is = λ c left. elim (either c left) [
   | inl reads ↦ (n, before, reads, own, was)
   | inr reads ↦ (n + 1, next, reads, next_own, is)

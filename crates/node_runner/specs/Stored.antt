@@ -3,8 +3,8 @@ use Rattle.std.specs.Prelude.{◌≡◌, ◌⊎◌, ℕ, List, Option, None, Som
 use Rattle.ids.specs.declared.outcome.Outcome.{Outcome}
 use Rattle.disk.specs.declared.cells.Cell.{Cell}
 use Rattle.disk.specs.File.{CrashLeaves}
-use Rattle.checkpoint.specs.Store.{Reads}
-use Rattle.checkpoint.specs.declared.record.Record.{Record}
+use Rattle.checkpoint.specs.Store.{ReadsAsStore}
+use Rattle.checkpoint.specs.declared.record.CheckpointRecord.{CheckpointRecord}
 use Rattle.serial_meaning.specs.Job.{JobOf, meaning_of}
 use Rattle.chronicle.specs.History.{IsSafeHistory, first_outcome}
 use Rattle.chronicle.specs.declared.kept.Entry.{Entry}
@@ -24,4 +24,4 @@ IsStoredOf job kept s = ((kept ≡ Some s.outcome) × (s.trace ≡ None)) ⊎ ((
 
 -- whatever a crash leaves is a store of the job of this number, and an outcome in it is such a one
 abbrev pub LeavesOutcomes : List Cell → ℕ → (Outcome → Type 0) → Type 0
-LeavesOutcomes file number Is = (c : List ℕ) → CrashLeaves file c → (n : ℕ) × (r : Record) × Reads c n r × (r.job ≡ number) × IfSome r.outcome Is
+LeavesOutcomes file number Is = (c : List ℕ) → CrashLeaves file c → (n : ℕ) × (r : CheckpointRecord) × ReadsAsStore c n r × (r.job ≡ number) × IfSome r.outcome Is

@@ -1,6 +1,6 @@
 ghost use Rattle.std.specs.Prelude.{◌≡◌, None, Some, Ok, IfOk, IfSome, OnOk};
 ghost use Rattle.ids.specs.declared.outcome.Outcome.{Outcome as OutcomeOf};
-ghost use Rattle.checkpoint.specs.Store.{Keeps};
+ghost use Rattle.checkpoint.specs.Store.{KeepsRecord};
 ghost use Rattle.serial_meaning.specs.Job.{meaning_of};
 ghost use Rattle.node_runner.specs.Stored.{IsStoredOf, LeavesOutcomes};
 
@@ -47,8 +47,8 @@ pub fn run_stored<'a, R: Threads + Wait + Clock + Sync, G: Gate + Sync, D: Disk>
 
     // Where whatever a crash leaves of the disk has the current record, it is so after it; and at any end it is a store of the job without
     // outcome, or with the job's meaning, if it was that before.
-    ensures kept { Keeps (D.device store.old.disk).file store.old.sequence store.old.record → OnOk result (Keeps (D.device store.new.disk).file store.new.sequence store.new.record) }
-    ensures left { Keeps (D.device store.old.disk).file store.old.sequence store.old.record → IfSome store.old.record.outcome (λ o. o ≡ meaning_of job.now)
+    ensures kept { KeepsRecord (D.device store.old.disk).file store.old.sequence store.old.record → OnOk result (KeepsRecord (D.device store.new.disk).file store.new.sequence store.new.record) }
+    ensures left { KeepsRecord (D.device store.old.disk).file store.old.sequence store.old.record → IfSome store.old.record.outcome (λ o. o ≡ meaning_of job.now)
         → LeavesOutcomes (D.device store.new.disk).file store.old.record.job (λ o. o ≡ meaning_of job.now) }
 {
     match begin_run(store) {

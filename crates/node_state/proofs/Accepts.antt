@@ -11,7 +11,7 @@ use Rattle.level_deques.specs.declared.posts.Post.{Post}
 use Rattle.victim_records.specs.Records.{record_in}
 use Rattle.sub_rules.specs.Changes.{readied_in}
 use Rattle.sub_rules.specs.Content.{ready_in}
-use Rattle.sub_rules.specs.Readiness.{times}
+use Rattle.sub_rules.specs.Readiness.{times_listed}
 use Rattle.sub_rules.specs.declared.change.Readied.{Readied}
 use Rattle.subcomputation.specs.Subs.{SubOf, name_of_sub, put_sub, sub_in, without_sub}
 use Rattle.subcomputation.proofs.Others.{put_goes, put_other}
@@ -98,8 +98,8 @@ module _ (n : NodeOf) (g : Grant) (hop : ℕ) (told : List Readied) (posts : Lis
   }
 
   -- or it came
-  came_told : (s : SubOf) → ComesTold s told → (r : Readied) → times r (readied_in s.content.frames) ≡ cond (is_some (ready_in r.frame s.content)) (times r told + 0) 0
-  came_told s comes r = comes.each r ∙ ap (λ k. cond (is_some (ready_in r.frame s.content)) k 0) (let nothing : times r told ≡ times r told + 0 = omega arith in nothing)
+  came_told : (s : SubOf) → ComesTold s told → (r : Readied) → times_listed r (readied_in s.content.frames) ≡ cond (is_some (ready_in r.frame s.content)) (times_listed r told + 0) 0
+  came_told s comes r = comes.each r ∙ ap (λ k. cond (is_some (ready_in r.frame s.content)) k 0) (let nothing : times_listed r told ≡ times_listed r told + 0 = omega arith in nothing)
 
   -- its frames are posted
   posts_accepted : (s : SubOf) → s.grant ≡ g → ComesTold s told → AreInOrder name_of_frame s.content.frames → ArePosts (accepted n g hop (Some s)) (posts_after (accepted n g hop (Some s)) (ready_of g told) posts)

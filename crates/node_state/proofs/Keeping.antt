@@ -15,7 +15,7 @@ use Rattle.level_deques.specs.declared.posts.Post.{Post}
 use Rattle.victim_records.specs.Records.{record_in}
 use Rattle.sub_rules.specs.Changes.{readied_in}
 use Rattle.sub_rules.specs.Content.{Ready, is_ready, ready_in}
-use Rattle.sub_rules.specs.Readiness.{listed_of, times}
+use Rattle.sub_rules.specs.Readiness.{listed_of, times_listed}
 use Rattle.sub_rules.specs.declared.change.Readied.{Readied}
 use Rattle.sub_rules.specs.declared.content.Content.{Content}
 use Rattle.sub_rules.specs.declared.updates.Update.{Update}
@@ -27,7 +27,7 @@ use Rattle.steal_protocol.specs.Replies.{name_of_reply, put_reply, reply_in, wit
 use Rattle.steal_protocol.specs.declared.replies.Reply.{Reply}
 use Rattle.subcomputation.specs.Subs.{SubOf, name_of_sub, put_sub, ready_frames, sub_in, without_sub}
 use Rattle.subcomputation.specs.Told.{opened_sub, updated_sub}
-use Rattle.subcomputation.specs.declared.sub.ReadyIn.{ReadyIn}
+use Rattle.subcomputation.specs.declared.sub.ReadiedOf.{ReadiedOf}
 use Rattle.subcomputation.proofs.Others.{put_goes, put_other, without_itself, without_other}
 use Rattle.node_state.specs.Node.{NodeOf, by_state, ended, holding, hop_in, name_of_seen, put_seen, starting}
 use Rattle.node_state.specs.Parts.{AreParts, ArePosts, AreTaken, AsksByState, HasNoNewRecord, HoldsByState, IsFresh, IsJoined, IsLeaving, IsMember, IsNext, MayBeMember, PartsOf, ready_of, same_grant, with_posts}
@@ -185,10 +185,10 @@ no_sub_yet n g taken none = by_sub (sub_in g n.subs) refl
     by_sub None is = is
     by_sub (Some s) is = let some : IsSome (hop_in g n.seen) = taken g s is in (let never : is_some {T = ℕ} None ≡ true = rw none at some in cc)
 
-all_told : (s : SubOf) → AreInOrder name_of_frame s.content.frames → (r : Readied) → times r (readied_in s.content.frames) ≡ cond (is_some (ready_in r.frame s.content)) (times r (readied_in s.content.frames) + 0) 0
+all_told : (s : SubOf) → AreInOrder name_of_frame s.content.frames → (r : Readied) → times_listed r (readied_in s.content.frames) ≡ cond (is_some (ready_in r.frame s.content)) (times_listed r (readied_in s.content.frames) + 0) 0
 all_told s order r = by_ready (ready_in r.frame s.content) refl
   where
-    by_ready : (o : Option Ready) → ready_in r.frame s.content ≡ o → times r (readied_in s.content.frames) ≡ cond (is_some o) (times r (readied_in s.content.frames) + 0) 0
+    by_ready : (o : Option Ready) → ready_in r.frame s.content ≡ o → times_listed r (readied_in s.content.frames) ≡ cond (is_some o) (times_listed r (readied_in s.content.frames) + 0) 0
     by_ready None is = is_listed s.content order r ∙ ap (stands r) is
     by_ready (Some x) is = omega arith
 
@@ -279,7 +279,7 @@ member_view v w r a b same equal may are = rw same (rw equal (member_kept w r b 
 abbrev record_of : NodeOf → List Post → PartsOf
 record_of m posts = record { node = m; posts = posts }
 
-pub posts_view : (m : NodeOf) (became : List ReadyIn) (posts posted kept : List Post) → IsMember m.state → posted ≡ posted_all became posts → kept ≡ filter (λ p. is_some (ready_of_sub p.frame (sub_in p.grant m.subs))) posted → record_of m kept ≡ with_posts m became posts
+pub posts_view : (m : NodeOf) (became : List ReadiedOf) (posts posted kept : List Post) → IsMember m.state → posted ≡ posted_all became posts → kept ≡ filter (λ p. is_some (ready_of_sub p.frame (sub_in p.grant m.subs))) posted → record_of m kept ≡ with_posts m became posts
 posts_view m became posts posted kept member posted_is kept_is =
     ap (record_of m)
     (kept_is

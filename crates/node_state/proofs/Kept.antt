@@ -11,11 +11,11 @@ use Rattle.level_deques.specs.declared.posts.Post.{Post}
 use Rattle.sub_rules.specs.Changes.{readied_in}
 use Rattle.sub_rules.specs.Content.{Ready, ready_in}
 use Rattle.sub_rules.specs.Debts.{one_if}
-use Rattle.sub_rules.specs.Readiness.{times}
+use Rattle.sub_rules.specs.Readiness.{times_listed}
 use Rattle.sub_rules.specs.declared.change.Readied.{Readied}
 use Rattle.sub_rules.specs.declared.content.Content.{Content}
 use Rattle.subcomputation.specs.Subs.{SubOf, name_of_sub, put_sub, sub_in, without_sub}
-use Rattle.subcomputation.specs.declared.sub.ReadyIn.{ReadyIn}
+use Rattle.subcomputation.specs.declared.sub.ReadiedOf.{ReadiedOf}
 use Rattle.node_state.specs.Node.{NodeOf, by_state}
 use Rattle.node_state.specs.Parts.{ArePosts, IsMember, is_post_at, is_same_post, same_grant, times_posted, ready_of}
 use Rattle.node_state.specs.Posts.{ReadyFrame, live_subs, posted_all, posts_after, is_ready_post, ready_at, ready_of_sub}
@@ -31,12 +31,12 @@ stands r (Some x) = one_if (nat_eq r.level (level_of x.frame.place))
 
 -- the ready frames of a content are listed once
 abbrev pub IsListed : Content → Type 0
-IsListed c = (r : Readied) → times r (readied_in c.frames) ≡ stands r (ready_in r.frame c)
+IsListed c = (r : Readied) → times_listed r (readied_in c.frames) ≡ stands r (ready_in r.frame c)
 
 -- the ready frames of a subcomputation that may be there
 abbrev pub times_in : Readied → Option SubOf → ℕ
 times_in r None = 0
-times_in r (Some s) = times r (readied_in s.content.frames)
+times_in r (Some s) = times_listed r (readied_in s.content.frames)
 
 abbrev pub IsListedIn : Option SubOf → Type 0
 IsListedIn None = Unit {0}
@@ -59,7 +59,7 @@ is_ready_there f s = by_ready (ready_in f s.content) refl
     by_ready (Some x) is = rw is refl
 
 -- how often a post stands after a step
-pub counted : (m : NodeOf) (became : List ReadyIn) (posts : List Post) (p : Post) → times_posted p (posts_after m became posts) ≡ cond (is_some (ready_at m p.grant p.frame)) (count_ready p became + times_posted p posts) 0
+pub counted : (m : NodeOf) (became : List ReadiedOf) (posts : List Post) (p : Post) → times_posted p (posts_after m became posts) ≡ cond (is_some (ready_at m p.grant p.frame)) (count_ready p became + times_posted p posts) 0
 counted m became posts p =
     count_kept p (λ g f. is_some (ready_at m g f)) (posted_all became posts)
     ∙ ap (λ k. cond (is_some (ready_at m p.grant p.frame)) k 0) (count_all_posted p became posts)
@@ -76,7 +76,7 @@ no_sub p n = refl
 pub record Comes (n m : NodeOf) (s : SubOf) (before : Option SubOf) (told : List Readied) : Type 0 where
   pub subs : live_subs m ≡ put_sub s (live_subs n)
   pub was : sub_in s.grant (live_subs n) ≡ before
-  pub ready : (r : Readied) → times r (readied_in s.content.frames) ≡ cond (is_some (ready_in r.frame s.content)) (times r told + times_in r before) 0
+  pub ready : (r : Readied) → times_listed r (readied_in s.content.frames) ≡ cond (is_some (ready_in r.frame s.content)) (times_listed r told + times_in r before) 0
   pub listed : IsListed s.content
   pub listed_before : IsListedIn before
 
@@ -90,13 +90,13 @@ after_coming n m s before told posts comes are = record { each = λ p. by_grant 
     same p is =
         let now : sub_in p.grant (live_subs m) ≡ Some s = ap (λ g. sub_in g (live_subs m)) is ∙ there in
         let old : sub_in p.grant (live_subs n) ≡ before = ap (λ g. sub_in g (live_subs n)) is ∙ comes.was in
-        let listed_told : count_ready p (ready_of s.grant told) ≡ times (readied_of p) told = ap (λ g. count_ready p (ready_of g told)) (sym is) ∙ count_told p told in
+        let listed_told : count_ready p (ready_of s.grant told) ≡ times_listed (readied_of p) told = ap (λ g. count_ready p (ready_of g told)) (sym is) ∙ count_told p told in
         let posted : times_posted p posts ≡ times_in (readied_of p) before = are.each p ∙ ap (λ o. is_post_at p (ready_of_sub p.frame o)) old ∙ at_times p before comes.listed_before in
-        let sum : count_ready p (ready_of s.grant told) + times_posted p posts ≡ times (readied_of p) told + times_in (readied_of p) before = omega arith in
+        let sum : count_ready p (ready_of s.grant told) + times_posted p posts ≡ times_listed (readied_of p) told + times_in (readied_of p) before = omega arith in
         counted m (ready_of s.grant told) posts p
         ∙ ap (λ k. cond (is_some (ready_at m p.grant p.frame)) k 0) sum
-        ∙ ap (λ o. cond (is_some (ready_of_sub p.frame o)) (times (readied_of p) told + times_in (readied_of p) before) 0) now
-        ∙ ap (λ b. cond b (times (readied_of p) told + times_in (readied_of p) before) 0) (is_ready_there p.frame s)
+        ∙ ap (λ o. cond (is_some (ready_of_sub p.frame o)) (times_listed (readied_of p) told + times_in (readied_of p) before) 0) now
+        ∙ ap (λ b. cond b (times_listed (readied_of p) told + times_in (readied_of p) before) 0) (is_ready_there p.frame s)
         ∙ sym (comes.ready (readied_of p))
         ∙ sym (at_times p (Some s) comes.listed)
         ∙ sym (ap (λ o. is_post_at p (ready_of_sub p.frame o)) now)

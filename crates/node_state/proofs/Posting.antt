@@ -9,9 +9,9 @@ use Rattle.ids.specs.Naming.{name_of_grant}
 use Rattle.level_deques.specs.declared.posts.Post.{Post}
 use Rattle.level_deques.specs.Posts.{posted}
 use Rattle.sub_rules.specs.Debts.{one_if}
-use Rattle.sub_rules.specs.Readiness.{is_readied, times}
+use Rattle.sub_rules.specs.Readiness.{is_readied, times_listed}
 use Rattle.sub_rules.specs.declared.change.Readied.{Readied}
-use Rattle.subcomputation.specs.declared.sub.ReadyIn.{ReadyIn}
+use Rattle.subcomputation.specs.declared.sub.ReadiedOf.{ReadiedOf}
 use Rattle.node_state.specs.Posts.{post_of, posted_all}
 use Rattle.node_state.specs.Parts.{same_grant, is_same_post, times_posted, ready_of}
 
@@ -58,27 +58,27 @@ count_posted p q (r ∷ rs) = by_test (count_posted p q rs) (nat_lt q.level r.le
     by_test rest false = omega (arith, sum_by-cons (is_same_post p) r rs, sum_by-cons (is_same_post p) r (posted q rs))
 
 -- more of them
-abbrev pub count_ready : Post → List ReadyIn → ℕ
+abbrev pub count_ready : Post → List ReadiedOf → ℕ
 count_ready p became = sum_by (λ r. is_same_post p (post_of r)) became
 
-pub count_all_posted : (p : Post) (became : List ReadyIn) (posts : List Post) → times_posted p (posted_all became posts) ≡ count_ready p became + times_posted p posts
+pub count_all_posted : (p : Post) (became : List ReadiedOf) (posts : List Post) → times_posted p (posted_all became posts) ≡ count_ready p became + times_posted p posts
 count_all_posted p [] posts = omega arith
 count_all_posted p (r ∷ rs) posts =
     let rest = count_all_posted p rs (posted (post_of r) posts) in
     let here = count_posted p (post_of r) posts in
-    omega (arith, sum_by-cons (λ (x : ReadyIn). is_same_post p (post_of x)) r rs)
+    omega (arith, sum_by-cons (λ (x : ReadiedOf). is_same_post p (post_of x)) r rs)
 
 -- the frame of a post
 abbrev pub readied_of : Post → Readied
 readied_of p = record { frame = p.frame; level = p.level }
 
 -- of one subcomputation
-pub count_told : (p : Post) (told : List Readied) → count_ready p (ready_of p.grant told) ≡ times (readied_of p) told
+pub count_told : (p : Post) (told : List Readied) → count_ready p (ready_of p.grant told) ≡ times_listed (readied_of p) told
 count_told p [] = refl
 count_told p (r ∷ rs) =
     let rest = count_told p rs in
     let here : is_same_post p (record { level = r.level; grant = p.grant; frame = r.frame }) ≡ is_readied (readied_of p) r = rw (grant_itself p.grant) refl in
-    omega (arith, sum_by-cons (λ (x : ReadyIn). is_same_post p (post_of x)) (record { grant = p.grant; frame = r }) (ready_of p.grant rs), sum_by-cons (is_readied (readied_of p)) r rs)
+    omega (arith, sum_by-cons (λ (x : ReadiedOf). is_same_post p (post_of x)) (record { grant = p.grant; frame = r }) (ready_of p.grant rs), sum_by-cons (is_readied (readied_of p)) r rs)
 
 -- of another
 pub count_other : (p : Post) (g : Grant) (told : List Readied) → (p.grant ≡ g → ⊥) → count_ready p (ready_of g told) ≡ 0
@@ -86,7 +86,7 @@ count_other p g [] other = refl
 count_other p g (r ∷ rs) other =
     let rest = count_other p g rs other in
     let here : is_same_post p (record { level = r.level; grant = g; frame = r.frame }) ≡ 0 = by_test (same_grant p.grant g) refl in
-    omega (arith, sum_by-cons (λ (x : ReadyIn). is_same_post p (post_of x)) (record { grant = g; frame = r }) (ready_of g rs))
+    omega (arith, sum_by-cons (λ (x : ReadiedOf). is_same_post p (post_of x)) (record { grant = g; frame = r }) (ready_of g rs))
   where
     by_test : (b : Bool) → same_grant p.grant g ≡ b → one_if (b && (nat_eq p.frame r.frame && nat_eq p.level r.level)) ≡ 0
     by_test true is = absurd (other (same_name p.grant g is))

@@ -20,21 +20,21 @@ use Rattle.level_deques.specs.Posts.{is_post, is_post_of, is_posted, posted, wit
 use Rattle.level_deques.proofs.Taking.{no_post, none_of_level}
 use Rattle.sub_rules.specs.Content.{Ready, ready, ready_in}
 use Rattle.sub_rules.specs.Debts.{one_if}
-use Rattle.sub_rules.specs.Readiness.{TellsReady, times}
+use Rattle.sub_rules.specs.Readiness.{TellsReady, times_listed}
 use Rattle.sub_rules.specs.Updates.{MayUpdate, MayWork, left_by, opened_in, updated, worked}
 use Rattle.sub_rules.specs.declared.change.Readied.{Readied}
 use Rattle.sub_rules.specs.declared.content.Content.{Content}
 use Rattle.sub_rules.specs.declared.updates.Leaver.{Leaver}
 use Rattle.sub_rules.specs.declared.updates.Leaver.TheVariants.{FrameOf, RecordOf}
 use Rattle.sub_rules.specs.declared.updates.Update.{Update}
-use Rattle.sub_rules.specs.declared.updates.Work.{Work}
-use Rattle.sub_rules.specs.declared.updates.Work.TheVariants.{Ends, Fills, Adds}
+use Rattle.sub_rules.specs.declared.updates.Replacement.{Replacement}
+use Rattle.sub_rules.specs.declared.updates.Replacement.TheVariants.{Ends, Fills, Adds}
 use Rattle.sub_rules.proofs.Departures.{frame_number}
 use Rattle.sub_rules.proofs.Numbers.{absent, numbered_above}
 use Rattle.sub_rules.proofs.Slots.{none_vacant, numbers_full}
 use Rattle.subcomputation.specs.Subs.{SubOf, name_of_sub, put_sub, sub_in}
 use Rattle.subcomputation.specs.Told.{opened_sub, updated_sub}
-use Rattle.subcomputation.specs.declared.sub.ReadyIn.{ReadyIn}
+use Rattle.subcomputation.specs.declared.sub.ReadiedOf.{ReadiedOf}
 use Rattle.subcomputation.proofs.Others.{put_other, without_itself, without_other}
 use Rattle.node_state.specs.Node.{NodeOf}
 use Rattle.node_state.specs.Parts.{ArePosts, IsMember, is_post_at, is_same_post, ready_of, same_grant, times_posted}
@@ -115,13 +115,13 @@ none_there : (h : ℕ) (c : Content) → frame_in h c.frames ≡ None → ready_
 none_there h c none = rw none refl
 
 -- work that isn't the end
-abbrev GoesOn : Work → Type 0
+abbrev GoesOn : Replacement → Type 0
 GoesOn (Ends o) = ⊥
 GoesOn (Fills n j v) = Unit {0}
 GoesOn (Adds made next) = Unit {0}
 
 -- the frames that are ready stay so, but for the one that leaves
-stays : (l : Leaver) (w : Work) (c : Content) (h : ℕ) (r : Ready) → MayWork l w c → GoesOn w → not_frame l h → ready_in h c ≡ Some r → ready_in h (worked w (left_by l c)) ≡ Some r
+stays : (l : Leaver) (w : Replacement) (c : Content) (h : ℕ) (r : Ready) → MayWork l w c → GoesOn w → not_frame l h → ready_in h c ≡ Some r → ready_in h (worked w (left_by l c)) ≡ Some r
 stays l (Ends o) c h r may goes other is = absurd goes
 stays l (Fills m j v) c h r may goes other is = elim (cases_eq h m) [ inl same ↦ absurd (filled same) | inr apart ↦ ready_there h (worked (Fills m j v) (left_by l c)) p.frame (filled_other h m j v (left_by l c).frames (frame_in m (left_by l c).frames) refl apart ∙ left) ∙ p.is ]
   where
@@ -141,7 +141,7 @@ stays l (Adds made next) c h r may goes other is =
     let p = ready_parts h c r is in
     ready_there h (worked (Adds made next) (left_by l c)) p.frame (first_item name_of_frame (h, 0) (left_by l c).frames made p.frame (stays_left l c h other ∙ p.there)) ∙ p.is
 
-goes : (n : ℕ) (w : Work) (c : Content) → MayWork (FrameOf n) w c → GoesOn w → ready_in n (worked w (left_by (FrameOf n) c)) ≡ None
+goes : (n : ℕ) (w : Replacement) (c : Content) → MayWork (FrameOf n) w c → GoesOn w → ready_in n (worked w (left_by (FrameOf n) c)) ≡ None
 goes n (Ends o) c may on = absurd on
 goes n (Fills m j v) c may on = elim (cases_eq n m) [ inl same ↦ absurd (filled same) | inr apart ↦ none_there n (worked (Fills m j v) (left_by (FrameOf n) c)) (filled_other n m j v (without_frame n c.frames) (frame_in m (without_frame n c.frames)) refl apart ∙ none) ]
   where
@@ -359,14 +359,14 @@ covers_frame n g s after told posts subs step k keep gone (Some f) there =
         keep p.frame r (λ at. let one : is_same_post q p ≡ 1 = ap (is_same_post q) (itself p r same at was level) ∙ same_post q in omega (arith, one, apart)) was
 
 -- an update takes no other posts than it tells of
-covers_record : (n : NodeOf) (g : Grant) (s after : SubOf) (told : List Readied) (posts : List Post) (subs : List SubOf) → Step n g s after told posts subs → (h : Grant) (w : Work) → MayWork (RecordOf h) w s.content → GoesOn w → after.content ≡ worked w (left_by (RecordOf h) s.content) → still_ready subs (posted_all (ready_of g told) posts) ≡ posted_all (ready_of g told) posts
+covers_record : (n : NodeOf) (g : Grant) (s after : SubOf) (told : List Readied) (posts : List Post) (subs : List SubOf) → Step n g s after told posts subs → (h : Grant) (w : Replacement) → MayWork (RecordOf h) w s.content → GoesOn w → after.content ≡ worked w (left_by (RecordOf h) s.content) → still_ready subs (posted_all (ready_of g told) posts) ≡ posted_all (ready_of g told) posts
 covers_record n g s after told posts subs step h w may on is =
     all_stay _ (posted_all (ready_of g told) posts) (λ p some. stand n g s after told posts subs step p (left p) some)
   where
     left : (p : Post) (r : Ready) → p.grant ≡ g → ready_in p.frame s.content ≡ Some r → p.level ≡ level_of r.frame.place → is_some (ready_in p.frame after.content) ≡ true
     left p r same was level = ap (λ c. is_some (ready_in p.frame c)) is ∙ ap is_some (stays (RecordOf h) w s.content p.frame r may on tt was)
 
-covers_leaver : (n : NodeOf) (g : Grant) (s after : SubOf) (told : List Readied) (posts : List Post) (subs : List SubOf) → Step n g s after told posts subs → (l : Leaver) (w : Work) → MayWork l w s.content → GoesOn w → after.content ≡ worked w (left_by l s.content) → Covers subs (posted_all (ready_of g told) posts) (stale_leaver g l (Some s))
+covers_leaver : (n : NodeOf) (g : Grant) (s after : SubOf) (told : List Readied) (posts : List Post) (subs : List SubOf) → Step n g s after told posts subs → (l : Leaver) (w : Replacement) → MayWork l w s.content → GoesOn w → after.content ≡ worked w (left_by l s.content) → Covers subs (posted_all (ready_of g told) posts) (stale_leaver g l (Some s))
 covers_leaver n g s after told posts subs step (FrameOf k) w may on is =
     covers_frame n g s after told posts subs step k
     (λ h r other was. ap (λ c. is_some (ready_in h c)) is ∙ ap is_some (stays (FrameOf k) w s.content h r may on other was))
@@ -374,7 +374,7 @@ covers_leaver n g s after told posts subs step (FrameOf k) w may on is =
     (frame_in k s.content.frames) refl
 covers_leaver n g s after told posts subs step (RecordOf h) w may on is = covers_record n g s after told posts subs step h w may on is
 
-covers_work : (n : NodeOf) (g : Grant) (s after : SubOf) (told : List Readied) (posts : List Post) (subs : List SubOf) → Step n g s after told posts subs → (l : Leaver) (w : Work) → MayWork l w s.content → after.content ≡ worked w (left_by l s.content) → Covers subs (posted_all (ready_of g told) posts) (stale_work g l w (Some s))
+covers_work : (n : NodeOf) (g : Grant) (s after : SubOf) (told : List Readied) (posts : List Post) (subs : List SubOf) → Step n g s after told posts subs → (l : Leaver) (w : Replacement) → MayWork l w s.content → after.content ≡ worked w (left_by l s.content) → Covers subs (posted_all (ready_of g told) posts) (stale_work g l w (Some s))
 covers_work n g s after told posts subs step l (Ends o) may is = tt
 covers_work n g s after told posts subs step l (Fills m j v) may is = covers_leaver n g s after told posts subs step l (Fills m j v) may tt is
 covers_work n g s after told posts subs step l (Adds made next) may is = covers_leaver n g s after told posts subs step l (Adds made next) may tt is
@@ -465,11 +465,11 @@ by_level_posted p (q ∷ qs) h = by_test (by_level_posted p qs h.1) (nat_lt p.le
         let le : q.level ≤ p.level = ltb-false p.level q.level is in
         (all_posted q.level p qs le h.0, rest)
 
-by_level_all : (rs : List ReadyIn) (ps : List Post) → IsByLevel ps → IsByLevel (posted_all rs ps)
+by_level_all : (rs : List ReadiedOf) (ps : List Post) → IsByLevel ps → IsByLevel (posted_all rs ps)
 by_level_all [] ps h = h
 by_level_all (r ∷ rs) ps h = by_level_all rs (posted (post_of r) ps) (by_level_posted (post_of r) ps h)
 
-posted_last : (rs : List ReadyIn) (r : ReadyIn) (ps : List Post) → posted_all (rs ++ r ∷ []) ps ≡ posted (post_of r) (posted_all rs ps)
+posted_last : (rs : List ReadiedOf) (r : ReadiedOf) (ps : List Post) → posted_all (rs ++ r ∷ []) ps ≡ posted (post_of r) (posted_all rs ps)
 posted_last [] r ps = refl
 posted_last (x ∷ xs) r ps = posted_last xs r (posted (post_of x) ps)
 

@@ -13,20 +13,18 @@ use Rattle.sub_rules.specs.declared.updates.Update.{Update}
 use Rattle.sub_rules.specs.Updates.{opened_in, updated, MayUpdate}
 use Rattle.subcomputation.specs.Subs.{IsBegun, SubOf, put_sub, sub_in}
 use Rattle.subcomputation.specs.Told.{opened_sub, updated_sub}
-use Rattle.subcomputation.specs.declared.sub.ReadyIn.{ReadyIn}
+use Rattle.subcomputation.specs.declared.sub.ReadiedOf.{ReadiedOf}
 use Rattle.recovery.specs.Told.{ComesTold}
 use Rattle.node_state.specs.Node.{NodeOf, hop_in}
 use Rattle.node_state.specs.Posts.{ReadyFrame, ready_at, posts_after}
 use Rattle.node_state.specs.declared.parts.State.{State}
 use Rattle.node_state.specs.declared.parts.State.TheVariants.{Joining, Member, Leaving, Ended}
+pub use Rattle.ids.specs.Names.{same_grant}
 
 -- a node, and its ready frames in the order in which they are posted
 pub record PartsOf : Type 0 where
   pub node : NodeOf
   pub posts : List Post
-
-abbrev pub same_grant : Grant → Grant → Bool
-same_grant g h = nat_eq g.minter h.minter && nat_eq g.number h.number
 
 -- 1 where two posts are the same, else 0
 abbrev pub is_same_post : Post → Post → ℕ
@@ -149,9 +147,9 @@ put_some None subs = subs
 put_some (Some s) subs = put_sub s subs
 
 -- frames of a subcomputation, as ready frames of the node
-abbrev pub ready_of : Grant → List Readied → List ReadyIn
+abbrev pub ready_of : Grant → List Readied → List ReadiedOf
 ready_of g told = map (λ r. record { grant = g; frame = r }) told
 
 -- a node after a step, with its posts
-abbrev pub with_posts : NodeOf → List ReadyIn → List Post → PartsOf
+abbrev pub with_posts : NodeOf → List ReadiedOf → List Post → PartsOf
 with_posts after became posts = record { node = after; posts = posts_after after became posts }

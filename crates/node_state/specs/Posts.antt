@@ -7,7 +7,7 @@ use Rattle.level_deques.specs.declared.posts.Post.{Post}
 use Rattle.level_deques.specs.Posts.{posted}
 use Rattle.sub_rules.specs.Content.{Ready, ready_in}
 use Rattle.subcomputation.specs.Subs.{SubOf, sub_in}
-use Rattle.subcomputation.specs.declared.sub.ReadyIn.{ReadyIn}
+use Rattle.subcomputation.specs.declared.sub.ReadiedOf.{ReadiedOf}
 use Rattle.node_state.specs.Node.{NodeOf, by_state}
 
 -- the subcomputations of a node that aren't frozen
@@ -31,11 +31,11 @@ abbrev pub ready_at : NodeOf → Grant → ℕ → Option ReadyFrame
 ready_at n g f = ready_of_sub f (sub_in g (live_subs n))
 
 -- the post of a ready frame
-abbrev pub post_of : ReadyIn → Post
+abbrev pub post_of : ReadiedOf → Post
 post_of r = record { level = r.frame.level; grant = r.grant; frame = r.frame.frame }
 
 -- frames that became ready are posted, in their order
-abbrev pub posted_all : List ReadyIn → List Post → List Post
+abbrev pub posted_all : List ReadiedOf → List Post → List Post
 posted_all [] posts = posts
 posted_all (r ∷ rs) posts = posted_all rs (posted (post_of r) posts)
 
@@ -44,5 +44,5 @@ abbrev pub is_ready_post : NodeOf → Post → Bool
 is_ready_post n p = is_some (ready_at n p.grant p.frame)
 
 -- the posts of a node after a step: what became ready stands behind the others of its level, and what is ready no more goes
-abbrev pub posts_after : NodeOf → List ReadyIn → List Post → List Post
+abbrev pub posts_after : NodeOf → List ReadiedOf → List Post → List Post
 posts_after after became posts = filter (is_ready_post after) (posted_all became posts)

@@ -10,8 +10,8 @@ use Rattle.level_deques.specs.Posts.{without_post}
 use Rattle.sub_rules.specs.declared.updates.Leaver.{Leaver}
 use Rattle.sub_rules.specs.declared.updates.Leaver.TheVariants.{FrameOf, RecordOf}
 use Rattle.sub_rules.specs.declared.updates.Update.{Update}
-use Rattle.sub_rules.specs.declared.updates.Work.{Work}
-use Rattle.sub_rules.specs.declared.updates.Work.TheVariants.{Ends, Fills, Adds}
+use Rattle.sub_rules.specs.declared.updates.Replacement.{Replacement}
+use Rattle.sub_rules.specs.declared.updates.Replacement.TheVariants.{Ends, Fills, Adds}
 use Rattle.subcomputation.specs.Subs.{SubOf, sub_in}
 use Rattle.node_state.specs.Posts.{ready_of_sub}
 use Rattle.node_state.specs.declared.parts.Stale.{Stale}
@@ -32,7 +32,7 @@ stale_leaver g (RecordOf h) s = Nothing
 stale_leaver g (FrameOf n) s = stale_in g n s
 
 -- where it ends, any of its frames may have been ready
-abbrev pub stale_work : Grant → Leaver → Work → Option SubOf → Stale
+abbrev pub stale_work : Grant → Leaver → Replacement → Option SubOf → Stale
 stale_work g l (Ends o) s = Any
 stale_work g l (Fills n j v) s = stale_leaver g l s
 stale_work g l (Adds made next) s = stale_leaver g l s

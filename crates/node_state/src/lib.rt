@@ -5,4 +5,4 @@ mod node;
 mod parts;
 
 pub use node::Parts;
-pub use parts::{Confirmed, Seen, State};
+pub use parts::{Confirmed, LastTurn, Seen, State};

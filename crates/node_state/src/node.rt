@@ -2,7 +2,7 @@ ghost use Rattle.std.specs.Prelude.{◌≡◌, ◌<◌, ◌+◌, ◌^◌, ℕ, L
 ghost use Rattle.std.specs.List.{filter};
 ghost use Rattle.ids.specs.declared.member.Status as declared;
 ghost use Rattle.sub_rules.specs.declared.change.Readied as readied;
-ghost use Rattle.subcomputation.specs.Subs.{sub_in, host_in, name_of_sub, put_sub, without_sub, ready_frames, grants_of};
+ghost use Rattle.subcomputation.specs.Subs.{sub_in, host_in, name_of_sub, put_sub, without_sub, ready_frames, grants_of_subs};
 ghost use Rattle.steal_protocol.specs.Requests.{asked, IsAsked, without_request, settled};
 ghost use Rattle.steal_protocol.specs.Replies.{put_reply};
 ghost use Rattle.node_state.specs.Node.{starting, ended, is_confirmed, hop_in, holding, name_of_confirmed, put_confirmed, put_seen, name_of_seen};
@@ -26,18 +26,19 @@ ghost use Rattle.subcomputation.specs.Recovering.{recovered};
 ghost use Rattle.subcomputation.specs.Fitting.{Fits};
 ghost use Rattle.task_tree.specs.declared.tree.Program.{Program};
 
-use crate::parts::{Confirmed, Seen, Stale, State};
+use crate::parts::{Confirmed, LastTurn, Seen, Stale, State};
 use codec::Roster;
 use ids::{
-    Actor, FrameNo, GrantId, Hop, Incarnation, Named, Record, Status, Store, TryChange, Values,
+    Actor, FrameNo, GrantId, Hop, Incarnation, Named, Record, SortedMap, Status, TryItemChange,
+    Values,
 };
 use level_deques::{Post, PostTest, Posts};
 use recovery::Plan;
 use std::alloc::{AllocError, Global};
 use std::marker::Model;
 use steal_protocol::{AskError, Asker, Replies, Reply, Request};
-use sub_rules::{Leaver, Readied, Update, Work};
-use subcomputation::{ReadyIn, Sub};
+use sub_rules::{Leaver, Readied, Replacement, Update};
+use subcomputation::{ReadiedOf, Sub};
 
 /// The name under which what a grant names is kept.
 fn name_of(grant: GrantId) -> (u64, u64)
@@ -71,15 +72,16 @@ pub struct Parts {
     alloc: Global,
     incarnation: Incarnation,
     state: State,
-    subs: Store<Sub>,
+    subs: SortedMap<Sub>,
     asker: Asker,
     minted: u64,
     replies: Replies,
-    confirmed: Store<Confirmed>,
-    seen: Store<Seen>,
+    confirmed: SortedMap<Confirmed>,
+    seen: SortedMap<Seen>,
     posts: Posts,
-    // How many stolen frames became ready again. Contracts don't see it.
+    // How many stolen frames became ready again, and what the last turn was. Contracts see neither.
     redone: u64,
+    turn: LastTurn,
 }
 
 impl Model for Parts {
@@ -103,14 +105,15 @@ impl Parts {
             alloc,
             incarnation,
             state: State::Joining,
-            subs: Store::new(alloc),
+            subs: SortedMap::new(alloc),
             asker: Asker::new(),
             minted: 0,
             replies: Replies::new(alloc),
-            confirmed: Store::new(alloc),
-            seen: Store::new(alloc),
+            confirmed: SortedMap::new(alloc),
+            seen: SortedMap::new(alloc),
             posts: Posts::new(alloc),
             redone: 0,
+            turn: LastTurn::none(),
         }
     }
 
@@ -147,6 +150,11 @@ impl Parts {
         self.redone
     }
 
+    /// What the last turn was that changed a subcomputation here. No clause speaks of it.
+    pub fn last_turn(&self) -> LastTurn {
+        self.turn
+    }
+
     /// Its last answer to each thief.
     pub fn replies(&self) -> &Replies
         ensures { result.now ≡ self.now.node.replies }
@@ -163,7 +171,7 @@ impl Parts {
     }
 
     /// A node that leaves has no request pending. Does nothing.
-    pub fn waits_for_nothing(&self)
+    pub fn law_waits_for_nothing(&self)
         requires { IsLeaving self.now.node.state }
         ensures { self.now.node.asker.pending ≡ None }
     {
@@ -181,7 +189,7 @@ impl Parts {
     }
 
     /// All posts stay while no subcomputation changes. Does nothing.
-    pub fn nothing_goes(&self)
+    pub fn law_nothing_goes(&self)
         ensures { posts_after self.now.node [] self.now.posts ≡ self.now.posts }
     {
         let _ = &self.posts;
@@ -218,7 +226,7 @@ impl Parts {
         ensures held { IfSome result (λ s. sub_in s.now.grant self.now.node.subs ≡ Some s.now) }
         ensures minted { IfSome result (λ s. HasNoNewRecord self.now.node s.now) }
     {
-        self.subs.stand_in_order();
+        self.subs.law_stand_in_order();
         let found = find_host(&self.subs, grant)?;
         Some(found)
     }
@@ -262,7 +270,7 @@ impl Parts {
     }
 
     /// The subcomputations, by their grants.
-    pub fn held(&self) -> &Store<Sub>
+    pub fn held(&self) -> &SortedMap<Sub>
         ensures { result.now ≡ self.now.node.subs }
     {
         &self.subs
@@ -278,14 +286,14 @@ impl Parts {
     ) -> Result<(), AllocError>
         requires member { IsMember self.old.node.state }
         requires plan { IsPlan roster.members self.old.node.subs plan }
-        ensures ok { OnOk result (self.new ≡ with_posts (record self.old.node { state = Member roster; subs = (recovered roster.members (grants_of self.old.node.subs) self.old.node.subs).subs; asker = settled victim self.old.node.asker }) (recovered roster.members (grants_of self.old.node.subs) self.old.node.subs).again self.old.posts) }
+        ensures ok { OnOk result (self.new ≡ with_posts (record self.old.node { state = Member roster; subs = (recovered roster.members (grants_of_subs self.old.node.subs) self.old.node.subs).subs; asker = settled victim self.old.node.asker }) (recovered roster.members (grants_of_subs self.old.node.subs) self.old.node.subs).again self.old.posts) }
         ensures fits { (p : Program) → ((g : Grant) (s : SubOf) → sub_in g self.old.node.subs ≡ Some s → Fits p s.content) → OnOk result ((g : Grant) (s : SubOf) → sub_in g self.new.node.subs ≡ Some s → Fits p s.content) }
         ensures err { OnErr result (self.new ≡ self.old) }
     {
         let posts = posted_again(&self.posts, plan.again())?;
         let redone = self.redone.saturating_add(plan.again().len() as u64);
-        are_whole(&self.subs);
-        recovery::recoveries_are_told();
+        law_are_whole(&self.subs);
+        recovery::law_recoveries_are_told();
         plan.carry_out(&mut self.subs);
         self.state = State::Member(roster);
         self.asker.settle(victim);
@@ -312,7 +320,7 @@ impl Parts {
     {
         let posts = posted(&self.posts, grant, ready)?;
         note(&mut self.subs, &mut self.seen, grant, hop, after)?;
-        frames_stand_in_order(&self.subs, grant);
+        law_frames_stand_in_order(&self.subs, grant);
         self.posts = posts;
         withdraw_stale(&mut self.posts, &self.subs);
         Ok(())
@@ -323,11 +331,11 @@ impl Parts {
         ensures { self.new ≡ with_posts (ended self.old.node) [] self.old.posts }
     {
         self.state = State::Ended;
-        self.subs = Store::new(self.alloc);
+        self.subs = SortedMap::new(self.alloc);
         self.asker.clear();
         self.replies = Replies::new(self.alloc);
-        self.confirmed = Store::new(self.alloc);
-        self.seen = Store::new(self.alloc);
+        self.confirmed = SortedMap::new(self.alloc);
+        self.seen = SortedMap::new(self.alloc);
         self.posts = Posts::new(self.alloc);
     }
 
@@ -368,10 +376,11 @@ impl Parts {
         ensures ok { (s : SubOf) → sub_in grant self.old.node.subs ≡ Some s → OnOk result (self.new ≡ with_posts (record self.old.node { subs = put_sub (updated_sub update s) self.old.node.subs }) (ready_of grant ready.now) self.old.posts) }
         ensures err { OnErr result (self.new ≡ self.old) }
     {
-        let stale = stale_by(&self.subs, grant, &update);
-        self.posts.stand_by_level();
+        let mut turn = LastTurn::none();
+        let stale = stale_by(&self.subs, grant, &update, &mut turn);
+        self.posts.law_stand_by_level();
         post_ready(&mut self.posts, grant, ready)?;
-        frames_stand_in_order(&self.subs, grant);
+        law_frames_stand_in_order(&self.subs, grant);
         let change = InPlace {
             alloc: self.alloc,
             update,
@@ -380,8 +389,9 @@ impl Parts {
             take_back(&mut self.posts, grant, ready);
             return Err(refused);
         }
-        frames_stand_in_order(&self.subs, grant);
+        law_frames_stand_in_order(&self.subs, grant);
         withdraw(&mut self.posts, &self.subs, stale);
+        self.turn = turn;
         Ok(())
     }
 
@@ -392,10 +402,12 @@ impl Parts {
         ensures ok { (s : SubOf) → sub_in grant self.old.node.subs ≡ Some s → OnOk result (self.new ≡ with_posts (record self.old.node { minted = self.old.node.minted + 1; subs = put_sub (opened_sub opened s) self.old.node.subs; replies = put_reply reply self.old.node.replies }) [] self.old.posts) }
         ensures err { OnErr result (self.new ≡ self.old) }
     {
-        let stale = stale_in(&self.subs, grant, opened.frame);
-        frames_stand_in_order(&self.subs, grant);
+        // (a frame that is given away takes no turn)
+        let mut left = LastTurn::none();
+        let stale = stale_in(&self.subs, grant, opened.frame, &mut left);
+        law_frames_stand_in_order(&self.subs, grant);
         open_and_answer(&mut self.subs, &mut self.replies, grant, opened, reply)?;
-        frames_stand_in_order(&self.subs, grant);
+        law_frames_stand_in_order(&self.subs, grant);
         self.minted += 1;
         withdraw(&mut self.posts, &self.subs, stale);
         Ok(())
@@ -412,7 +424,7 @@ impl Parts {
         ensures err { OnErr result (self.new ≡ self.old) }
     {
         let posts = posted(&self.posts, sub.grant(), ready)?;
-        stands_in_order(&sub);
+        law_stands_in_order(&sub);
         hold(&mut self.subs, &mut self.seen, sub)?;
         self.asker.clear();
         self.posts = posts;
@@ -431,7 +443,7 @@ impl Parts {
 }
 
 /// The subcomputation that has the open record of a grant.
-fn find_host(subs: &Store<Sub>, grant: GrantId) -> Option<&Sub>
+fn find_host(subs: &SortedMap<Sub>, grant: GrantId) -> Option<&Sub>
     ensures { option_copied result ≡ host_in grant subs.now }
 {
     for sub in subs.values() {
@@ -443,19 +455,19 @@ fn find_host(subs: &Store<Sub>, grant: GrantId) -> Option<&Sub>
 }
 
 /// The frames of a subcomputation stand by rising number. Does nothing.
-fn frames_stand_in_order(subs: &Store<Sub>, grant: GrantId)
+fn law_frames_stand_in_order(subs: &SortedMap<Sub>, grant: GrantId)
     ensures { (s : SubOf) → sub_in grant subs.now ≡ Some s → AreInOrder name_of_frame s.content.frames }
 {
     if let Some(sub) = subs.get(name_of(grant)) {
-        stands_in_order(sub);
+        law_stands_in_order(sub);
     }
 }
 
 /// The frames of a subcomputation stand by rising number. Does nothing.
-fn stands_in_order(sub: &Sub)
+fn law_stands_in_order(sub: &Sub)
     ensures { AreInOrder name_of_frame sub.now.content.frames }
 {
-    sub.content().frames.stand_in_order();
+    sub.content().frames.law_stand_in_order();
 }
 
 /// The posts, and behind them those of frames of a grant's subcomputation.
@@ -474,7 +486,7 @@ fn posted(posts: &Posts, grant: GrantId, ready: &[Readied]) -> Result<Posts, All
 }
 
 /// The posts, and behind them those of frames that are ready again.
-fn posted_again(posts: &Posts, again: &[ReadyIn]) -> Result<Posts, AllocError>
+fn posted_again(posts: &Posts, again: &[ReadiedOf]) -> Result<Posts, AllocError>
     ensures { IfOk result (λ p. p ≡ posted_all again.now posts.now) }
 {
     let mut all = posts.clone()?;
@@ -489,22 +501,22 @@ fn posted_again(posts: &Posts, again: &[ReadyIn]) -> Result<Posts, AllocError>
 }
 
 /// Each subcomputation is sound, and its frames and records stand in order. Does nothing.
-fn are_whole(subs: &Store<Sub>)
+fn law_are_whole(subs: &SortedMap<Sub>)
     ensures { AreWhole subs.now }
 {
-    subs.stand_in_order();
+    subs.law_stand_in_order();
     for sub in subs.values() {
-        is_whole(sub);
+        law_is_whole(sub);
     }
 }
 
 /// A subcomputation is sound, and its frames and records stand in order. Does nothing.
-fn is_whole(sub: &Sub)
+fn law_is_whole(sub: &Sub)
     ensures { IsWhole sub.now }
 {
     let content = sub.content();
-    content.frames.stand_in_order();
-    content.records.stand_in_order();
+    content.frames.law_stand_in_order();
+    content.records.law_stand_in_order();
 }
 
 /// The post of a ready frame of a grant's subcomputation.
@@ -546,36 +558,62 @@ fn take_back(posts: &mut Posts, grant: GrantId, ready: &[Readied])
 }
 
 /// What an update of the subcomputation of a grant takes of the posts: all of its frames may go where it ends, and else the post
-/// of the frame that leaves does.
-fn stale_by(subs: &Store<Sub>, grant: GrantId, update: &Update) -> Stale
+/// of the frame that leaves does. Notes what turn that is.
+fn stale_by(subs: &SortedMap<Sub>, grant: GrantId, update: &Update, turn: &mut LastTurn) -> Stale
     ensures { result ≡ stale_by grant update.now (sub_in grant subs.now) }
 {
     match (&update.work, update.leaver) {
-        (Work::Ends(_), _) => Stale::Any,
+        (Replacement::Ends(_), leaver) => {
+            note_end(subs, grant, leaver, turn);
+            Stale::Any
+        }
         (_, Leaver::RecordOf(_)) => Stale::Nothing,
-        (_, Leaver::FrameOf(number)) => stale_in(subs, grant, number),
+        (work, Leaver::FrameOf(number)) => {
+            if let Replacement::Adds(made, _) = work {
+                turn.came = made.len();
+            }
+            stale_in(subs, grant, number, turn)
+        }
     }
 }
 
-/// What a frame that leaves the subcomputation of a grant takes of the posts: its own, if it is there.
-fn stale_in(subs: &Store<Sub>, grant: GrantId, number: FrameNo) -> Stale
+/// What a frame that leaves the subcomputation of a grant takes of the posts: its own, if it is there. Notes which frame it is.
+fn stale_in(subs: &SortedMap<Sub>, grant: GrantId, number: FrameNo, turn: &mut LastTurn) -> Stale
     ensures { result ≡ stale_in grant number (sub_in grant subs.now) }
 {
     let Some(sub) = subs.get(name_of(grant)) else {
         return Stale::Nothing;
     };
     match sub.content().frames.get(number) {
-        Some(frame) => Stale::One(Post {
-            level: frame.place.level(),
-            grant,
-            frame: number,
-        }),
+        Some(frame) => {
+            let level = frame.place.level();
+            turn.thread = frame.thread;
+            turn.level = level;
+            turn.went = 1;
+            Stale::One(Post {
+                level,
+                grant,
+                frame: number,
+            })
+        }
         None => Stale::Nothing,
     }
 }
 
+/// Notes the turn that ends the subcomputation of a grant, with which all its frames go.
+fn note_end(subs: &SortedMap<Sub>, grant: GrantId, leaver: Leaver, turn: &mut LastTurn) {
+    if let (Some(sub), Leaver::FrameOf(number)) = (subs.get(name_of(grant)), leaver) {
+        let frames = &sub.content().frames;
+        if let Some(frame) = frames.get(number) {
+            turn.thread = frame.thread;
+            turn.level = frame.place.level();
+        }
+        turn.went = frames.len();
+    }
+}
+
 /// Takes the posts away of what isn't ready any more, where it is known which of them that may be.
-fn withdraw(posts: &mut Posts, subs: &Store<Sub>, stale: Stale)
+fn withdraw(posts: &mut Posts, subs: &SortedMap<Sub>, stale: Stale)
     requires { Covers subs.now posts.old stale }
     ensures { posts.new ≡ filter (λ p. is_some (ready_of_sub p.frame (sub_in p.grant subs.now))) posts.old }
 {
@@ -587,7 +625,7 @@ fn withdraw(posts: &mut Posts, subs: &Store<Sub>, stale: Stale)
 }
 
 /// Takes the posts away of what isn't ready any more.
-fn withdraw_stale(posts: &mut Posts, subs: &Store<Sub>)
+fn withdraw_stale(posts: &mut Posts, subs: &SortedMap<Sub>)
     ensures { posts.new ≡ filter (λ p. is_some (ready_of_sub p.frame (sub_in p.grant subs.now))) posts.old }
 {
     posts.retain(&StillReady { subs })
@@ -595,7 +633,7 @@ fn withdraw_stale(posts: &mut Posts, subs: &Store<Sub>)
 
 /// Puts a subcomputation under its grant, and remembers with which hop it came, where it never did; running out of memory changes
 /// neither.
-fn hold(subs: &mut Store<Sub>, seen: &mut Store<Seen>, sub: Sub) -> Result<(), AllocError>
+fn hold(subs: &mut SortedMap<Sub>, seen: &mut SortedMap<Seen>, sub: Sub) -> Result<(), AllocError>
     requires { hop_in sub.grant seen.old ≡ None }
     ensures subs { OnOk result (subs.new ≡ put_sub sub subs.old) }
     ensures seen { OnOk result (seen.new ≡ put_seen sub.grant sub.hop seen.old) }
@@ -615,8 +653,8 @@ fn hold(subs: &mut Store<Sub>, seen: &mut Store<Seen>, sub: Sub) -> Result<(), A
 
 /// Puts what comes of an Offer under its grant, and remembers with which hop it came; running out of memory changes neither.
 fn note(
-    subs: &mut Store<Sub>,
-    seen: &mut Store<Seen>,
+    subs: &mut SortedMap<Sub>,
+    seen: &mut SortedMap<Seen>,
     grant: GrantId,
     hop: Hop,
     after: Option<Sub>,
@@ -640,7 +678,7 @@ fn note(
 /// Opens a record in the subcomputation of a grant, in the place of its frame, and keeps the answer to a thief; running out of memory changes
 /// neither. Where the thief has an answer, its place takes no memory; else the answer is forgotten again.
 fn open_and_answer(
-    subs: &mut Store<Sub>,
+    subs: &mut SortedMap<Sub>,
     replies: &mut Replies,
     grant: GrantId,
     opened: Record,
@@ -672,7 +710,7 @@ struct Opens {
     opened: Record,
 }
 
-impl TryChange<Sub> for Opens {
+impl TryItemChange<Sub> for Opens {
     ghost fits = { λ change sub. IsBegun (opened_in change.opened sub.content) };
 
     ghost changed = { λ change sub. opened_sub change.opened sub };
@@ -691,7 +729,7 @@ struct InPlace {
     update: Update,
 }
 
-impl TryChange<Sub> for InPlace {
+impl TryItemChange<Sub> for InPlace {
     ghost fits = { λ change sub. MayUpdate change.update sub.content × IsBegun (updated change.update sub.content) };
 
     ghost changed = { λ change sub. updated_sub change.update sub };
@@ -706,7 +744,7 @@ impl TryChange<Sub> for InPlace {
 /// The test of a post: its frame is ready.
 #[derive(Drop)]
 struct StillReady<'a> {
-    subs: &'a Store<Sub>,
+    subs: &'a SortedMap<Sub>,
 }
 
 impl PostTest for StillReady<'_> {

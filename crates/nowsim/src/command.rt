@@ -25,8 +25,8 @@ pub enum SimFault {
 }
 
 impl SimFault {
-    /// The status that the program ends with: 1 for a text, an input or a script that is refused, 2 for the words, 3 for want of
-    /// memory, 4 for a file.
+    /// The status that the program ends with: 1 for a text, an input or a script that is refused, 2 for the words, 3 when out
+    /// of memory, 4 for a file.
     pub fn status(self) -> u8
         ensures { result ≡ status_of self }
     {

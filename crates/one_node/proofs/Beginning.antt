@@ -16,7 +16,7 @@ use Rattle.sub_rules.specs.Changes.{readied}
 use Rattle.sub_rules.specs.Debts.{one_if}
 use Rattle.sub_rules.proofs.Contents.{granted_is_sound, ready_test}
 use Rattle.sub_rules.proofs.Slots.{none_missing}
-use Rattle.agreement.specs.Agreement.{Agrees}
+use Rattle.agreement.specs.Agreement.{ContentAgrees}
 use Rattle.one_node.specs.Runs.{begun, post_of}
 use Rattle.one_node.specs.Holding.{Holds, is_ready_at, names}
 use Rattle.one_node.proofs.Posting.{and_true}
@@ -31,7 +31,7 @@ first_posted task n =
     omega (arith, sum_by-cons (names n) (post_of (readied (first_frame task))) [], sum_by-cons (is_ready_at n) (first_frame task) [])
 
 -- it goes on
-pub begun_holds : (job : JobOf) (task : Task) → IsJob job → Agrees job (granted_content (house_of 1) task) → task.place ≡ [] → Holds job (begun task)
+pub begun_holds : (job : JobOf) (task : Task) → IsJob job → ContentAgrees job (granted_content (house_of 1) task) → task.place ≡ [] → Holds job (begun task)
 begun_holds job task known agrees rooted = record {
   known = known;
   active = refl;
@@ -43,5 +43,5 @@ begun_holds job task known agrees rooted = record {
   posted = record { own = (refl, tt); each = first_posted task };
 }
 
-pub so_holds : (job : JobOf) (task : Task) (content : Content) (posts : List Post) → IsJob job → Agrees job (granted_content (house_of 1) task) → task.place ≡ [] → content ≡ granted_content (house_of 1) task → posts ≡ post_of (readied (first_frame task)) ∷ [] → Holds job (record { content = content; posts = posts })
+pub so_holds : (job : JobOf) (task : Task) (content : Content) (posts : List Post) → IsJob job → ContentAgrees job (granted_content (house_of 1) task) → task.place ≡ [] → content ≡ granted_content (house_of 1) task → posts ≡ post_of (readied (first_frame task)) ∷ [] → Holds job (record { content = content; posts = posts })
 so_holds job task content posts known agrees rooted new posted = rw (new, posted) (begun_holds job task known agrees rooted)

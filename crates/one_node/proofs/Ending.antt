@@ -20,7 +20,7 @@ use Rattle.level_deques.specs.Posts.{deepest}
 use Rattle.sub_rules.specs.declared.content.Content.{Content}
 use Rattle.sub_rules.specs.Changes.{arrives, ends, filled_in, joined, replaced, turned}
 use Rattle.sub_rules.specs.Content.{Ready, ready, ready_in}
-use Rattle.one_node.specs.Outcomes.{IsEnd, IsShort}
+use Rattle.one_node.specs.Outcomes.{IsRunEnd, IsShort}
 use Rattle.one_node.specs.Runs.{RunOf, after, begun, next_of, one_turn, root_task, start_of}
 use Rattle.one_node.specs.Runs as runs
 
@@ -48,7 +48,7 @@ turned_so f (Joins s slots) c active = by_test (nat_lt (length f.place) 1024)
     by_test false = inr refl
 
 -- without frames there is no turn
-none_chosen : (run : RunOf) → run.content.frames ≡ [] → runs.chosen run ≡ None
+none_chosen : (run : RunOf) → run.content.frames ≡ [] → runs.frame_to_run run ≡ None
 none_chosen run empty = by_post (deepest run.posts)
   where
     by_post : (o : Option Post) → (o >>= λ (p : Post). ready_in p.frame run.content) ≡ None
@@ -61,7 +61,7 @@ no_turn p run empty = ap (λ (o : Option Ready). o >>= λ (r : Ready). turn_of p
 -- a turn leads to a run that goes on or has no frames
 step_so : (p : Program) (run next : RunOf) → GoesOrIsEmpty run.content → one_turn p run ≡ Some next → GoesOrIsEmpty next.content
 step_so p run next (inr empty) turn = let none = no_turn p run empty in absurd cc
-step_so p run next (inl active) turn = by_ready (runs.chosen run) turn
+step_so p run next (inl active) turn = by_ready (runs.frame_to_run run) turn
   where
     by_turn : (r : Ready) (o : Option Turn) → (o >>= λ (t : Turn). Some (next_of run r t)) ≡ Some next → GoesOrIsEmpty next.content
     by_turn r None at = absurd cc
@@ -105,7 +105,7 @@ none_later job n (suc k) run reached last more = elim (eqb_tells n k) [
   | inr both ↦ ap (λ (o : Option RunOf). o >>= one_turn job.program) (none_later job n k run reached last (let other = both.1 in omega arith))
 ]
 
-none_behind : (job : JobOf) (turns k : ℕ) (o : Outcome) (run : RunOf) (a : IsEnd job turns o) → after job k ≡ Some run → k ≤ a.n
+none_behind : (job : JobOf) (turns k : ℕ) (o : Outcome) (run : RunOf) (a : IsRunEnd job turns o) → after job k ≡ Some run → k ≤ a.n
 none_behind job turns k o run a reached = elim (leb_tells k a.n) [
   | inl both ↦ both.1
   | inr both ↦
@@ -114,13 +114,13 @@ none_behind job turns k o run a reached = elim (leb_tells k a.n) [
       absurd cc
 ]
 
-pub one_number : (job : JobOf) (m n : ℕ) (o u : Outcome) (a : IsEnd job m o) (b : IsEnd job n u) → a.n ≡ b.n
+pub one_number : (job : JobOf) (m n : ℕ) (o u : Outcome) (a : IsRunEnd job m o) (b : IsRunEnd job n u) → a.n ≡ b.n
 one_number job m n o u a b =
     let le = none_behind job m b.n o b.run a b.reached in
     let ge = none_behind job n a.n u a.run b a.reached in
     omega arith
 
-pub one_outcome : (job : JobOf) (m n : ℕ) (o u : Outcome) → IsEnd job m o → IsEnd job n u → o ≡ u
+pub one_outcome : (job : JobOf) (m n : ℕ) (o u : Outcome) → IsRunEnd job m o → IsRunEnd job n u → o ≡ u
 one_outcome job m n o u a b =
     let number = one_number job m n o u a b in
     let there : after job a.n ≡ Some b.run = rw number b.reached in
@@ -131,7 +131,7 @@ one_outcome job m n o u a b =
     let is : Finished o ≡ Finished u = sym ended ∙ ap (λ (x : RunOf). x.content.progress) same ∙ other in
     cc
 
-pub not_short : (job : JobOf) (turns : ℕ) (o : Outcome) → IsEnd job turns o → IsShort job turns → ⊥
+pub not_short : (job : JobOf) (turns : ℕ) (o : Outcome) → IsRunEnd job turns o → IsShort job turns → ⊥
 not_short job turns o a short =
     let le = none_behind job turns turns o short.run a short.reached in
     let within = a.within in

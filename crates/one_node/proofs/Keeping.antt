@@ -23,20 +23,20 @@ use Rattle.serial_meaning.specs.Job.{JobOf}
 use Rattle.frames.specs.Frames.{frame_in, missing_in, without_frame}
 use Rattle.level_deques.specs.declared.posts.Post.{Post}
 use Rattle.level_deques.specs.Posts.{deepest, withdrawn}
-use Rattle.sub_rules.specs.declared.change.Change.{Change}
+use Rattle.sub_rules.specs.declared.change.ContentChange.{ContentChange}
 use Rattle.sub_rules.specs.declared.change.SubError.TheVariants.{Spent}
 use Rattle.sub_rules.specs.declared.content.Content.{Content}
-use Rattle.sub_rules.specs.Carrying.{exec}
+use Rattle.sub_rules.specs.Carrying.{exec_content}
 use Rattle.sub_rules.specs.Changes.{arrives, ends, filled_in, joined, replaced, turned}
 use Rattle.sub_rules.specs.Debts.{IsSound}
 use Rattle.sub_rules.specs.Leaving.{LacksDebtor}
 use Rattle.sub_rules.proofs.Arrivals.{awaited}
 use Rattle.sub_rules.proofs.Departures.{frame_leaves, frame_number}
 use Rattle.sub_rules.proofs.Slots.{numbers_full}
-use Rattle.agreement.specs.Agreement.{Agrees}
+use Rattle.agreement.specs.Agreement.{ContentAgrees}
 use Rattle.one_node.specs.declared.fault.RunFault.{RunFault}
 use Rattle.one_node.specs.declared.fault.RunFault.TheVariants.{TurnsSpent, NumbersSpent, Memory}
-use Rattle.one_node.specs.Runs.{RunOf, after, one_turn, own_grant, posted_all, with_change}
+use Rattle.one_node.specs.Runs.{RunOf, after, one_turn, own_grant, posted_readied, with_change}
 use Rattle.one_node.specs.Holding.{ArePosted, Follows, Holds, IsCarried, IsSpent, IsTurnOf, TurnFails}
 use Rattle.one_node.proofs.Posting.{come_posted, filled_posted, left_posted}
 use Rattle.one_node.proofs.Turning.{carried_is, next_frame, spent_is, turn_is, within_is}
@@ -80,7 +80,7 @@ stays f (Joins s slots) c = by_test (nat_lt (length f.place) 1024)
     by_test false = record { task = refl; none = λ e. refl }
 
 -- the ready frames are posted
-still_posted : (f : Frame) (t : Turn) (c : Content) (posts : List Post) → IsSound c → AreInOrder name_of_frame c.frames → frame_in f.number c.frames ≡ Some f → missing_in f.slots ≡ 0 → (turned f t c).after.progress ≡ Active → ArePosted c.frames posts → ArePosted (turned f t c).after.frames (posted_all (turned f t c).ready (withdrawn own_grant f.number posts))
+still_posted : (f : Frame) (t : Turn) (c : Content) (posts : List Post) → IsSound c → AreInOrder name_of_frame c.frames → frame_in f.number c.frames ≡ Some f → missing_in f.slots ≡ 0 → (turned f t c).after.progress ≡ Active → ArePosted c.frames posts → ArePosted (turned f t c).after.frames (posted_readied (turned f t c).ready (withdrawn own_grant f.number posts))
 still_posted f (Sends v) c posts sound order there full active are = by_return f.returns refl active
   where
     frames : List Frame
@@ -92,27 +92,27 @@ still_posted f (Sends v) c posts sound order there full active are = by_return f
     left : ArePosted frames rest
     left = left_posted f c.frames posts order there are
 
-    by_found : (n j : ℕ) (o : Option Frame) → frame_in n frames ≡ o → LacksDebtor (Local n j) (record c { frames = frames }) → ArePosted (filled_in j v (record c { frames = frames }) o).after.frames (posted_all (filled_in j v (record c { frames = frames }) o).ready rest)
+    by_found : (n j : ℕ) (o : Option Frame) → frame_in n frames ≡ o → LacksDebtor (Local n j) (record c { frames = frames }) → ArePosted (filled_in j v (record c { frames = frames }) o).after.frames (posted_readied (filled_in j v (record c { frames = frames }) o).ready rest)
     by_found n j None found lacks = left
     by_found n j (Some g) found lacks =
         let number : n ≡ g.number = frame_number n g frames found in
         let empty = awaited (record c { frames = frames }) n j lacks in
         filled_posted g j v frames rest (left_order f.number c.frames order) (rw number at found) (rw found at empty) left
 
-    by_return : (r : Return) → f.returns ≡ r → (arrives r v (record c { frames = frames })).after.progress ≡ Active → ArePosted (arrives r v (record c { frames = frames })).after.frames (posted_all (arrives r v (record c { frames = frames })).ready rest)
+    by_return : (r : Return) → f.returns ≡ r → (arrives r v (record c { frames = frames })).after.progress ≡ Active → ArePosted (arrives r v (record c { frames = frames })).after.frames (posted_readied (arrives r v (record c { frames = frames })).ready rest)
     by_return Whole is goes = absurd cc
     by_return (Local n j) is goes =
         let leaves = frame_leaves c f sound order (left_order f.number c.frames order) there full in
         by_found n j (frame_in n frames) refl (rw is at leaves.lacks)
 still_posted f (Joins s slots) c posts sound order there full active are = by_test (nat_lt (length f.place) 1024) active
   where
-    by_test : (b : Bool) → (cond b (replaced f.number (joined f s slots c.next) c) (ends TooDeep c)).after.progress ≡ Active → ArePosted (cond b (replaced f.number (joined f s slots c.next) c) (ends TooDeep c)).after.frames (posted_all (cond b (replaced f.number (joined f s slots c.next) c) (ends TooDeep c)).ready (withdrawn own_grant f.number posts))
+    by_test : (b : Bool) → (cond b (replaced f.number (joined f s slots c.next) c) (ends TooDeep c)).after.progress ≡ Active → ArePosted (cond b (replaced f.number (joined f s slots c.next) c) (ends TooDeep c)).after.frames (posted_readied (cond b (replaced f.number (joined f s slots c.next) c) (ends TooDeep c)).ready (withdrawn own_grant f.number posts))
     by_test true goes = come_posted (joined f s slots c.next) (without_frame f.number c.frames) (withdrawn own_grant f.number posts) (left_posted f c.frames posts order there are)
     by_test false goes = absurd cc
 
 -- what is said of turns: they keep agreement
 abbrev pub KeepsAgreement : JobOf → Type 0
-KeepsAgreement job = (c : Content) (f : Frame) (numbers : List ℤ) (turn : Turn) → IsAccepted job.program → IsSound c → AreInOrder name_of_frame c.frames → Agrees job c → frame_in f.number c.frames ≡ Some f → numbers_in f.slots ≡ Some numbers → turn_of job.program f.thread numbers ≡ Some turn → Agrees job (turned f turn c).after
+KeepsAgreement job = (c : Content) (f : Frame) (numbers : List ℤ) (turn : Turn) → IsAccepted job.program → IsSound c → AreInOrder name_of_frame c.frames → ContentAgrees job c → frame_in f.number c.frames ≡ Some f → numbers_in f.slots ≡ Some numbers → turn_of job.program f.thread numbers ≡ Some turn → ContentAgrees job (turned f turn c).after
 
 -- the run after the turn of a frame
 follows : (job : JobOf) (run : RunOf) (n : ℕ) (f : Frame) (numbers : List ℤ) (t : Turn) → KeepsAgreement job → Holds job run → frame_in n run.content.frames ≡ Some f → numbers_in f.slots ≡ Some numbers → turn_of job.program f.thread numbers ≡ Some t → IsSound (turned f t run.content).after → AreInOrder name_of_frame (turned f t run.content).after.frames → Follows job (with_change n (turned f t run.content) run)
@@ -137,33 +137,33 @@ follows job run n f numbers t law holds there full reached sound order = record 
     here : frame_in f.number run.content.frames ≡ Some f
     here = rw number at there
 
-    agrees : Agrees job (turned f t run.content).after
+    agrees : ContentAgrees job (turned f t run.content).after
     agrees = law run.content f numbers t holds.known.accepted holds.sound holds.order holds.agrees here full reached
 
     rooted : (turned f t run.content).after.task.place ≡ []
     rooted = ap (λ (task : Task). task.place) (stays f t run.content).task ∙ holds.rooted
 
 -- a frame that was carried out is a turn of the run
-pub turn_taken : (job : JobOf) (run : RunOf) (post : Post) (d : DoneOf) (t : IsTurnOf run.content post.frame d) (change : Change) → deepest run.posts ≡ Some post → d.program ≡ job.program → exec d post.frame run.content ≡ Ok change → one_turn job.program run ≡ Some (with_change post.frame change run)
+pub turn_taken : (job : JobOf) (run : RunOf) (post : Post) (d : DoneOf) (t : IsTurnOf run.content post.frame d) (change : ContentChange) → deepest run.posts ≡ Some post → d.program ≡ job.program → exec_content d post.frame run.content ≡ Ok change → one_turn job.program run ≡ Some (with_change post.frame change run)
 turn_taken job run post d t change first program done =
     let same : turned t.frame d.turn run.content ≡ change = within_is (turned t.frame d.turn run.content) change (sym (carried_is run.content post.frame d t) ∙ done) in
     turn_is job run post t.frame d.numbers d.turn first t.there t.full (rw (program, t.thread) at t.evaluated.reached)
-    ∙ ap (λ (x : Change). Some (with_change post.frame x run)) same
+    ∙ ap (λ (x : ContentChange). Some (with_change post.frame x run)) same
 
-pub turn_follows : (job : JobOf) (run : RunOf) (post : Post) (d : DoneOf) (t : IsTurnOf run.content post.frame d) (change : Change) → KeepsAgreement job → Holds job run → d.program ≡ job.program → exec d post.frame run.content ≡ Ok change → IsSound change.after → AreInOrder name_of_frame change.after.frames → Follows job (with_change post.frame change run)
+pub turn_follows : (job : JobOf) (run : RunOf) (post : Post) (d : DoneOf) (t : IsTurnOf run.content post.frame d) (change : ContentChange) → KeepsAgreement job → Holds job run → d.program ≡ job.program → exec_content d post.frame run.content ≡ Ok change → IsSound change.after → AreInOrder name_of_frame change.after.frames → Follows job (with_change post.frame change run)
 turn_follows job run post d t change law holds program done sound order =
     let same : turned t.frame d.turn run.content ≡ change = within_is (turned t.frame d.turn run.content) change (sym (carried_is run.content post.frame d t) ∙ done) in
     rw same at (follows job run post.frame t.frame d.numbers d.turn law holds t.there t.full (rw (program, t.thread) at t.evaluated.reached) (rw same sound) (rw same order))
 
--- a frame that isn't carried out for want of numbers
-pub turn_spent : (job : JobOf) (run : RunOf) (post : Post) (d : DoneOf) (t : IsTurnOf run.content post.frame d) → deepest run.posts ≡ Some post → d.program ≡ job.program → exec d post.frame run.content ≡ Err Spent → IsSpent job run
+-- a frame that isn't carried out since numbers run out
+pub turn_spent : (job : JobOf) (run : RunOf) (post : Post) (d : DoneOf) (t : IsTurnOf run.content post.frame d) → deepest run.posts ≡ Some post → d.program ≡ job.program → exec_content d post.frame run.content ≡ Err Spent → IsSpent job run
 turn_spent job run post d t first program refused = record {
   next = with_change post.frame (turned t.frame d.turn run.content) run;
   turn = turn_is job run post t.frame d.numbers d.turn first t.there t.full (rw (program, t.thread) at t.evaluated.reached);
   spent = spent_is (turned t.frame d.turn run.content) (sym (carried_is run.content post.frame d t) ∙ refused);
 }
 
-pub turn_fails : (job : JobOf) (run : RunOf) (post : Post) (d : DoneOf) (t : IsTurnOf run.content post.frame d) (e : RunFault) → deepest run.posts ≡ Some post → d.program ≡ job.program → IsCarried (exec d post.frame run.content) (Err e) → TurnFails job run e
+pub turn_fails : (job : JobOf) (run : RunOf) (post : Post) (d : DoneOf) (t : IsTurnOf run.content post.frame d) (e : RunFault) → deepest run.posts ≡ Some post → d.program ≡ job.program → IsCarried (exec_content d post.frame run.content) (Err e) → TurnFails job run e
 turn_fails job run post d t TurnsSpent first program refused = refused
 turn_fails job run post d t NumbersSpent first program refused = turn_spent job run post d t first program refused
 turn_fails job run post d t Memory first program refused = tt

@@ -19,7 +19,7 @@ use Rattle.sub_rules.specs.Debts.{one_if}
 use Rattle.sub_rules.proofs.Contents.{ready_test}
 use Rattle.sub_rules.proofs.Slots.{and_false, apart, filled_missing}
 use Rattle.sub_rules.proofs.Sums.{all_filtered, nothing_left, part, sum_left, sum_put, sum_without}
-use Rattle.one_node.specs.Runs.{own_grant, post_of, posted_all}
+use Rattle.one_node.specs.Runs.{own_grant, post_of, posted_readied}
 use Rattle.one_node.specs.Holding.{ArePosted, is_ready_at, names}
 
 other : (n : ℕ) (f : Frame) → f.number ≢ n → is_ready_at n f ≡ 0
@@ -55,11 +55,11 @@ and_true true = refl
 and_true false = refl
 
 -- the ready ones of some frames are posted
-readied_counted : (n : ℕ) (frames : List Frame) (posts : List Post) → sum_by (names n) (posted_all (readied_in frames) posts) ≡ sum_by (names n) posts + sum_by (is_ready_at n) frames
+readied_counted : (n : ℕ) (frames : List Frame) (posts : List Post) → sum_by (names n) (posted_readied (readied_in frames) posts) ≡ sum_by (names n) posts + sum_by (is_ready_at n) frames
 readied_counted n [] posts = omega arith
 readied_counted n (f ∷ fs) posts = by_test (readied_counted n fs (posted (post_of (readied f)) posts)) (readied_counted n fs posts) (is_ready f) refl
   where
-    by_test : sum_by (names n) (posted_all (readied_in fs) (posted (post_of (readied f)) posts)) ≡ sum_by (names n) (posted (post_of (readied f)) posts) + sum_by (is_ready_at n) fs → sum_by (names n) (posted_all (readied_in fs) posts) ≡ sum_by (names n) posts + sum_by (is_ready_at n) fs → (b : Bool) → is_ready f ≡ b → sum_by (names n) (posted_all (map readied (cond b (f ∷ filter is_ready fs) (filter is_ready fs))) posts) ≡ sum_by (names n) posts + sum_by (is_ready_at n) (f ∷ fs)
+    by_test : sum_by (names n) (posted_readied (readied_in fs) (posted (post_of (readied f)) posts)) ≡ sum_by (names n) (posted (post_of (readied f)) posts) + sum_by (is_ready_at n) fs → sum_by (names n) (posted_readied (readied_in fs) posts) ≡ sum_by (names n) posts + sum_by (is_ready_at n) fs → (b : Bool) → is_ready f ≡ b → sum_by (names n) (posted_readied (map readied (cond b (f ∷ filter is_ready fs) (filter is_ready fs))) posts) ≡ sum_by (names n) posts + sum_by (is_ready_at n) (f ∷ fs)
     by_test with_it without true is =
         let here : is_ready_at n f ≡ names n (post_of (readied f)) = rw is (ap one_if (and_true (nat_eq f.number n))) in
         let first = posted_counted n (post_of (readied f)) posts in
@@ -102,7 +102,7 @@ own_posted p (q ∷ qs) here own = by_level (own_posted p qs here own.1) (nat_lt
     by_level rest true = (here, own)
     by_level rest false = (own.0, rest)
 
-own_posted_all : (ready : List Readied) (posts : List Post) → AllByRecursion (λ q. q.grant ≡ own_grant) posts → AllByRecursion (λ q. q.grant ≡ own_grant) (posted_all ready posts)
+own_posted_all : (ready : List Readied) (posts : List Post) → AllByRecursion (λ q. q.grant ≡ own_grant) posts → AllByRecursion (λ q. q.grant ≡ own_grant) (posted_readied ready posts)
 own_posted_all [] posts own = own
 own_posted_all (r ∷ rs) posts own = own_posted_all rs (posted (post_of r) posts) (own_posted (post_of r) posts refl own)
 
@@ -122,7 +122,7 @@ left_posted f frames posts order there are = record {
 }
 
 -- frames come, and the ready ones are posted
-pub come_posted : (made frames : List Frame) (posts : List Post) → ArePosted frames posts → ArePosted (frames ++ made) (posted_all (readied_in made) posts)
+pub come_posted : (made frames : List Frame) (posts : List Post) → ArePosted frames posts → ArePosted (frames ++ made) (posted_readied (readied_in made) posts)
 come_posted made frames posts are = record {
   own = own_posted_all (readied_in made) posts are.own;
   each = λ n. (
@@ -132,7 +132,7 @@ come_posted made frames posts are = record {
 }
 
 -- a slot of a frame is filled, which is posted where it is ready then
-pub filled_posted : (f : Frame) (j : ℕ) (v : ℤ) (frames : List Frame) (posts : List Post) → AreInOrder name_of_frame frames → frame_in f.number frames ≡ Some f → IsTrue (is_vacant (slice_get f.slots j)) → ArePosted frames posts → ArePosted (put_frame (with_slot j v f) frames) (posted_all (readied_in (with_slot j v f ∷ [])) posts)
+pub filled_posted : (f : Frame) (j : ℕ) (v : ℤ) (frames : List Frame) (posts : List Post) → AreInOrder name_of_frame frames → frame_in f.number frames ≡ Some f → IsTrue (is_vacant (slice_get f.slots j)) → ArePosted frames posts → ArePosted (put_frame (with_slot j v f) frames) (posted_readied (readied_in (with_slot j v f ∷ [])) posts)
 filled_posted f j v frames posts order there empty are = record {
   own = own_posted_all (readied_in (with_slot j v f ∷ [])) posts are.own;
   each = λ n. (

@@ -8,7 +8,7 @@ use Rattle.ids.specs.Ordered.{AreInOrder}
 use Rattle.ids.specs.declared.work.Frame.{Frame}
 use Rattle.frames.specs.Frames.{frame_in}
 use Rattle.level_deques.specs.declared.posts.Post.{Post}
-use Rattle.level_deques.specs.Posts.{choice, deepest, goes_below, is_post, is_post_of, is_posted, withdrawn, without_post}
+use Rattle.level_deques.specs.Posts.{newest_of, deepest, goes_below, is_post, is_post_of, is_posted, withdrawn, without_post}
 use Rattle.sub_rules.specs.Content.{is_ready}
 use Rattle.sub_rules.specs.Debts.{one_if}
 use Rattle.sub_rules.proofs.Sums.{part}
@@ -35,7 +35,7 @@ deepest_posted (q ∷ qs) p first = by_rest (deepest_posted qs p) (deepest qs) r
     by_test rest r is true at = let same : q ≡ p = cc in here same
     by_test rest r is false at = ap (λ b. is_post p q || b) (rest (is ∙ at)) ∙ later (is_post p q)
 
-    by_rest : (deepest qs ≡ Some p → is_posted p qs ≡ true) → (o : Option Post) → deepest qs ≡ o → choice goes_below q o ≡ Some p → is_posted p (q ∷ qs) ≡ true
+    by_rest : (deepest qs ≡ Some p → is_posted p qs ≡ true) → (o : Option Post) → deepest qs ≡ o → newest_of goes_below q o ≡ Some p → is_posted p (q ∷ qs) ≡ true
     by_rest rest None is at = let same : q ≡ p = cc in here same
     by_rest rest (Some r) is at = by_test rest r is (goes_below q r) at
 

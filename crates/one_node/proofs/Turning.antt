@@ -14,11 +14,11 @@ use Rattle.body_eval.specs.Done.{DoneOf}
 use Rattle.serial_meaning.specs.Job.{JobOf}
 use Rattle.frames.specs.Frames.{frame_in}
 use Rattle.level_deques.specs.declared.posts.Post.{Post}
-use Rattle.level_deques.specs.Posts.{choice, deepest, goes_below}
-use Rattle.sub_rules.specs.declared.change.Change.{Change}
+use Rattle.level_deques.specs.Posts.{newest_of, deepest, goes_below}
+use Rattle.sub_rules.specs.declared.change.ContentChange.{ContentChange}
 use Rattle.sub_rules.specs.declared.change.SubError.TheVariants.{Spent, Stale}
 use Rattle.sub_rules.specs.declared.content.Content.{Content}
-use Rattle.sub_rules.specs.Carrying.{exec, executed, holds_numbers, is_turn_of, within_numbers}
+use Rattle.sub_rules.specs.Carrying.{exec_content, executed, holds_numbers, is_turn_of, within_numbers}
 use Rattle.sub_rules.specs.Changes.{turned}
 use Rattle.sub_rules.specs.Content.{Ready, is_ready, ready, ready_in}
 use Rattle.sub_rules.specs.Debts.{one_if}
@@ -26,8 +26,8 @@ use Rattle.sub_rules.proofs.Contents.{has_ready, test_ready}
 use Rattle.sub_rules.proofs.Departures.{frame_number}
 use Rattle.sub_rules.proofs.Slots.{full_numbers}
 use Rattle.sub_rules.proofs.Sums.{part}
-use Rattle.agreement.specs.Agreement.{Agrees}
-use Rattle.one_node.specs.Runs.{RunOf, next_of, one_turn, own_grant, posted_all, with_change}
+use Rattle.agreement.specs.Agreement.{ContentAgrees}
+use Rattle.one_node.specs.Runs.{RunOf, next_of, one_turn, own_grant, posted_readied, with_change}
 use Rattle.one_node.specs.Runs as runs
 use Rattle.one_node.specs.Holding.{Holds, IsFrame, IsTurnOf, is_ready_at, names}
 use Rattle.one_node.proofs.Posting.{counted, ready_itself}
@@ -46,13 +46,13 @@ holds_same (Some v ∷ slots) numbers full = by_rest (λ vs is. holds_same slots
         ap (holds_numbers (Some v ∷ slots)) (sym same) ∙ rw ((Decides-int_eq v v).1 refl, rest vs is) refl
 
 -- a turn of a frame carries it out
-pub carried_is : (c : Content) (n : ℕ) (d : DoneOf) (t : IsTurnOf c n d) → exec d n c ≡ within_numbers (turned t.frame d.turn c)
+pub carried_is : (c : Content) (n : ℕ) (d : DoneOf) (t : IsTurnOf c n d) → exec_content d n c ≡ within_numbers (turned t.frame d.turn c)
 carried_is c n d t =
     let is : is_turn_of d t.frame ≡ true = rw (eq-eqb t.frame.thread d.thread (sym t.thread), holds_same t.frame.slots d.numbers t.full) refl in
     ap (executed d c) t.there ∙ ap (λ b. cond b (within_numbers (turned t.frame d.turn c)) (Err Stale)) is
 
 -- so it isn't refused as stale
-pub never_stale : (change : Change) → within_numbers change ≡ Err Stale → ⊥
+pub never_stale : (change : ContentChange) → within_numbers change ≡ Err Stale → ⊥
 never_stale change is = by_test (nat_lt change.after.next (2 ^ 32)) is
   where
     by_test : (b : Bool) → cond b (Ok change) (Err Spent) ≡ Err Stale → ⊥
@@ -60,14 +60,14 @@ never_stale change is = by_test (nat_lt change.after.next (2 ^ 32)) is
     by_test false at = cc
 
 -- what was carried out is the change
-pub within_is : (expected change : Change) → within_numbers expected ≡ Ok change → expected ≡ change
+pub within_is : (expected change : ContentChange) → within_numbers expected ≡ Ok change → expected ≡ change
 within_is expected change is = by_test (nat_lt expected.after.next (2 ^ 32)) is
   where
     by_test : (b : Bool) → cond b (Ok expected) (Err Spent) ≡ Ok change → expected ≡ change
     by_test true at = cc
     by_test false at = absurd cc
 
-pub spent_is : (expected : Change) → within_numbers expected ≡ Err Spent → 2 ^ 32 ≤ expected.after.next
+pub spent_is : (expected : ContentChange) → within_numbers expected ≡ Err Spent → 2 ^ 32 ≤ expected.after.next
 spent_is expected is = by_test (nat_lt expected.after.next (2 ^ 32)) refl is
   where
     by_test : (b : Bool) → nat_lt expected.after.next (2 ^ 32) ≡ b → cond b (Ok expected) (Err Spent) ≡ Err Spent → 2 ^ 32 ≤ expected.after.next
@@ -99,12 +99,12 @@ one_deepest (p ∷ q ∷ qs) more =
     by_choice : (rest : Deepest (q ∷ qs)) (b : Bool) → goes_below p rest.post ≡ b → Deepest (p ∷ q ∷ qs)
     by_choice rest true is = record {
       post = p;
-      first = ap (choice goes_below p) rest.first ∙ ap (λ b. cond b (Some p) (Some rest.post)) is;
+      first = ap (newest_of goes_below p) rest.first ∙ ap (λ b. cond b (Some p) (Some rest.post)) is;
       posted = let here = named p in omega (arith, sum_by-cons (names p.frame) p (q ∷ qs));
     }
     by_choice rest false is = record {
       post = rest.post;
-      first = ap (choice goes_below p) rest.first ∙ ap (λ b. cond b (Some p) (Some rest.post)) is;
+      first = ap (newest_of goes_below p) rest.first ∙ ap (λ b. cond b (Some p) (Some rest.post)) is;
       posted = let there = rest.posted in omega (arith, sum_by-cons (names rest.post.frame) p (q ∷ qs));
     }
 
@@ -125,7 +125,7 @@ numbers_many (Some v ∷ slots) numbers full = by_rest (λ vs is. numbers_many s
         ap suc (rest vs is) ∙ ap length same
 
 -- a ready frame of a number that is counted
-ready_there : (job : JobOf) (c : Content) (n : ℕ) → Agrees job c → 0 < part name_of_frame (is_ready_at n) (frame_in n c.frames) → IsFrame job c n
+ready_there : (job : JobOf) (c : Content) (n : ℕ) → ContentAgrees job c → 0 < part name_of_frame (is_ready_at n) (frame_in n c.frames) → IsFrame job c n
 ready_there job c n agrees more = by_found (frame_in n c.frames) refl more
   where
     is_full : (a b : Bool) → 0 < one_if (a && b) → b ≡ true
@@ -169,7 +169,7 @@ pub turn_is : (job : JobOf) (run : RunOf) (post : Post) (frame : Frame) (numbers
 turn_is job run post frame numbers turn first there full reached =
     let r : Ready = record { frame = frame; numbers = numbers } in
     let found : ready_in post.frame run.content ≡ Some r = ap (λ (o : Option Frame). o >>= ready) there ∙ ap (λ (o : Option (List ℤ)). o >>= λ (ns : List ℤ). Some (record { frame = frame; numbers = ns })) full in
-    let is : runs.chosen run ≡ Some r = ap (λ (o : Option Post). o >>= λ (p : Post). ready_in p.frame run.content) first ∙ found in
+    let is : runs.frame_to_run run ≡ Some r = ap (λ (o : Option Post). o >>= λ (p : Post). ready_in p.frame run.content) first ∙ found in
     ap (λ (o : Option Ready). o >>= λ (r : Ready). turn_of job.program r.frame.thread r.numbers >>= λ (t : Turn). Some (next_of run r t)) is
     ∙ ap (λ (o : Option Turn). o >>= λ (t : Turn). Some (next_of run r t)) reached
     ∙ ap (λ (k : ℕ). Some (with_change k (turned frame turn run.content) run)) (sym (frame_number post.frame frame run.content.frames there))

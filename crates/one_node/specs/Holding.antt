@@ -11,13 +11,13 @@ use Rattle.body_eval.specs.Done.{DoneOf, IsEvaluated}
 use Rattle.serial_meaning.specs.Job.{JobOf, IsJob}
 use Rattle.frames.specs.Frames.{frame_in}
 use Rattle.level_deques.specs.declared.posts.Post.{Post}
-use Rattle.sub_rules.specs.declared.change.Change.{Change}
+use Rattle.sub_rules.specs.declared.change.ContentChange.{ContentChange}
 use Rattle.sub_rules.specs.declared.change.SubError.{SubError}
 use Rattle.sub_rules.specs.declared.change.SubError.TheVariants.{Spent}
 use Rattle.sub_rules.specs.declared.content.Content.{Content}
 use Rattle.sub_rules.specs.Content.{is_ready}
 use Rattle.sub_rules.specs.Debts.{IsSound, one_if}
-use Rattle.agreement.specs.Agreement.{Agrees}
+use Rattle.agreement.specs.Agreement.{ContentAgrees}
 use Rattle.one_node.specs.declared.fault.RunFault.{RunFault}
 use Rattle.one_node.specs.declared.fault.RunFault.TheVariants.{TurnsSpent, NumbersSpent, Memory}
 use Rattle.one_node.specs.Runs.{RunOf, one_turn, own_grant}
@@ -43,13 +43,13 @@ pub record Holds (job : JobOf) (run : RunOf) : Type 0 where
   pub sound : IsSound run.content
   pub alone : run.content.records ≡ []
   pub order : AreInOrder name_of_frame run.content.frames
-  pub agrees : Agrees job run.content
+  pub agrees : ContentAgrees job run.content
   pub rooted : run.content.task.place ≡ []
   pub posted : ArePosted run.content.frames run.posts
 
 -- a run after a turn: it agrees, and holds this if it goes on
 pub record Follows (job : JobOf) (run : RunOf) : Type 0 where
-  pub agrees : Agrees job run.content
+  pub agrees : ContentAgrees job run.content
   pub rooted : run.content.task.place ≡ []
   pub goes_on : run.content.progress ≡ Active → Holds job run
 
@@ -82,7 +82,7 @@ TurnFails job run NumbersSpent = IsSpent job run
 TurnFails job run Memory = Unit {0}
 
 -- a frame's turn that is carried out, or needs too great a number
-abbrev pub IsCarried : Result Change SubError → Result Change RunFault → Type 0
+abbrev pub IsCarried : Result ContentChange SubError → Result ContentChange RunFault → Type 0
 IsCarried expected (Ok change) = expected ≡ Ok change
 IsCarried expected (Err TurnsSpent) = ⊥
 IsCarried expected (Err NumbersSpent) = expected ≡ Err Spent

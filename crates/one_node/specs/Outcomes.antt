@@ -8,7 +8,7 @@ use Rattle.one_node.specs.declared.fault.RunFault.TheVariants.{TurnsSpent, Numbe
 use Rattle.one_node.specs.Runs.{RunOf, after, one_turn}
 
 -- the run ends within these turns, with this outcome
-pub record IsEnd (job : JobOf) (turns : ℕ) (o : Outcome) : Type 0 where
+pub record IsRunEnd (job : JobOf) (turns : ℕ) (o : Outcome) : Type 0 where
   pub n : ℕ
   pub within : n ≤ turns
   pub run : RunOf
@@ -31,10 +31,10 @@ pub record IsCounted (job : JobOf) (turns : ℕ) : Type 0 where
   pub turn : one_turn job.program run ≡ Some next
   pub spent : 2 ^ 32 ≤ next.content.next
 
--- an outcome is that of the run and the meaning of the job, and a refusal says why there is none within these turns; want of
--- memory says nothing
+-- an outcome is that of the run and the meaning of the job, and a refusal says why there is none within these turns; running
+-- out of memory says nothing
 abbrev pub IsRunOf : JobOf → ℕ → Result Outcome RunFault → Type 0
-IsRunOf job turns (Ok o) = IsEnd job turns o × (o ≡ meaning_of job)
+IsRunOf job turns (Ok o) = IsRunEnd job turns o × (o ≡ meaning_of job)
 IsRunOf job turns (Err TurnsSpent) = IsShort job turns
 IsRunOf job turns (Err NumbersSpent) = IsCounted job turns
 IsRunOf job turns (Err Memory) = Unit {0}

@@ -10,7 +10,7 @@ use Rattle.serial_meaning.specs.Job.{JobOf}
 use Rattle.serial_meaning.specs.Places.{root}
 use Rattle.level_deques.specs.declared.posts.Post.{Post}
 use Rattle.level_deques.specs.Posts.{deepest, posted, withdrawn}
-use Rattle.sub_rules.specs.declared.change.Change.{Change}
+use Rattle.sub_rules.specs.declared.change.ContentChange.{ContentChange}
 use Rattle.sub_rules.specs.declared.change.Readied.{Readied}
 use Rattle.sub_rules.specs.declared.content.Content.{Content}
 use Rattle.sub_rules.specs.Content.{Ready, first_frame, granted_content, ready_in}
@@ -33,9 +33,9 @@ abbrev pub post_of : Readied → Post
 post_of r = record { level = r.level; grant = own_grant; frame = r.frame }
 
 -- frames that became ready are posted one after the other
-abbrev pub posted_all : List Readied → List Post → List Post
-posted_all [] posts = posts
-posted_all (r ∷ rs) posts = posted_all rs (posted (post_of r) posts)
+abbrev pub posted_readied : List Readied → List Post → List Post
+posted_readied [] posts = posts
+posted_readied (r ∷ rs) posts = posted_readied rs (posted (post_of r) posts)
 
 -- the run of a task before its first turn
 abbrev pub begun : Task → RunOf
@@ -53,14 +53,14 @@ start_of job = do
   Some (begun task)
 
 -- the frame that runs next, if one is ready
-abbrev pub chosen : RunOf → Option Ready
-chosen run = do
+abbrev pub frame_to_run : RunOf → Option Ready
+frame_to_run run = do
   post ← deepest run.posts
   ready_in post.frame run.content
 
 -- a run after the change that a frame's turn makes: the frame is posted no longer, and those that became ready are
-abbrev pub with_change : ℕ → Change → RunOf → RunOf
-with_change n change run = record { content = change.after; posts = posted_all change.ready (withdrawn own_grant n run.posts) }
+abbrev pub with_change : ℕ → ContentChange → RunOf → RunOf
+with_change n change run = record { content = change.after; posts = posted_readied change.ready (withdrawn own_grant n run.posts) }
 
 -- a run after the turn of a frame
 abbrev pub next_of : RunOf → Ready → Turn → RunOf
@@ -69,7 +69,7 @@ next_of run r turn = with_change r.frame.number (turned r.frame turn run.content
 -- one turn; none where no frame is ready
 abbrev pub one_turn : Program → RunOf → Option RunOf
 one_turn p run = do
-  r ← chosen run
+  r ← frame_to_run run
   turn ← turn_of p r.frame.thread r.numbers
   Some (next_of run r turn)
 

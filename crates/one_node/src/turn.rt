@@ -1,7 +1,7 @@
 ghost use Rattle.std.specs.Prelude.{◌≡◌, IfErr, IfOk, IsSome, OnOk, Some};
-ghost use Rattle.sub_rules.specs.Carrying.{exec};
+ghost use Rattle.sub_rules.specs.Carrying.{exec_content};
 ghost use Rattle.sub_rules.specs.Debts.{IsSound};
-ghost use Rattle.one_node.specs.Runs.{one_turn, posted_all, run_of};
+ghost use Rattle.one_node.specs.Runs.{one_turn, posted_readied, run_of};
 ghost use Rattle.one_node.specs.Holding.{Follows, Holds, IsCarried, IsFrame, IsTurnOf, TurnFails};
 
 use crate::begin::{Run, post_of};
@@ -12,7 +12,7 @@ use ids::FrameNo;
 use level_deques::Posts;
 use serial_meaning::{CountsTurns, Job};
 use std::alloc::{AllocError, Global};
-use sub_rules::{Change, Content, Readied, SubError, exec, numbers_in};
+use sub_rules::{Content, ContentChange, Readied, SubError, exec, numbers_in};
 
 /// One turn of a run that goes on: the newest ready frame of the greatest level runs, and is counted.
 pub fn turn<C: CountsTurns>(
@@ -27,13 +27,13 @@ pub fn turn<C: CountsTurns>(
     ensures fails { IfErr result (TurnFails job.now (run_of run)) }
 {
     let Run { content, posts } = run;
-    content.frames.stand_in_order();
+    content.frames.law_stand_in_order();
     let newest = posts.deepest().unwrap();
     let frame = newest.frame;
     let done = evaluated(alloc, job, &content, frame)?;
     counter.counts(done.thread(), newest.level);
-    let Change { after, ready, .. } = carried(alloc, content, frame, &done)?;
-    after.frames.stand_in_order();
+    let ContentChange { after, ready, .. } = carried(alloc, content, frame, &done)?;
+    after.frames.law_stand_in_order();
     turn_keeps_agreement();
     let mut posts = posts;
     posts.take(&newest);
@@ -61,10 +61,15 @@ fn evaluated(
 }
 
 /// Carries out a frame by a turn of it.
-fn carried(alloc: Global, content: Content, frame: FrameNo, done: &Done) -> Result<Change, RunFault>
+fn carried(
+    alloc: Global,
+    content: Content,
+    frame: FrameNo,
+    done: &Done,
+) -> Result<ContentChange, RunFault>
     requires sound { IsSound content }
     requires turn { IsTurnOf content frame done.now }
-    ensures answer { IsCarried (exec done.now frame content) result }
+    ensures answer { IsCarried (exec_content done.now frame content) result }
     ensures sound { IfOk result (λ change. IsSound change.after) }
 {
     match exec(alloc, content, frame, done) {
@@ -77,7 +82,7 @@ fn carried(alloc: Global, content: Content, frame: FrameNo, done: &Done) -> Resu
 
 /// Posts frames that became ready, in this order.
 fn post_all(posts: &mut Posts, ready: &[Readied]) -> Result<(), AllocError>
-    ensures { OnOk result (posts.new ≡ posted_all ready.now posts.old) }
+    ensures { OnOk result (posts.new ≡ posted_readied ready.now posts.old) }
 {
     for readied in ready {
         posts.post(post_of(*readied))?;

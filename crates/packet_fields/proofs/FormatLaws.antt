@@ -8,7 +8,7 @@ use Rattle.byteorder.specs.Endian.{big_bytes, big_number}
 use Rattle.byteorder.specs.Numbers.{big_from-lt, big_from-take, big_number-reads_back, length-bytes_high_first}
 use Rattle.packet_fields.specs.declared.fault.Fault.{Fault}
 use Rattle.packet_fields.specs.declared.fault.Fault.TheVariants.{Short, Field}
-use Rattle.packet_fields.specs.Format.{Format, IsBytes, OneSpelling, ◌>>=◌, checked, chosen, cons, constant, followed, is_empty, items, listed, made, never, nothing, number, of_part, plain, tested, variant}
+use Rattle.packet_fields.specs.Format.{Format, IsBytes, OneSpelling, ◌>>=◌, checked, tagged_arm, cons, constant, followed, is_empty, items, listed, made, never, nothing, number, of_part, plain, tested, variant}
 
 -- what a format is to keep
 pub record Lawful {X : Type 0} (F : Format X) : Type 0 where
@@ -214,7 +214,7 @@ never_lawful fault = record {
 }
 
 -- what an arm spells is to have its tag
-pub chosen_lawful : {T Y : Type 0} (F : Format T) (arm : T → Format Y) (tag : Y → T) → Lawful F → ((t : T) → Lawful (arm t)) → ((t : T) (from to : List ℕ) (y : Y) → (arm t).Spelled from to y → tag y ≡ t) → Lawful (chosen F arm tag)
+pub chosen_lawful : {T Y : Type 0} (F : Format T) (arm : T → Format Y) (tag : Y → T) → Lawful F → ((t : T) → Lawful (arm t)) → ((t : T) (from to : List ℕ) (y : Y) → (arm t).Spelled from to y → tag y ≡ t) → Lawful (tagged_arm F arm tag)
 chosen_lawful {T = T} {Y = Y} F arm tag law laws tags = record {
   found = λ from to y bytes e.
       let b = bind_ok (F.read from) (λ t. (arm t.0).read t.1) (y, to) e in

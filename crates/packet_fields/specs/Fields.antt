@@ -16,7 +16,7 @@ use Rattle.ids.specs.declared.work.Record.{Record}
 use Rattle.ids.specs.declared.member.Status.{Status}
 use Rattle.ids.specs.declared.member.Status.TheVariants.{Live, Dead, Left}
 use Rattle.ids.specs.declared.work.Task.{Task}
-use Rattle.packet_fields.specs.Format.{Format, ◌>>=◌, at_most, checked, chosen, followed, items, listed, made, never, nothing, number, plain, variant}
+use Rattle.packet_fields.specs.Format.{Format, ◌>>=◌, at_most, checked, tagged_arm, followed, items, listed, made, never, nothing, number, plain, variant}
 
 -- the word of a worker's start
 unfoldable pub worker : Format ℕ
@@ -119,7 +119,7 @@ outcome_arm (suc (suc zero)) = nothing TooDeep is_too_deep
 outcome_arm (suc (suc (suc n))) = never Field
 
 unfoldable pub outcome : Format Outcome
-outcome = chosen (number 1) outcome_arm tag_of_outcome
+outcome = tagged_arm (number 1) outcome_arm tag_of_outcome
 
 -- how far a subcomputation is: 0 while it goes on, else its outcome
 abbrev pub tag_of_progress : Progress → ℕ
@@ -139,7 +139,7 @@ progress_arm zero = nothing Active is_active
 progress_arm (suc tag) = variant (outcome_arm (suc tag)) Finished outcome_in
 
 unfoldable pub progress : Format Progress
-progress = chosen (number 1) progress_arm tag_of_progress
+progress = tagged_arm (number 1) progress_arm tag_of_progress
 
 -- a slot: 0 where it is empty, or 1 and its number
 abbrev pub tag_of_slot : Option ℤ → ℕ
@@ -156,7 +156,7 @@ slot_arm (suc zero) = variant signed Some (λ slot. slot)
 slot_arm (suc (suc n)) = never Field
 
 unfoldable pub slot : Format (Option ℤ)
-slot = chosen (number 1) slot_arm tag_of_slot
+slot = tagged_arm (number 1) slot_arm tag_of_slot
 
 -- at most 8 slots behind their count
 unfoldable pub slots : Format (List (Option ℤ))
@@ -182,7 +182,7 @@ return_arm next (suc zero) =
 return_arm next (suc (suc n)) = never Field
 
 unfoldable pub goes_to : ℕ → Format Return
-goes_to next = chosen (number 1) (return_arm next) tag_of_return
+goes_to next = tagged_arm (number 1) (return_arm next) tag_of_return
 
 -- whether a number is above the last one, if there is one
 abbrev pub is_above : Option ℕ → ℕ → Bool
@@ -222,7 +222,7 @@ status_arm own (suc (suc zero)) = variant (other_worker own) Left heir_in
 status_arm own (suc (suc (suc n))) = never Field
 
 unfoldable pub status : ℕ → Format Status
-status own = chosen (number 1) (status_arm own) tag_of_status
+status own = tagged_arm (number 1) (status_arm own) tag_of_status
 
 -- a member behind the last one
 unfoldable pub member : Option ℕ → Format Member

@@ -127,8 +127,8 @@ never fault = record {
 }
 
 -- a tag, and then the arm of that tag
-abbrev pub chosen : {T Y : Type 0} → Format T → (T → Format Y) → (Y → T) → Format Y
-chosen F arm tag = record {
+abbrev pub tagged_arm : {T Y : Type 0} → Format T → (T → Format Y) → (Y → T) → Format Y
+tagged_arm F arm tag = record {
   Spelled = λ from to y. (middle : List ℕ) × F.Spelled from middle (tag y) × (arm (tag y)).Spelled middle to y;
   read = λ from. F.read from >>= λ t. (arm t.0).read t.1;
   write = λ y. F.write (tag y) ++ (arm (tag y)).write y;

@@ -14,7 +14,7 @@ use play_language::Language;
 use play_nodes::Nodes;
 use play_packets::Packets;
 use play_scripts::Scripts;
-use play_words::{Ended, Line, Played};
+use play_words::{CommandLine, Ended, Played};
 use std::alloc::Global;
 use std::fs::File;
 use std::io::{BufRead, BufReader, BufWriter, Write};
@@ -64,7 +64,7 @@ impl Libraries {
     fn play_pure<O: Write>(
         &mut self,
         alloc: Global,
-        line: &Line<'_>,
+        line: &CommandLine<'_>,
         out: &mut O,
     ) -> Result<Played, Ended> {
         match self.nodes.play(alloc, line, out)? {
@@ -88,7 +88,7 @@ impl Libraries {
         text: &str,
         out: &mut O,
     ) -> Result<(), Ended> {
-        let line = Line::of(text);
+        let line = CommandLine::of(text);
         let played = match self.houses.play(rt, &line, out)? {
             Played::NotMine => self.play_pure(rt.alloc(), &line, out)?,
             played => played,

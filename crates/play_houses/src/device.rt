@@ -3,7 +3,7 @@
 use crate::bench::{Bench, Held, go_on};
 use crate::shown::{bytes_in, count_in, write_bytes, write_kind};
 use disk::{DeviceFailed, Disk};
-use play_words::{Ended, Line, Played};
+use play_words::{CommandLine, Ended, Played};
 use std::alloc::Global;
 use std::io::Write;
 
@@ -46,7 +46,7 @@ fn read<D: Disk, O: Write>(
     disk: &mut D,
     is_planned: bool,
     alloc: Global,
-    line: &Line<'_>,
+    line: &CommandLine<'_>,
     out: &mut O,
 ) -> Result<Played, Ended> {
     let Some(most) = count_in(line, 2) else {
@@ -66,7 +66,7 @@ fn write<D: Disk, O: Write>(
     disk: &mut D,
     is_planned: bool,
     alloc: Global,
-    line: &Line<'_>,
+    line: &CommandLine<'_>,
     out: &mut O,
 ) -> Result<Played, Ended> {
     let (Some(at), Some(bytes)) = (count_in(line, 2), bytes_in(alloc, line, 3)?) else {
@@ -80,7 +80,7 @@ fn cut<D: Disk, O: Write>(
     disk: &mut D,
     is_planned: bool,
     alloc: Global,
-    line: &Line<'_>,
+    line: &CommandLine<'_>,
     out: &mut O,
 ) -> Result<Played, Ended> {
     let Some(at) = count_in(line, 2) else {
@@ -91,7 +91,7 @@ fn cut<D: Disk, O: Write>(
 }
 
 /// The calls and the bytes that the words of a command `arm` or `fails` name.
-pub fn plan_in(alloc: Global, line: &Line<'_>) -> Result<Option<(u64, Vec<u8>)>, Ended> {
+pub fn plan_in(alloc: Global, line: &CommandLine<'_>) -> Result<Option<(u64, Vec<u8>)>, Ended> {
     match (line.number(2), bytes_in(alloc, line, 3)?) {
         (Some(calls), Some(bytes)) => Ok(Some((calls, bytes))),
         _ => Ok(None),
@@ -102,7 +102,7 @@ pub fn plan_in(alloc: Global, line: &Line<'_>) -> Result<Option<(u64, Vec<u8>)>,
 pub fn play_disk<D: Disk, O: Write>(
     bench: &mut Bench<D>,
     alloc: Global,
-    line: &Line<'_>,
+    line: &CommandLine<'_>,
     out: &mut O,
 ) -> Result<Played, Ended> {
     let is_planned = bench.is_planned;

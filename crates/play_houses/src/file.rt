@@ -1,7 +1,7 @@
 //! The file of a transcript, and files that fail.
 
 use crate::shown::{bytes_in, write_bytes};
-use play_words::{Ended, Line, Played};
+use play_words::{CommandLine, Ended, Played};
 use std::alloc::Global;
 use std::cell::Cell;
 use std::env;
@@ -45,7 +45,7 @@ fn content(alloc: Global, file: &File) -> io::Result<Vec<u8>> {
 /// Makes the file of a transcript, with these bytes.
 fn made<R: Env + Files<File = File> + AllocGlobal>(
     rt: &R,
-    line: &Line<'_>,
+    line: &CommandLine<'_>,
 ) -> Result<Option<File>, Ended> {
     let Some(bytes) = bytes_in(rt.alloc(), line, 2)? else {
         return Ok(None);
@@ -56,7 +56,7 @@ fn made<R: Env + Files<File = File> + AllocGlobal>(
 }
 
 /// Writes bytes into the file, which no disk over it knows of.
-fn write(file: &File, alloc: Global, line: &Line<'_>) -> Result<Played, Ended> {
+fn write(file: &File, alloc: Global, line: &CommandLine<'_>) -> Result<Played, Ended> {
     let (Some(at), Some(bytes)) = (line.number(2), bytes_in(alloc, line, 3)?) else {
         return Ok(Played::Malformed);
     };
@@ -68,7 +68,7 @@ fn write(file: &File, alloc: Global, line: &Line<'_>) -> Result<Played, Ended> {
 pub fn play_file<R: Env + Files<File = File> + AllocGlobal, O: Write>(
     kept: &mut Option<File>,
     rt: &R,
-    line: &Line<'_>,
+    line: &CommandLine<'_>,
     out: &mut O,
 ) -> Result<Played, Ended> {
     match (line.word(1), &*kept) {

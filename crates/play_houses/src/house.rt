@@ -9,7 +9,7 @@ use codec::{Datagram, EncodeError, Join, Packet, ReadError, decode};
 use disk::Disk;
 use ids::Incarnation;
 use play_packets::{Mail, kind_name, packet_number, read_packet, write_packet};
-use play_words::{Ended, Line, Played};
+use play_words::{CommandLine, Ended, Played};
 use std::alloc::Global;
 use std::io::Write;
 
@@ -100,7 +100,7 @@ fn spelled(alloc: Global, packet: &Packet) -> Result<Option<Vec<u8>>, Ended> {
 }
 
 /// The bytes that the words of a command `house hear` name.
-fn packet_in(desk: &Desk, line: &Line<'_>) -> Result<Option<Vec<u8>>, Ended> {
+fn packet_in(desk: &Desk, line: &CommandLine<'_>) -> Result<Option<Vec<u8>>, Ended> {
     let alloc = desk.alloc;
     let Some(first) = line.word(2) else {
         return Ok(None);
@@ -124,7 +124,7 @@ fn packet_in(desk: &Desk, line: &Line<'_>) -> Result<Option<Vec<u8>>, Ended> {
 fn open<D: Disk + Drop, O: Write>(
     bench: &mut Bench<D>,
     desk: &mut Desk,
-    line: &Line<'_>,
+    line: &CommandLine<'_>,
     out: &mut O,
 ) -> Result<Played, Ended> {
     let (Some(limit), Some(job)) = (line.number(2), desk.setting.job(desk.alloc, out)?) else {
@@ -177,7 +177,7 @@ fn join(alloc: Global, job: u64, word: u64) -> Result<Option<Vec<u8>>, Ended> {
 fn joins<D: Disk>(
     house: &mut House<'static, D>,
     desk: &Desk,
-    line: &Line<'_>,
+    line: &CommandLine<'_>,
 ) -> Result<Option<Result<HouseStep, HouseError>>, Ended> {
     let (Some(first), Some(last)) = (line.number(2), line.number(3)) else {
         return Ok(None);
@@ -201,7 +201,7 @@ fn joins<D: Disk>(
 fn answered<D: Disk>(
     house: &mut House<'static, D>,
     desk: &Desk,
-    line: &Line<'_>,
+    line: &CommandLine<'_>,
 ) -> Result<Option<Result<HouseStep, HouseError>>, Ended> {
     match line.word(1) {
         Some("hear") => {
@@ -225,7 +225,7 @@ fn answered<D: Disk>(
 fn play_open<D: Disk, O: Write>(
     bench: &mut Bench<D>,
     desk: &mut Desk,
-    line: &Line<'_>,
+    line: &CommandLine<'_>,
     out: &mut O,
 ) -> Result<Played, Ended> {
     let is_planned = bench.is_planned;
@@ -265,7 +265,7 @@ fn play_open<D: Disk, O: Write>(
 pub fn play_house<D: Disk + Drop, O: Write>(
     bench: &mut Bench<D>,
     desk: &mut Desk,
-    line: &Line<'_>,
+    line: &CommandLine<'_>,
     out: &mut O,
 ) -> Result<Played, Ended> {
     match line.word(1) {

@@ -9,7 +9,7 @@ use crate::shown::write_bytes;
 use crate::store::{play_epoch, play_store};
 use disk::{Disk, FailOnce, FileDisk, MemDisk};
 use play_packets::{Mail, packet_number};
-use play_words::{Ended, Line, Played};
+use play_words::{CommandLine, Ended, Played};
 use std::alloc::Global;
 use std::fs::{File, OpenFile};
 use std::io::{self, ErrorKind, Write};
@@ -51,7 +51,7 @@ fn play_over<D: Disk + Drop, O: Write>(
     bench: &mut Bench<D>,
     desk: &mut Desk,
     on: On,
-    line: &Line<'_>,
+    line: &CommandLine<'_>,
     out: &mut O,
 ) -> Result<Played, Ended> {
     match on {
@@ -94,7 +94,7 @@ impl Houses {
     pub fn play<R: Env + Files<File = File> + AllocGlobal, O: Write>(
         &mut self,
         rt: &R,
-        line: &Line<'_>,
+        line: &CommandLine<'_>,
         out: &mut O,
     ) -> Result<Played, Ended> {
         let alloc = rt.alloc();
@@ -110,7 +110,7 @@ impl Houses {
     fn play_disk<O: Write>(
         &mut self,
         alloc: Global,
-        line: &Line<'_>,
+        line: &CommandLine<'_>,
         out: &mut O,
     ) -> Result<Played, Ended> {
         match line.word(1) {
@@ -125,7 +125,11 @@ impl Houses {
         }
     }
 
-    fn play_store<O: Write>(&mut self, line: &Line<'_>, out: &mut O) -> Result<Played, Ended> {
+    fn play_store<O: Write>(
+        &mut self,
+        line: &CommandLine<'_>,
+        out: &mut O,
+    ) -> Result<Played, Ended> {
         match line.word(1) {
             Some("epoch") => play_epoch(line, out),
             _ => self.play_on(On::Store, line, out),
@@ -135,7 +139,7 @@ impl Houses {
     fn play_house<O: Write>(
         &mut self,
         alloc: Global,
-        line: &Line<'_>,
+        line: &CommandLine<'_>,
         out: &mut O,
     ) -> Result<Played, Ended> {
         match line.word(1) {
@@ -153,7 +157,12 @@ impl Houses {
     }
 
     /// Plays a command on what there is over the disk.
-    fn play_on<O: Write>(&mut self, on: On, line: &Line<'_>, out: &mut O) -> Result<Played, Ended> {
+    fn play_on<O: Write>(
+        &mut self,
+        on: On,
+        line: &CommandLine<'_>,
+        out: &mut O,
+    ) -> Result<Played, Ended> {
         let desk = &mut self.desk;
         match &mut self.place {
             Place::Empty => Ok(Played::Malformed),
@@ -165,7 +174,7 @@ impl Houses {
     }
 
     /// A call of the bare disk in memory is chosen, which is to fail.
-    fn fails(&mut self, alloc: Global, line: &Line<'_>) -> Result<Played, Ended> {
+    fn fails(&mut self, alloc: Global, line: &CommandLine<'_>) -> Result<Played, Ended> {
         let Some((calls, bytes)) = plan_in(alloc, line)? else {
             return Ok(Played::Malformed);
         };
@@ -200,7 +209,7 @@ impl Houses {
     fn over_failing_file<O: Write>(
         &mut self,
         alloc: Global,
-        line: &Line<'_>,
+        line: &CommandLine<'_>,
         out: &mut O,
     ) -> Result<Played, Ended> {
         let Some(calls) = line.number(2) else {
@@ -213,11 +222,11 @@ impl Houses {
     }
 
     /// The bytes of the packet whose number the word at an index is.
-    fn numbered(&self, line: &Line<'_>, index: usize) -> Option<&[u8]> {
+    fn numbered(&self, line: &CommandLine<'_>, index: usize) -> Option<&[u8]> {
         self.desk.mail.at(packet_number(line.word(index)?)?)
     }
 
-    fn same<O: Write>(&self, line: &Line<'_>, out: &mut O) -> Result<Played, Ended> {
+    fn same<O: Write>(&self, line: &CommandLine<'_>, out: &mut O) -> Result<Played, Ended> {
         let (Some(one), Some(other)) = (self.numbered(line, 2), self.numbered(line, 3)) else {
             return Ok(Played::Malformed);
         };
@@ -229,7 +238,7 @@ impl Houses {
         Ok(Played::Answered)
     }
 
-    fn hex<O: Write>(&self, line: &Line<'_>, out: &mut O) -> Result<Played, Ended> {
+    fn hex<O: Write>(&self, line: &CommandLine<'_>, out: &mut O) -> Result<Played, Ended> {
         let Some(bytes) = self.numbered(line, 2) else {
             return Ok(Played::Malformed);
         };

@@ -1,7 +1,7 @@
 //! The job of the clearinghouses that are opened.
 
 use kind_check::{Checked, KindError, check};
-use play_words::{Ended, Line, Played};
+use play_words::{CommandLine, Ended, Played};
 use serial_meaning::Job;
 use std::alloc::{AllocError, Global};
 use std::io::Write;
@@ -38,7 +38,7 @@ fn accepted(alloc: Global, text: &str) -> Result<Checked, Unaccepted> {
     }
 }
 
-fn is_starved(refused: Unaccepted) -> bool {
+fn is_out_of_memory(refused: Unaccepted) -> bool {
     matches!(
         refused,
         Unaccepted::Text(ParseError::Memory) | Unaccepted::Kinds(KindError::Memory)
@@ -68,7 +68,7 @@ impl Setting {
     }
 
     /// The numbers of the input are set.
-    pub fn set_input(&mut self, alloc: Global, line: &Line<'_>) -> Result<Played, Ended> {
+    pub fn set_input(&mut self, alloc: Global, line: &CommandLine<'_>) -> Result<Played, Ended> {
         let mut input = Vec::new(alloc);
         for word in line.rest(2).split(' ') {
             match word.parse::<i64>() {
@@ -100,7 +100,7 @@ impl Setting {
                 Ok(checked) => return Ok(Some(checked)),
                 Err(refused) => {
                     writeln!(out, "> {refused}")?;
-                    if !is_starved(refused) {
+                    if !is_out_of_memory(refused) {
                         break;
                     }
                 }

@@ -1,9 +1,9 @@
 //! What stores and clearinghouses show, in words, and what words say of them.
 
-use checkpoint::Record;
+use checkpoint::CheckpointRecord;
 use ids::Outcome;
 use play_packets::write_outcome;
-use play_words::{Line, bytes_of_hex, write_hex};
+use play_words::{CommandLine, bytes_of_hex, write_hex};
 use std::alloc::{AllocError, Global};
 use std::io::{self, Write};
 
@@ -13,7 +13,7 @@ pub const MOST_SHOWN: usize = 1_000;
 /// The bytes that the words from an index on spell: pairs of hexadecimal digits, or `HEX times COUNT`.
 pub fn bytes_in(
     alloc: Global,
-    line: &Line<'_>,
+    line: &CommandLine<'_>,
     index: usize,
 ) -> Result<Option<Vec<u8>>, AllocError> {
     if line.word(index.saturating_add(1)) != Some("times") {
@@ -51,7 +51,11 @@ pub fn write_found<O: Write>(out: &mut O, outcome: Option<Outcome>) -> io::Resul
 }
 
 /// Writes a record, and its sequence.
-pub fn write_kept<O: Write>(out: &mut O, record: Record, sequence: u64) -> io::Result<()> {
+pub fn write_kept<O: Write>(
+    out: &mut O,
+    record: CheckpointRecord,
+    sequence: u64,
+) -> io::Result<()> {
     write!(
         out,
         "> record job={} epoch={} outcome=",
@@ -81,6 +85,6 @@ pub fn outcome_in(text: &str) -> Option<Option<Outcome>> {
 }
 
 /// The word at an index as a count of bytes.
-pub fn count_in(line: &Line<'_>, index: usize) -> Option<usize> {
+pub fn count_in(line: &CommandLine<'_>, index: usize) -> Option<usize> {
     line.word(index)?.parse::<usize>().ok()
 }

@@ -6,7 +6,7 @@ use crate::shown::{outcome_in, write_kept, write_kind};
 use checkpoint::{LastEpoch, Store, StoreError, commit_and_reopen, format};
 use disk::Disk;
 use ids::Outcome;
-use play_words::{Ended, Line, Played};
+use play_words::{CommandLine, Ended, Played};
 use std::alloc::Global;
 use std::io::Write;
 
@@ -55,7 +55,7 @@ fn opened<D: Disk + Drop, O: Write>(
 }
 
 /// The epoch and the outcome that the words of a command name.
-fn record_in(line: &Line<'_>) -> Option<(LastEpoch, Option<Outcome>)> {
+fn record_in(line: &CommandLine<'_>) -> Option<(LastEpoch, Option<Outcome>)> {
     let epoch = LastEpoch::of(line.number(2)?)?;
     Some((epoch, outcome_in(line.word(3)?)?))
 }
@@ -64,7 +64,7 @@ fn record_in(line: &Line<'_>) -> Option<(LastEpoch, Option<Outcome>)> {
 fn open<D: Disk + Drop, O: Write>(
     bench: &mut Bench<D>,
     alloc: Global,
-    line: &Line<'_>,
+    line: &CommandLine<'_>,
     out: &mut O,
 ) -> Result<Played, Ended> {
     let Some(job) = line.number(2) else {
@@ -87,7 +87,7 @@ fn open<D: Disk + Drop, O: Write>(
 fn reopen<D: Disk + Drop, O: Write>(
     bench: &mut Bench<D>,
     alloc: Global,
-    line: &Line<'_>,
+    line: &CommandLine<'_>,
     out: &mut O,
 ) -> Result<Played, Ended> {
     let Some((epoch, outcome)) = record_in(line) else {
@@ -124,7 +124,7 @@ fn close<D: Disk + Drop>(bench: &mut Bench<D>) -> Played {
 /// Makes the store of a job on a bare disk.
 fn make<D: Disk, O: Write>(
     bench: &mut Bench<D>,
-    line: &Line<'_>,
+    line: &CommandLine<'_>,
     out: &mut O,
 ) -> Result<Played, Ended> {
     let (Some(job), Some(Held::Bare(disk))) = (line.number(2), &mut bench.held) else {
@@ -138,7 +138,7 @@ fn make<D: Disk, O: Write>(
 fn play_open<D: Disk, O: Write>(
     bench: &mut Bench<D>,
     alloc: Global,
-    line: &Line<'_>,
+    line: &CommandLine<'_>,
     out: &mut O,
 ) -> Result<Played, Ended> {
     let (Some(verb), Some(Held::Store(store))) = (line.word(1), &mut bench.held) else {
@@ -170,7 +170,7 @@ fn play_open<D: Disk, O: Write>(
 pub fn play_store<D: Disk + Drop, O: Write>(
     bench: &mut Bench<D>,
     alloc: Global,
-    line: &Line<'_>,
+    line: &CommandLine<'_>,
     out: &mut O,
 ) -> Result<Played, Ended> {
     match line.word(1) {
@@ -183,7 +183,7 @@ pub fn play_store<D: Disk + Drop, O: Write>(
 }
 
 /// Writes whether a number is a last epoch, and which epoch is the next one.
-pub fn play_epoch<O: Write>(line: &Line<'_>, out: &mut O) -> Result<Played, Ended> {
+pub fn play_epoch<O: Write>(line: &CommandLine<'_>, out: &mut O) -> Result<Played, Ended> {
     let Some(number) = line.number(2) else {
         return Ok(Played::Malformed);
     };

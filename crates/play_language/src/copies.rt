@@ -2,7 +2,7 @@
 
 use codec::{Body, Offer, Packet};
 use play_packets::{read_packet, write_packet};
-use play_words::{Ended, Line, Played};
+use play_words::{CommandLine, Ended, Played};
 use std::alloc::{AllocError, Global};
 use std::io::{self, Write};
 
@@ -54,7 +54,11 @@ fn write_copy<O: Write>(packet: &Packet, out: &mut O) -> Result<Played, Ended> {
 }
 
 /// Plays a command on an Offer.
-pub fn play_copy<O: Write>(alloc: Global, line: &Line<'_>, out: &mut O) -> Result<Played, Ended> {
+pub fn play_copy<O: Write>(
+    alloc: Global,
+    line: &CommandLine<'_>,
+    out: &mut O,
+) -> Result<Played, Ended> {
     match read_packet(alloc, line, 1)? {
         Some(packet) => write_copy(&packet, out),
         None => Ok(Played::Malformed),

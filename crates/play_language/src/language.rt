@@ -9,7 +9,7 @@ use crate::stores::Stores;
 use crate::tree::write_program;
 use crate::written::bytes_of;
 use kind_check::Checked;
-use play_words::{Ended, Line, Played};
+use play_words::{CommandLine, Ended, Played};
 use serial_meaning::{Job, Outcome};
 use std::alloc::{AllocError, Global};
 use std::io::Write;
@@ -22,7 +22,11 @@ pub struct Language {
 }
 
 /// The numbers of the words from an index on; none where a word is no number.
-fn numbers(alloc: Global, line: &Line<'_>, from: usize) -> Result<Option<Vec<i64>>, AllocError> {
+fn numbers(
+    alloc: Global,
+    line: &CommandLine<'_>,
+    from: usize,
+) -> Result<Option<Vec<i64>>, AllocError> {
     let mut list = Vec::new(alloc);
     for word in line.rest(from).split(' ') {
         if word.is_empty() {
@@ -37,7 +41,7 @@ fn numbers(alloc: Global, line: &Line<'_>, from: usize) -> Result<Option<Vec<i64
 }
 
 /// The thread that the word behind a command's name numbers.
-fn thread(line: &Line<'_>) -> Option<u8> {
+fn thread(line: &CommandLine<'_>) -> Option<u8> {
     line.word(1)?.parse::<u8>().ok()
 }
 
@@ -53,7 +57,7 @@ impl Language {
     pub fn play<O: Write>(
         &mut self,
         alloc: Global,
-        line: &Line<'_>,
+        line: &CommandLine<'_>,
         out: &mut O,
     ) -> Result<Played, Ended> {
         let Some(name) = line.word(0) else {
@@ -90,7 +94,7 @@ impl Language {
         &mut self,
         alloc: Global,
         name: &str,
-        line: &Line<'_>,
+        line: &CommandLine<'_>,
         out: &mut O,
     ) -> Result<Played, Ended> {
         if line.word(1).is_some() && self.keeps(alloc, line.rest(1))? == Played::Malformed {
@@ -154,7 +158,12 @@ impl Language {
         Ok(())
     }
 
-    fn turn<O: Write>(&self, alloc: Global, line: &Line<'_>, out: &mut O) -> Result<Played, Ended> {
+    fn turn<O: Write>(
+        &self,
+        alloc: Global,
+        line: &CommandLine<'_>,
+        out: &mut O,
+    ) -> Result<Played, Ended> {
         match accepted(alloc, &self.text, out)? {
             Some(checked) => turn_of(alloc, &checked, line, out),
             None => Ok(Played::Answered),
@@ -164,7 +173,7 @@ impl Language {
     fn evaluate<O: Write>(
         &self,
         alloc: Global,
-        line: &Line<'_>,
+        line: &CommandLine<'_>,
         out: &mut O,
     ) -> Result<Played, Ended> {
         let (Some(turns), Some(input)) = (line.number(1), numbers(alloc, line, 2)?) else {
@@ -185,7 +194,7 @@ impl Language {
 fn turn_of<O: Write>(
     alloc: Global,
     checked: &Checked,
-    line: &Line<'_>,
+    line: &CommandLine<'_>,
     out: &mut O,
 ) -> Result<Played, Ended> {
     let (Some(thread), Some(numbers)) = (thread(line), numbers(alloc, line, 2)?) else {

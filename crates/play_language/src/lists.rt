@@ -2,7 +2,7 @@
 
 use ids::Listed;
 use play_packets::{Unread, numbers, write_numbers};
-use play_words::{Ended, Line, Played};
+use play_words::{CommandLine, Ended, Played};
 use std::alloc::{AllocError, Global};
 use std::io::Write;
 
@@ -45,7 +45,11 @@ fn write_list<O: Write>(
 }
 
 /// Plays a command on a list.
-pub fn play_list<O: Write>(alloc: Global, line: &Line<'_>, out: &mut O) -> Result<Played, Ended> {
+pub fn play_list<O: Write>(
+    alloc: Global,
+    line: &CommandLine<'_>,
+    out: &mut O,
+) -> Result<Played, Ended> {
     let (Some(text), Some(at), Some(item)) = (line.word(1), line.number(2), line.signed(3)) else {
         return Ok(Played::Malformed);
     };

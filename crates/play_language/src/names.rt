@@ -5,7 +5,7 @@ use ids::{
     PlaceError, Status,
 };
 use play_packets::{Unread, grant, steps, write_place};
-use play_words::{Ended, Line, Played};
+use play_words::{CommandLine, Ended, Played};
 use std::alloc::Global;
 use std::io::Write;
 
@@ -46,7 +46,7 @@ fn of_member(incarnation: Incarnation) -> (u64, Option<u64>) {
 }
 
 /// What the name of a kind tells that numbers make: a number, and for some kinds a second one; none where there is no such name.
-fn told(line: &Line<'_>) -> Option<(u64, Option<u64>)> {
+fn told(line: &CommandLine<'_>) -> Option<(u64, Option<u64>)> {
     let number = line.number(2)?;
     match line.word(1)? {
         "worker" => Some((Incarnation::worker(number)?.word(), None)),
@@ -73,7 +73,7 @@ fn told(line: &Line<'_>) -> Option<(u64, Option<u64>)> {
 }
 
 /// Plays a command on names.
-pub fn play_name<O: Write>(line: &Line<'_>, out: &mut O) -> Result<Played, Ended> {
+pub fn play_name<O: Write>(line: &CommandLine<'_>, out: &mut O) -> Result<Played, Ended> {
     match told(line) {
         Some((first, Some(second))) => writeln!(out, "> {first} {second}")?,
         Some((first, None)) => writeln!(out, "> {first}")?,
@@ -83,12 +83,12 @@ pub fn play_name<O: Write>(line: &Line<'_>, out: &mut O) -> Result<Played, Ended
 }
 
 /// Whether the first grant of a command stands before the second.
-fn is_before(line: &Line<'_>) -> Option<bool> {
+fn is_before(line: &CommandLine<'_>) -> Option<bool> {
     Some(grant(line.word(1)?)?.is_before(grant(line.word(2)?)?))
 }
 
 /// Plays a command on the order of grants.
-pub fn play_before<O: Write>(line: &Line<'_>, out: &mut O) -> Result<Played, Ended> {
+pub fn play_before<O: Write>(line: &CommandLine<'_>, out: &mut O) -> Result<Played, Ended> {
     let Some(is_before) = is_before(line) else {
         return Ok(Played::Malformed);
     };
@@ -134,7 +134,7 @@ fn write_below<O: Write>(
 fn write_asked<O: Write>(
     alloc: Global,
     place: &Place,
-    line: &Line<'_>,
+    line: &CommandLine<'_>,
     out: &mut O,
 ) -> Result<Played, Ended> {
     let number = match line.word(3) {
@@ -157,7 +157,11 @@ fn write_asked<O: Write>(
 }
 
 /// Plays a command on a place.
-pub fn play_place<O: Write>(alloc: Global, line: &Line<'_>, out: &mut O) -> Result<Played, Ended> {
+pub fn play_place<O: Write>(
+    alloc: Global,
+    line: &CommandLine<'_>,
+    out: &mut O,
+) -> Result<Played, Ended> {
     let Some(text) = line.word(2) else {
         return Ok(Played::Malformed);
     };

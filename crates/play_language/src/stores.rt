@@ -14,7 +14,7 @@ use bearers::play_heirs;
 use frames::Frames;
 use kept::play_frames;
 use level_deques::Posts;
-use play_words::{Ended, Line, Played};
+use play_words::{CommandLine, Ended, Played};
 use posts::play_posts;
 use records::play_records;
 use replies::play_replies;
@@ -48,7 +48,7 @@ impl Stores {
     pub fn play<O: Write>(
         &mut self,
         alloc: Global,
-        line: &Line<'_>,
+        line: &CommandLine<'_>,
         out: &mut O,
     ) -> Result<Played, Ended> {
         match line.word(0) {

@@ -1,7 +1,7 @@
 //! The job of the nodes that start.
 
 use kind_check::{Checked, KindError, check};
-use play_words::{Ended, Line, Played};
+use play_words::{CommandLine, Ended, Played};
 use serial_meaning::Job;
 use std::alloc::{AllocError, Global};
 use std::io::Write;
@@ -38,7 +38,7 @@ fn accepted(alloc: Global, text: &str) -> Result<Checked, Unaccepted> {
     }
 }
 
-fn is_starved(refused: Unaccepted) -> bool {
+fn is_out_of_memory(refused: Unaccepted) -> bool {
     matches!(
         refused,
         Unaccepted::Text(ParseError::Memory) | Unaccepted::Kinds(KindError::Memory)
@@ -59,12 +59,12 @@ impl Setting {
     pub fn program<O: Write>(
         &mut self,
         alloc: Global,
-        line: &Line<'_>,
+        line: &CommandLine<'_>,
         out: &mut O,
     ) -> Result<Played, Ended> {
         let mut read = accepted(alloc, line.rest(1));
         if let Err(refused) = read
-            && is_starved(refused)
+            && is_out_of_memory(refused)
         {
             writeln!(out, "> {refused}")?;
             read = accepted(alloc, line.rest(1));
@@ -79,7 +79,7 @@ impl Setting {
     }
 
     /// The numbers of the input are set, behind the program.
-    pub fn input(&mut self, alloc: Global, line: &Line<'_>) -> Result<Played, Ended> {
+    pub fn input(&mut self, alloc: Global, line: &CommandLine<'_>) -> Result<Played, Ended> {
         if self.job.is_some() {
             return Ok(Played::Malformed);
         }
@@ -95,7 +95,7 @@ impl Setting {
     }
 
     /// The number of the job is set, behind the program.
-    pub fn number(&mut self, line: &Line<'_>) -> Played {
+    pub fn number(&mut self, line: &CommandLine<'_>) -> Played {
         match line.number(1) {
             Some(number) if self.job.is_none() => {
                 self.number = number;

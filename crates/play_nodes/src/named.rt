@@ -2,7 +2,7 @@
 
 use crate::player::{Call, FrameName, FrameOf, Turn};
 use play_packets::{Unread, actor, frame_number, grant, numbers, word64};
-use play_words::Line;
+use play_words::CommandLine;
 use std::alloc::Global;
 
 /// Who minted a grant, as a number: a worker's, or that of the clearinghouse in an epoch.
@@ -14,7 +14,7 @@ fn minter(text: &str) -> Option<u64> {
 }
 
 /// The frame that the words `GRANT FRAME` from an index on name.
-fn frame_name(line: &Line<'_>, index: usize) -> Option<FrameName> {
+fn frame_name(line: &CommandLine<'_>, index: usize) -> Option<FrameName> {
     let (first, number) = line.word(index)?.split_once('/')?;
     Some(FrameName {
         minter: minter(first)?,
@@ -24,7 +24,7 @@ fn frame_name(line: &Line<'_>, index: usize) -> Option<FrameName> {
 }
 
 /// The same where the words name a grant and a frame.
-fn frame_of(line: &Line<'_>, index: usize) -> Option<FrameOf> {
+fn frame_of(line: &CommandLine<'_>, index: usize) -> Option<FrameOf> {
     Some(FrameOf {
         grant: grant(line.word(index)?)?,
         frame: frame_number(line.word(index.checked_add(1)?)?)?,
@@ -32,7 +32,7 @@ fn frame_of(line: &Line<'_>, index: usize) -> Option<FrameOf> {
 }
 
 /// The turn that the words `thread=T on=NUMBERS` from an index on name.
-fn turn(alloc: Global, line: &Line<'_>, index: usize) -> Result<Turn, Unread> {
+fn turn(alloc: Global, line: &CommandLine<'_>, index: usize) -> Result<Turn, Unread> {
     let behind = index.checked_add(1).ok_or(Unread::Malformed)?;
     let first = line.word(index).ok_or(Unread::Malformed)?;
     let second = line.word(behind).ok_or(Unread::Malformed)?;
@@ -45,7 +45,7 @@ fn turn(alloc: Global, line: &Line<'_>, index: usize) -> Result<Turn, Unread> {
 }
 
 /// The call that the words `GRANT FRAME ..` of a command `exec W` name.
-pub fn exec<'a>(alloc: Global, line: &Line<'_>) -> Result<Call<'a>, Unread> {
+pub fn exec<'a>(alloc: Global, line: &CommandLine<'_>) -> Result<Call<'a>, Unread> {
     let name = frame_name(line, 2).ok_or(Unread::Malformed)?;
     match line.word(4) {
         None => Ok(Call::Exec(name)),
@@ -58,7 +58,7 @@ pub fn exec<'a>(alloc: Global, line: &Line<'_>) -> Result<Call<'a>, Unread> {
 }
 
 /// The call that the word of a command `ask W` names.
-pub fn ask<'a>(line: &Line<'_>) -> Option<Call<'a>> {
+pub fn ask<'a>(line: &CommandLine<'_>) -> Option<Call<'a>> {
     match line.word(2)? {
         "house" => Some(Call::AskHouse),
         word => Some(Call::Ask(word64(word)?)),
@@ -66,6 +66,6 @@ pub fn ask<'a>(line: &Line<'_>) -> Option<Call<'a>> {
 }
 
 /// The call that the word of a command `depart W` names.
-pub fn depart<'a>(line: &Line<'_>) -> Option<Call<'a>> {
+pub fn depart<'a>(line: &CommandLine<'_>) -> Option<Call<'a>> {
     Some(Call::Depart(line.number(2)?))
 }

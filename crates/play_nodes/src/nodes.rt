@@ -8,7 +8,7 @@ use codec::{Datagram, EncodeError, Packet, ReadError, decode};
 use ids::Incarnation;
 use node_core::Step;
 use play_packets::{Mail, Unread, packet_number, read_packet, wanted_in, write_packet};
-use play_words::{Ended, Line, Played, bytes_of_hex, write_hex};
+use play_words::{CommandLine, Ended, Played, bytes_of_hex, write_hex};
 use serial_meaning::Job;
 use std::alloc::{AllocError, Global};
 use std::io::Write;
@@ -131,7 +131,7 @@ fn changed(
 /// The other byte that the words `with AT HEX` from an index on name; none inside where the words end there.
 fn other_byte(
     alloc: Global,
-    line: &Line<'_>,
+    line: &CommandLine<'_>,
     index: usize,
 ) -> Result<Option<Option<(usize, u8)>>, AllocError> {
     match line.word(index) {
@@ -169,7 +169,7 @@ impl Nodes {
     pub fn play<O: Write>(
         &mut self,
         alloc: Global,
-        line: &Line<'_>,
+        line: &CommandLine<'_>,
         out: &mut O,
     ) -> Result<Played, Ended> {
         let Some(name) = line.word(0) else {
@@ -195,7 +195,7 @@ impl Nodes {
         &mut self,
         alloc: Global,
         name: &str,
-        line: &Line<'_>,
+        line: &CommandLine<'_>,
         out: &mut O,
     ) -> Result<Played, Ended> {
         let Some(word) = line.number(1) else {
@@ -309,7 +309,7 @@ impl Nodes {
             return Ok(Played::Malformed);
         };
         let mut answer = player.calls(alloc, &call);
-        if answer.is_starved() {
+        if answer.is_out_of_memory() {
             writeln!(out, "> E63")?;
             answer = player.calls(alloc, &call);
         }
@@ -326,7 +326,7 @@ impl Nodes {
         &mut self,
         alloc: Global,
         word: u64,
-        line: &Line<'_>,
+        line: &CommandLine<'_>,
         out: &mut O,
     ) -> Result<Played, Ended> {
         match exec(alloc, line) {
@@ -341,7 +341,7 @@ impl Nodes {
         &mut self,
         alloc: Global,
         to: u64,
-        line: &Line<'_>,
+        line: &CommandLine<'_>,
         out: &mut O,
     ) -> Result<Option<Vec<u8>>, Ended> {
         let Some(first) = line.word(2) else {
@@ -364,7 +364,7 @@ impl Nodes {
     fn bytes_made<O: Write>(
         &mut self,
         alloc: Global,
-        line: &Line<'_>,
+        line: &CommandLine<'_>,
         out: &mut O,
     ) -> Result<Option<Vec<u8>>, Ended> {
         let Some(packet) = read_packet(alloc, line, 2)? else {
@@ -381,7 +381,7 @@ impl Nodes {
         &self,
         alloc: Global,
         to: u64,
-        line: &Line<'_>,
+        line: &CommandLine<'_>,
     ) -> Result<Option<Vec<u8>>, Ended> {
         let (found, behind) = match line.word(2).and_then(packet_number) {
             Some(number) => (self.mail.at(number), 3),
@@ -400,7 +400,7 @@ impl Nodes {
         &mut self,
         alloc: Global,
         word: u64,
-        line: &Line<'_>,
+        line: &CommandLine<'_>,
         out: &mut O,
     ) -> Result<Played, Ended> {
         match self.bytes_given(alloc, word, line, out)? {
@@ -412,7 +412,7 @@ impl Nodes {
     fn make<O: Write>(
         &mut self,
         alloc: Global,
-        line: &Line<'_>,
+        line: &CommandLine<'_>,
         out: &mut O,
     ) -> Result<Played, Ended> {
         let Some(packet) = read_packet(alloc, line, 1)? else {
@@ -426,11 +426,11 @@ impl Nodes {
     }
 
     /// The bytes of the packet whose number the word at an index is.
-    fn numbered(&self, line: &Line<'_>, index: usize) -> Option<&[u8]> {
+    fn numbered(&self, line: &CommandLine<'_>, index: usize) -> Option<&[u8]> {
         self.mail.at(packet_number(line.word(index)?)?)
     }
 
-    fn same<O: Write>(&self, line: &Line<'_>, out: &mut O) -> Result<Played, Ended> {
+    fn same<O: Write>(&self, line: &CommandLine<'_>, out: &mut O) -> Result<Played, Ended> {
         let (Some(one), Some(other)) = (self.numbered(line, 1), self.numbered(line, 2)) else {
             return Ok(Played::Malformed);
         };
@@ -442,7 +442,7 @@ impl Nodes {
         Ok(Played::Answered)
     }
 
-    fn hex<O: Write>(&self, line: &Line<'_>, out: &mut O) -> Result<Played, Ended> {
+    fn hex<O: Write>(&self, line: &CommandLine<'_>, out: &mut O) -> Result<Played, Ended> {
         let Some(bytes) = self.numbered(line, 1) else {
             return Ok(Played::Malformed);
         };

@@ -81,7 +81,7 @@ fn answer_of(answered: Result<Step, NodeError>) -> Answer {
 
 impl Answer {
     /// Whether there was no memory.
-    pub fn is_starved(&self) -> bool {
+    pub fn is_out_of_memory(&self) -> bool {
         matches!(self, Answer::Refused(NodeError::Memory))
     }
 }

@@ -1,7 +1,7 @@
 //! The packets that were sent.
 
 use codec::{Body, Datagram, Packet};
-use play_words::Line;
+use play_words::CommandLine;
 use std::alloc::{AllocError, Global};
 
 /// A packet that a worker sent, or that was made by hand, which is of nobody.
@@ -103,7 +103,7 @@ pub fn packet_number(word: &str) -> Option<u64> {
 }
 
 /// The packets that words from an index on want, of those to somebody, and the index behind these words.
-pub fn wanted_in<'a>(line: &Line<'a>, from: usize, to: u64) -> Option<(Wanted<'a>, usize)> {
+pub fn wanted_in<'a>(line: &CommandLine<'a>, from: usize, to: u64) -> Option<(Wanted<'a>, usize)> {
     let first = line.word(from)?;
     let is_first = first == "first";
     let at = if is_first { from.checked_add(1)? } else { from };

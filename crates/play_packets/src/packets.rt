@@ -3,7 +3,7 @@
 use crate::calls::{read, read_back, spelled, written};
 use crate::words::{Unread, packet_in, write_packet};
 use codec::{Fault, Packet, ReadError, decode};
-use play_words::{Ended, Line, Played, bytes_of_hex, write_hex};
+use play_words::{CommandLine, Ended, Played, bytes_of_hex, write_hex};
 use std::alloc::{AllocError, Global};
 use std::io::Write;
 
@@ -59,7 +59,7 @@ fn fault<O: Write>(alloc: Global, bytes: &[u8], out: &mut O) -> Result<Option<Fa
 }
 
 /// Bytes are read so often.
-fn decodes<O: Write>(alloc: Global, line: &Line<'_>, out: &mut O) -> Result<Played, Ended> {
+fn decodes<O: Write>(alloc: Global, line: &CommandLine<'_>, out: &mut O) -> Result<Played, Ended> {
     let (Some(times), Some(bytes)) = (line.number(1), bytes_of_hex(alloc, line.rest(2))?) else {
         return Ok(Played::Malformed);
     };
@@ -73,7 +73,7 @@ fn decodes<O: Write>(alloc: Global, line: &Line<'_>, out: &mut O) -> Result<Play
 }
 
 /// The packet of bytes is written so often.
-fn encodes<O: Write>(alloc: Global, line: &Line<'_>, out: &mut O) -> Result<Played, Ended> {
+fn encodes<O: Write>(alloc: Global, line: &CommandLine<'_>, out: &mut O) -> Result<Played, Ended> {
     let (Some(times), Some(bytes)) = (line.number(1), bytes_of_hex(alloc, line.rest(2))?) else {
         return Ok(Played::Malformed);
     };
@@ -100,7 +100,7 @@ impl Packets {
     pub fn play<O: Write>(
         &mut self,
         alloc: Global,
-        line: &Line<'_>,
+        line: &CommandLine<'_>,
         out: &mut O,
     ) -> Result<Played, Ended> {
         let Some(name) = line.word(0) else {
@@ -123,7 +123,7 @@ impl Packets {
     fn encode<O: Write>(
         &mut self,
         alloc: Global,
-        line: &Line<'_>,
+        line: &CommandLine<'_>,
         out: &mut O,
     ) -> Result<Played, Ended> {
         match packet_in(alloc, line, 1) {
@@ -162,7 +162,7 @@ impl Packets {
     fn decode<O: Write>(
         &mut self,
         alloc: Global,
-        line: &Line<'_>,
+        line: &CommandLine<'_>,
         out: &mut O,
     ) -> Result<Played, Ended> {
         let Some(bytes) = bytes_of_hex(alloc, line.rest(1))? else {
@@ -178,7 +178,12 @@ impl Packets {
     }
 
     /// The kept bytes with others from an index on.
-    fn with<O: Write>(&self, alloc: Global, line: &Line<'_>, out: &mut O) -> Result<Played, Ended> {
+    fn with<O: Write>(
+        &self,
+        alloc: Global,
+        line: &CommandLine<'_>,
+        out: &mut O,
+    ) -> Result<Played, Ended> {
         let Some(at) = line.number(1).and_then(|at| usize::try_from(at).ok()) else {
             return Ok(Played::Malformed);
         };
@@ -197,7 +202,7 @@ impl Packets {
     fn front<O: Write>(
         &self,
         alloc: Global,
-        line: &Line<'_>,
+        line: &CommandLine<'_>,
         out: &mut O,
     ) -> Result<Played, Ended> {
         let Some(count) = line.number(1).and_then(|count| usize::try_from(count).ok()) else {
@@ -217,7 +222,7 @@ impl Packets {
     }
 
     /// So many of the kept bytes from an index on.
-    fn part<O: Write>(&self, line: &Line<'_>, out: &mut O) -> Result<Played, Ended> {
+    fn part<O: Write>(&self, line: &CommandLine<'_>, out: &mut O) -> Result<Played, Ended> {
         let (Some(at), Some(count)) = (line.number(1), line.number(2)) else {
             return Ok(Played::Malformed);
         };

@@ -1,7 +1,7 @@
 //! Scripts of events.
 
 use event_script::{Event, Script, line};
-use play_words::{Ended, Line, Played, bytes_of_hex};
+use play_words::{CommandLine, Ended, Played, bytes_of_hex};
 use std::alloc::{AllocError, Global};
 use std::io::Write;
 
@@ -90,7 +90,7 @@ impl Scripts {
     pub fn play<O: Write>(
         &mut self,
         alloc: Global,
-        line: &Line<'_>,
+        line: &CommandLine<'_>,
         out: &mut O,
     ) -> Result<Played, Ended> {
         match line.word(0) {

@@ -7,4 +7,4 @@ mod line;
 
 pub use ended::{Ended, Played};
 pub use hex::{bytes_of_hex, write_hex};
-pub use line::Line;
+pub use line::CommandLine;

@@ -1,12 +1,12 @@
 /// A command line of a transcript, taken apart into its words, parted by single blanks.
 #[derive(Clone, Copy)]
-pub struct Line<'a> {
+pub struct CommandLine<'a> {
     text: &'a str,
 }
 
-impl<'a> Line<'a> {
-    pub fn of(text: &'a str) -> Line<'a> {
-        Line { text }
+impl<'a> CommandLine<'a> {
+    pub fn of(text: &'a str) -> CommandLine<'a> {
+        CommandLine { text }
     }
 
     /// The text from a word on, counted from 0; none where there are fewer words.

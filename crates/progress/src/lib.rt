@@ -20,16 +20,16 @@ const NAP: u64 = 10;
 
 /// What a run has come to so far. Its own threads note it, and another one tells it.
 #[derive(Drop)]
-pub struct Progress {
+pub struct RunProgress {
     events: AtomicU64,
     packets: AtomicU64,
     ended: AtomicU64,
 }
 
-impl Progress {
+impl RunProgress {
     /// That of a run which begins.
-    pub fn new() -> Progress {
-        Progress {
+    pub fn new() -> RunProgress {
+        RunProgress {
             events: AtomicU64::new(0),
             packets: AtomicU64::new(0),
             ended: AtomicU64::new(0),
@@ -77,7 +77,7 @@ fn millis_since<R: Clock>(rt: &R, began: &Instant) -> u64 {
 
 /// Tells how far a run has come until it ends: nothing in its first two seconds, and then twice a second in one line, which is written anew each
 /// time and taken away at the end. Where the clock fails nothing is told, and behind a line that can't be written nothing more.
-pub fn tell<R: Clock, E: Write>(rt: &R, err: &mut E, progress: &Progress) {
+pub fn tell<R: Clock, E: Write>(rt: &R, err: &mut E, progress: &RunProgress) {
     let Ok(began) = Instant::now(rt) else {
         return;
     };

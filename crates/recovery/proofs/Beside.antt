@@ -16,14 +16,14 @@ use Rattle.sub_rules.specs.declared.content.Content.{Content}
 use Rattle.sub_rules.specs.Changes.{frame_of, readied, redone, with_parent, with_thief}
 use Rattle.sub_rules.proofs.Sums.{all_put}
 use Rattle.subcomputation.specs.Subs.{SubOf, has_record, host_in, name_of_sub, put_sub, sub_in, with_content, without_sub}
-use Rattle.subcomputation.specs.declared.sub.ReadyIn.{ReadyIn}
+use Rattle.subcomputation.specs.declared.sub.ReadiedOf.{ReadiedOf}
 use Rattle.subcomputation.specs.Recovering.{Recovery, for_each, for_some, ordered, record_grants, record_settled, recovered, settle_record, settle_sub, sub_settled, their_records, ◌then◌}
 use Rattle.subcomputation.proofs.Others.{equal_to_itself, put_goes}
 use Rattle.recovery.specs.Told.{AreForeign, AreWhole, beside}
 use Rattle.recovery.proofs.NamedLists.{find_put, put_again}
 
 -- a part of a recovery
-abbrev part : List SubOf → List Record → List ReadyIn → Recovery
+abbrev part : List SubOf → List Record → List ReadiedOf → Recovery
 part subs stopped again = record { subs = subs; stopped = stopped; again = again }
 
 -- one alone, and among others
@@ -50,14 +50,14 @@ without_alone s = ap (λ r. cond (not (is_eq r)) (s ∷ []) []) (equal_to_itself
 record Agrees (subs : List SubOf) (one others : Recovery) : Type 0 where
   pub left : SubOf
   pub stopped : List Record
-  pub again : List ReadyIn
+  pub again : List ReadiedOf
   pub alone : one ≡ part (left ∷ []) stopped again
   pub among : others ≡ part (put_sub left subs) stopped again
 
 -- a record of it is closed, or has another holder
 record_agrees : (s : SubOf) (subs : List SubOf) (r : Record) (holder : Option ℕ) → Agrees subs (record_settled s r holder (s ∷ [])) (record_settled s r holder (put_sub s subs))
 record_agrees s subs r None =
-    let told : List ReadyIn = record { grant = s.grant; frame = readied (frame_of r) } ∷ [] in
+    let told : List ReadiedOf = record { grant = s.grant; frame = readied (frame_of r) } ∷ [] in
     record {
       left = with_content s (redone r s.content);
       stopped = r ∷ [];

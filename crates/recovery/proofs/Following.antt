@@ -15,8 +15,8 @@ use Rattle.sub_rules.specs.declared.change.Readied.{Readied}
 use Rattle.sub_rules.specs.declared.content.Content.{Content}
 use Rattle.sub_rules.specs.Changes.{frame_of, readied, redone, with_parent, with_thief}
 use Rattle.sub_rules.proofs.Sums.{all_filtered, all_found, all_put, found_name}
-use Rattle.subcomputation.specs.Subs.{SubOf, grants_of, has_record, host_in, name_of_sub, put_sub, sub_in, with_content, without_sub}
-use Rattle.subcomputation.specs.declared.sub.ReadyIn.{ReadyIn}
+use Rattle.subcomputation.specs.Subs.{SubOf, grants_of_subs, has_record, host_in, name_of_sub, put_sub, sub_in, with_content, without_sub}
+use Rattle.subcomputation.specs.declared.sub.ReadiedOf.{ReadiedOf}
 use Rattle.subcomputation.specs.Recovering.{Recovery, for_each, for_some, record_settled, recovered, settle_record, settle_sub, sub_settled, their_records}
 use Rattle.subcomputation.proofs.Others.{found_by, put_other}
 use Rattle.recovery.specs.Told.{AreWhole, IsLeft, IsWhole, same_grant, told_of}
@@ -24,13 +24,13 @@ use Rattle.recovery.proofs.NamedLists.{left_was, put_order, same_name, told_apar
 use Rattle.recovery.proofs.Growing.{Grows, grows_on, parent_grows, parent_whole, redone_grows, redone_whole, stays, tells, thief_grows, thief_whole}
 
 -- a subcomputation was there, and grew by what is told of its grant
-pub record Was (g : Grant) (before : List SubOf) (s : SubOf) (again : List ReadyIn) : Type 0 where
+pub record Was (g : Grant) (before : List SubOf) (s : SubOf) (again : List ReadiedOf) : Type 0 where
   pub was : SubOf
   pub there : sub_in g before ≡ Some was
   pub grows : Grows was.content s.content (told_of g again)
 
 -- so did all that are left
-pub record Follows (before after : List SubOf) (again : List ReadyIn) : Type 0 where
+pub record Follows (before after : List SubOf) (again : List ReadiedOf) : Type 0 where
   pub whole : AreWhole after
   pub each : (g : Grant) (s : SubOf) → sub_in g after ≡ Some s → Was g before s again
 
@@ -39,7 +39,7 @@ nothing_follows : (subs : List SubOf) → AreWhole subs → Follows subs subs []
 nothing_follows subs whole = record { whole = whole; each = λ g s there. record { was = s; there = there; grows = stays s.content } }
 
 -- what is told by one and then by another
-told_on : (g : Grant) (told again : List ReadyIn) → told_of g (told ++ again) ≡ told_of g told ++ told_of g again
+told_on : (g : Grant) (told again : List ReadiedOf) → told_of g (told ++ again) ≡ told_of g told ++ told_of g again
 told_on g [] again = refl
 told_on g (r ∷ rs) again = by_test (told_on g rs again) (same_grant r.grant g)
   where
@@ -48,7 +48,7 @@ told_on g (r ∷ rs) again = by_test (told_on g rs again) (same_grant r.grant g)
     by_test rest false = rest
 
 -- a part after another
-follows_on : (a b c : List SubOf) (told again : List ReadyIn) → Follows a b told → Follows b c again → Follows a c (told ++ again)
+follows_on : (a b c : List SubOf) (told again : List ReadiedOf) → Follows a b told → Follows b c again → Follows a c (told ++ again)
 follows_on a b c told again first second = record {
   whole = second.whole;
   each = λ g s there. (
@@ -102,7 +102,7 @@ without_follows g subs whole = record {
 }
 
 -- one has another content
-module _ (s : SubOf) (c : Content) (subs : List SubOf) (again : List ReadyIn) (there : sub_in s.grant subs ≡ Some s) (grows : Grows s.content c (told_of s.grant again)) (others : (g : Grant) → (g ≡ s.grant → ⊥) → told_of g again ≡ []) where
+module _ (s : SubOf) (c : Content) (subs : List SubOf) (again : List ReadiedOf) (there : sub_in s.grant subs ≡ Some s) (grows : Grows s.content c (told_of s.grant again)) (others : (g : Grant) → (g ≡ s.grant → ⊥) → told_of g again ≡ []) where
   -- what is found afterwards was there
   put_was : (g : Grant) (t : SubOf) → sub_in g (put_sub (with_content s c) subs) ≡ Some t → Was g subs t again
   put_was g t found = elim (told_apart (name_of_grant g) (name_of_grant s.grant)) [
@@ -195,15 +195,15 @@ recovered_follows members grants subs whole =
     follows_on subs left last.subs (for_each (settle_sub members) grants subs).again last.again first (each_keeps (settle_record members) (settle_record_keeps members) (their_records grants left) left first.whole)
 
 -- of what is left is told what became ready in it
-pub recovered_left : (members : List Member) (subs : List SubOf) → AreWhole subs → (g : Grant) (s : SubOf) → sub_in g (recovered members (grants_of subs) subs).subs ≡ Some s → IsLeft g subs s (recovered members (grants_of subs) subs).again
+pub recovered_left : (members : List Member) (subs : List SubOf) → AreWhole subs → (g : Grant) (s : SubOf) → sub_in g (recovered members (grants_of_subs subs) subs).subs ≡ Some s → IsLeft g subs s (recovered members (grants_of_subs subs) subs).again
 recovered_left members subs whole g s there =
-    let follows = recovered_follows members (grants_of subs) subs whole in
+    let follows = recovered_follows members (grants_of_subs subs) subs whole in
     let was = follows.each g s there in
-    let here = found_whole g s (recovered members (grants_of subs) subs).subs follows.whole there in
+    let here = found_whole g s (recovered members (grants_of_subs subs) subs).subs follows.whole there in
     record {
       was = was.was;
       there = was.there;
-      ready = tells was.was.content s.content (told_of g (recovered members (grants_of subs) subs).again) here.frames was.grows;
+      ready = tells was.was.content s.content (told_of g (recovered members (grants_of_subs subs) subs).again) here.frames was.grows;
       records = was.grows.records;
       fits = was.grows.fits;
     }

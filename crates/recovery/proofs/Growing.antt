@@ -15,7 +15,7 @@ use Rattle.sub_rules.specs.declared.change.Readied.{Readied}
 use Rattle.sub_rules.specs.declared.content.Content.{Content}
 use Rattle.sub_rules.specs.Content.{Ready, ready_in}
 use Rattle.sub_rules.specs.Changes.{frame_of, readied, readied_in, redone, with_parent, with_thief}
-use Rattle.sub_rules.specs.Readiness.{TellsReady, is_readied, times}
+use Rattle.sub_rules.specs.Readiness.{TellsReady, is_readied, times_listed}
 use Rattle.sub_rules.proofs.Sums.{all_filtered, all_found, all_put, found_name, sum_put_new}
 use Rattle.sub_rules.proofs.Slots.{none_missing}
 use Rattle.sub_rules.proofs.Numbers.{absent}
@@ -33,7 +33,7 @@ use Rattle.recovery.proofs.NamedLists.{put_order, told_apart, without_order}
 
 -- ready frames stay or are told, records stay or go, and what fitted fits
 pub record Grows (before after : Content) (told : List Readied) : Type 0 where
-  pub adds : (r : Readied) → times r (readied_in after.frames) ≡ times r told + times r (readied_in before.frames)
+  pub adds : (r : Readied) → times_listed r (readied_in after.frames) ≡ times_listed r told + times_listed r (readied_in before.frames)
   pub records : HasNoOthers before.records after.records
   pub fits : (p : Program) → Fits p before → Fits p after
 
@@ -56,7 +56,7 @@ tells before after told order grows = record {
   unready = λ r none. (let sums = grows.adds r in let nothing = listed_none after r order none in omega arith);
 }
   where
-    by_ready : (r : Readied) (o : Option Ready) → ready_in r.frame after ≡ o → times r (readied_in after.frames) ≡ cond (is_some o) (times r told + times r (readied_in before.frames)) 0
+    by_ready : (r : Readied) (o : Option Ready) → ready_in r.frame after ≡ o → times_listed r (readied_in after.frames) ≡ cond (is_some o) (times_listed r told + times_listed r (readied_in before.frames)) 0
     by_ready r None none = listed_none after r order none
     by_ready r (Some x) there = grows.adds r
 

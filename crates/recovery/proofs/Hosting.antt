@@ -15,7 +15,7 @@ use Rattle.ids.specs.Ordered.{AreInOrder}
 use Rattle.ids.specs.declared.member.Member.{Member}
 use Rattle.ids.specs.declared.work.Record.{Record}
 use Rattle.victim_records.specs.Records.{record_in}
-use Rattle.subcomputation.specs.Subs.{SubOf, grants_of, has_record, host_in, name_of_sub, sub_in}
+use Rattle.subcomputation.specs.Subs.{SubOf, grants_of_subs, has_record, host_in, name_of_sub, sub_in}
 use Rattle.subcomputation.specs.Recovering.{for_each, ordered, record_grants, settle_sub, their_records}
 use Rattle.subcomputation.proofs.Others.{equal_to_itself, put_other}
 use Rattle.ids.proofs.Replacing.{put_is_found}
@@ -219,7 +219,7 @@ flat_twice f h (x ∷ xs) =
     ∙ sym (flat_map-cons (λ y. flat_map f (h y)) x xs)
 
 -- the records by the grants of all are the records of those that are left
-all_records : (members : List Member) (subs left : List SubOf) → AreInOrder name_of_sub subs → left ≡ flat_map (left_by members) subs → flat_map (λ g. record_grants (sub_in g left)) (grants_of subs) ≡ flat_map grants_in left
+all_records : (members : List Member) (subs left : List SubOf) → AreInOrder name_of_sub subs → left ≡ flat_map (left_by members) subs → flat_map (λ g. record_grants (sub_in g left)) (grants_of_subs subs) ≡ flat_map grants_in left
 all_records members subs left order is =
     flat_map-map (λ g. record_grants (sub_in g left)) (λ (s : SubOf). s.grant) subs
     ∙ ap (λ xs. flat_map (λ (s : SubOf). record_grants (sub_in s.grant xs)) subs) is
@@ -236,12 +236,12 @@ hosts_in_order hosts order = subst (λ ns. IsStrictlySortedBy name_cmp ns) (map_
     map_twice (x ∷ xs) = ap (λ ns. name_of_hosted x ∷ ns) (map_twice xs)
 
 -- the hosts are those of all records
-pub hosts_are_all : (members : List Member) (subs : List SubOf) (hosts : List Hosted) → AreInOrder name_of_sub subs → AreInOrder name_of_hosted hosts → AreInOrder name_of_grant [] → IsListing members subs [] hosts → map (λ (h : Hosted). h.grant) hosts ≡ their_records (grants_of subs) (for_each (settle_sub members) (grants_of subs) subs).subs
+pub hosts_are_all : (members : List Member) (subs : List SubOf) (hosts : List Hosted) → AreInOrder name_of_sub subs → AreInOrder name_of_hosted hosts → AreInOrder name_of_grant [] → IsListing members subs [] hosts → map (λ (h : Hosted). h.grant) hosts ≡ their_records (grants_of_subs subs) (for_each (settle_sub members) (grants_of_subs subs) subs).subs
 hosts_are_all members subs hosts order sorted none listing =
-    let left : List SubOf = (for_each (settle_sub members) (grants_of subs) subs).subs in
+    let left : List SubOf = (for_each (settle_sub members) (grants_of_subs subs) subs).subs in
     let is : IsLeft members [] subs left = left_of_all members subs order in
-    let all : flat_map (λ g. record_grants (sub_in g left)) (grants_of subs) ≡ flat_map grants_in left = all_records members subs left order is.list in
-    let grants : List Grant = flat_map (λ g. record_grants (sub_in g left)) (grants_of subs) in
+    let all : flat_map (λ g. record_grants (sub_in g left)) (grants_of_subs subs) ≡ flat_map grants_in left = all_records members subs left order is.list in
+    let grants : List Grant = flat_map (λ g. record_grants (sub_in g left)) (grants_of_subs subs) in
     same_items name_of_grant (map (λ (h : Hosted). h.grant) hosts) (ordered grants) (hosts_in_order hosts sorted) (ordered_order grants none)
     (λ n.
     let g : Grant = record { minter = n.0; number = n.1 } in
@@ -260,9 +260,9 @@ abbrev pub IsHosted : List SubOf → Hosted → Type 0
 IsHosted left h = option_map (λ (s : SubOf). s.grant) (host_in h.grant left) ≡ Some h.host
 
 -- each of them has its record
-pub hosts_host : (members : List Member) (subs : List SubOf) (hosts : List Hosted) → AreInOrder name_of_sub subs → AreInOrder name_of_hosted hosts → IsListing members subs [] hosts → AllByRecursion (IsHosted (for_each (settle_sub members) (grants_of subs) subs).subs) hosts
+pub hosts_host : (members : List Member) (subs : List SubOf) (hosts : List Hosted) → AreInOrder name_of_sub subs → AreInOrder name_of_hosted hosts → IsListing members subs [] hosts → AllByRecursion (IsHosted (for_each (settle_sub members) (grants_of_subs subs) subs).subs) hosts
 hosts_host members subs hosts order sorted listing =
-    let left : List SubOf = (for_each (settle_sub members) (grants_of subs) subs).subs in
+    let left : List SubOf = (for_each (settle_sub members) (grants_of_subs subs) subs).subs in
     let is : IsLeft members [] subs left = left_of_all members subs order in
     all_both (λ h. item_in name_of_hosted (name_of_hosted h) hosts ≡ Some h) (λ h. Unit {0}) (IsHosted left)
     (λ h there u.

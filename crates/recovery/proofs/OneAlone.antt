@@ -13,12 +13,12 @@ use Rattle.task_tree.specs.declared.tree.Program.{Program}
 use Rattle.victim_records.specs.Records.{record_in}
 use Rattle.sub_rules.specs.Changes.{readied_in, redone, with_parent, with_thief}
 use Rattle.sub_rules.specs.Content.{ready_in}
-use Rattle.sub_rules.specs.Readiness.{TellsReady, is_readied, times}
+use Rattle.sub_rules.specs.Readiness.{TellsReady, is_readied, times_listed}
 use Rattle.sub_rules.specs.declared.change.Readied.{Readied}
 use Rattle.sub_rules.proofs.Sums.{all_appended, all_filtered, all_put}
 use Rattle.subcomputation.specs.Fitting.{Fits}
-use Rattle.subcomputation.specs.Subs.{SubOf, grants_of, has_record, host_in, name_of_sub, ready_frames, sub_in, with_content}
-use Rattle.subcomputation.specs.declared.sub.ReadyIn.{ReadyIn}
+use Rattle.subcomputation.specs.Subs.{SubOf, grants_of_subs, has_record, host_in, name_of_sub, ready_frames, sub_in, with_content}
+use Rattle.subcomputation.specs.declared.sub.ReadiedOf.{ReadiedOf}
 use Rattle.subcomputation.specs.Recovering.{Recovery, for_each, for_some, record_settled, recovered, settle_record, settle_sub, sub_settled, their_records}
 use Rattle.subcomputation.specs.Told.{HasNoOthers}
 use Rattle.recovery.specs.Plans.{IsPlan, PlanOf, carried_out}
@@ -86,21 +86,21 @@ recovered_of members g grants subs all =
         record_of g s r (resolve members r.holder) left are (found_of g (has_record h) s left are host)))
 
 -- frames that are all told of one grant
-frames_told : (g : Grant) (again : List ReadyIn) → AllByRecursion (λ x. x.grant ≡ g) again → told_of g again ≡ map (λ x. x.frame) again
+frames_told : (g : Grant) (again : List ReadiedOf) → AllByRecursion (λ x. x.grant ≡ g) again → told_of g again ≡ map (λ x. x.frame) again
 frames_told g [] all = refl
 frames_told g (x ∷ xs) all =
     let same : same_grant x.grant g ≡ true = ap (λ h. same_grant h g) all.0 ∙ same_itself g in
     ap (λ b. cond b (x.frame ∷ told_of g xs) (told_of g xs)) same ∙ ap (λ fs. x.frame ∷ fs) (frames_told g xs all.1)
 
 -- they are those that are told
-frames_in : (g : Grant) (again : List ReadyIn) → AllByRecursion (λ x. x.grant ≡ g) again → all_in g (map (λ x. x.frame) again) ≡ again
+frames_in : (g : Grant) (again : List ReadiedOf) → AllByRecursion (λ x. x.grant ≡ g) again → all_in g (map (λ x. x.frame) again) ≡ again
 frames_in g [] all = refl
-frames_in g (x ∷ xs) all = ap (λ h. let y : ReadyIn = record { grant = h; frame = x.frame } in y ∷ all_in g (map (λ x. x.frame) xs)) (sym all.0) ∙ ap (λ ys. x ∷ ys) (frames_in g xs all.1)
+frames_in g (x ∷ xs) all = ap (λ h. let y : ReadiedOf = record { grant = h; frame = x.frame } in y ∷ all_in g (map (λ x. x.frame) xs)) (sym all.0) ∙ ap (λ ys. x ∷ ys) (frames_in g xs all.1)
 
 -- frames behind others
 all_on : (g : Grant) (told : List Readied) (more : List Readied) → all_in g (told ++ more) ≡ all_in g told ++ all_in g more
 all_on g [] more = refl
-all_on g (r ∷ rs) more = ap (λ xs. let x : ReadyIn = record { grant = g; frame = r } in x ∷ xs) (all_on g rs more)
+all_on g (r ∷ rs) more = ap (λ xs. let x : ReadiedOf = record { grant = g; frame = r } in x ∷ xs) (all_on g rs more)
 
 -- subcomputations of one grant that stand in order are none or one
 one_or_none : (g : Grant) (subs : List SubOf) → AllOf g subs → AreWhole subs → those (sub_in g subs) ≡ subs
@@ -154,10 +154,10 @@ module _ (members : List Member) (s : SubOf) (whole : IsWhole s) where
   told_alone : (t : SubOf) (was : SubOf) → s ≡ was → TellsReady was.content t.content (told_of s.grant whole_recovery.again) → ComesTold t (readied_in s.content.frames ++ map (λ x. x.frame) whole_recovery.again)
   told_alone t was same tells = record { each = λ r. tells.each r ∙ ap (λ n. cond (is_some (ready_in r.frame t.content)) n 0) (sums r) }
     where
-      sums : (r : Readied) → times r (told_of s.grant whole_recovery.again) + times r (readied_in was.content.frames) ≡ times r (readied_in s.content.frames ++ map (λ x. x.frame) whole_recovery.again)
+      sums : (r : Readied) → times_listed r (told_of s.grant whole_recovery.again) + times_listed r (readied_in was.content.frames) ≡ times_listed r (readied_in s.content.frames ++ map (λ x. x.frame) whole_recovery.again)
       sums r =
-          let told = ap (times r) (frames_told s.grant whole_recovery.again of_one.again) in
-          let first = ap (λ (u : SubOf). times r (readied_in u.content.frames)) same in
+          let told = ap (times_listed r) (frames_told s.grant whole_recovery.again of_one.again) in
+          let first = ap (λ (u : SubOf). times_listed r (readied_in u.content.frames)) same in
           omega (arith, sum_by-append (is_readied r) (readied_in s.content.frames) (map (λ x. x.frame) whole_recovery.again))
 
   -- it is left, or nothing is
@@ -196,8 +196,8 @@ pub record Comes (members : List Member) (s : SubOf) (left : Option SubOf) (fram
 -- so a plan that is carried out leads to it
 pub comes : (members : List Member) (s : SubOf) (before after : List SubOf) (plan : PlanOf) (n : Name) (left : Option SubOf) (first all : List Readied) → IsWhole s → before ≡ s ∷ [] → IsPlan members before plan → after ≡ carried_out plan.settled before → n ≡ name_of_sub s → left ≡ item_in name_of_sub n after → first ≡ readied_in s.content.frames → all ≡ first ++ map (λ x. x.frame) plan.again → Comes members s left all
 comes members s before after plan n left first all whole alone is_plan carried name taken first_is all_is =
-    let subs : after ≡ (recovered members (s.grant ∷ []) (s ∷ [])).subs = carried ∙ is_plan.subs ∙ ap (λ xs. (recovered members (grants_of xs) xs).subs) alone in
-    let again : plan.again ≡ (recovered members (s.grant ∷ []) (s ∷ [])).again = is_plan.again ∙ ap (λ xs. (recovered members (grants_of xs) xs).again) alone in
+    let subs : after ≡ (recovered members (s.grant ∷ []) (s ∷ [])).subs = carried ∙ is_plan.subs ∙ ap (λ xs. (recovered members (grants_of_subs xs) xs).subs) alone in
+    let again : plan.again ≡ (recovered members (s.grant ∷ []) (s ∷ [])).again = is_plan.again ∙ ap (λ xs. (recovered members (grants_of_subs xs) xs).again) alone in
     let told : all ≡ readied_in s.content.frames ++ map (λ x. x.frame) (recovered members (s.grant ∷ []) (s ∷ [])).again = all_is ∙ ap (λ xs. xs ++ map (λ x. x.frame) plan.again) first_is ∙ ap (λ xs. readied_in s.content.frames ++ map (λ x. x.frame) xs) again in
     let left_is : left ≡ sub_in s.grant after = taken ∙ ap (λ m. item_in name_of_sub m after) name in
     let is : IsAlone members s left = subst (IsAlone members s) (sym left_is) (taken_alone members s whole after subs) in

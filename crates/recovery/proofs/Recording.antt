@@ -14,7 +14,7 @@ use Rattle.ids.proofs.NameOrder.{exact_names}
 use Rattle.victim_records.specs.Records.{put_record, record_in, renamed, with_holder, without_record}
 use Rattle.sub_rules.specs.Changes.{frame_of, readied, redone, with_thief}
 use Rattle.subcomputation.specs.Subs.{SubOf, has_record, host_in, name_of_sub, put_sub, sub_in, with_content}
-use Rattle.subcomputation.specs.declared.sub.ReadyIn.{ReadyIn}
+use Rattle.subcomputation.specs.declared.sub.ReadiedOf.{ReadiedOf}
 use Rattle.subcomputation.specs.Recovering.{Recovery, ◌then◌, for_each, for_some, record_settled, settle_record, settled}
 use Rattle.subcomputation.proofs.Others.{equal_to_itself, found_by, put_other, without_other}
 use Rattle.recovery.specs.Plans.{AreHeld, carried, carried_out, stop_of}

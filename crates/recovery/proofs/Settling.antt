@@ -7,7 +7,7 @@ use Rattle.ids.specs.Named.{put_in}
 use Rattle.ids.specs.Ordered.{AreInOrder}
 use Rattle.ids.specs.declared.member.Member.{Member}
 use Rattle.sub_rules.specs.Changes.{with_parent}
-use Rattle.subcomputation.specs.Subs.{SubOf, grants_of, name_of_sub, put_sub, sub_in, with_content, without_sub}
+use Rattle.subcomputation.specs.Subs.{SubOf, grants_of_subs, name_of_sub, put_sub, sub_in, with_content, without_sub}
 use Rattle.subcomputation.specs.Recovering.{Recovery, ◌then◌, for_each, for_some, settle_sub, settled, sub_settled}
 use Rattle.recovery.specs.Plans.{carried, carried_out, stop_of}
 use Rattle.recovery.specs.declared.plan.Draft.{Draft}
@@ -61,19 +61,19 @@ pub record IsLeft (members : List Member) (past rest subs : List SubOf) : Type 0
   pub order : AreInOrder name_of_sub subs
 
 -- each in turn
-all_left : (members : List Member) (past rest : List SubOf) → AreInOrder name_of_sub (past ++ rest) → IsLeft members past rest (for_each (settle_sub members) (grants_of rest) (past ++ rest)).subs
+all_left : (members : List Member) (past rest : List SubOf) → AreInOrder name_of_sub (past ++ rest) → IsLeft members past rest (for_each (settle_sub members) (grants_of_subs rest) (past ++ rest)).subs
 all_left members past [] order = record { list = refl; order = order }
 all_left members past (s ∷ rest) order =
     let one : (settle_sub members s.grant (past ++ s ∷ rest)).subs ≡ (past ++ left_by members s) ++ rest = settled_one members past s rest order in
-    let others : IsLeft members (past ++ left_by members s) rest (for_each (settle_sub members) (grants_of rest) ((past ++ left_by members s) ++ rest)).subs = all_left members (past ++ left_by members s) rest (settled_order members past s rest order) in
-    let same : (for_each (settle_sub members) (grants_of rest) (settle_sub members s.grant (past ++ s ∷ rest)).subs).subs ≡ (for_each (settle_sub members) (grants_of rest) ((past ++ left_by members s) ++ rest)).subs = ap (λ xs. (for_each (settle_sub members) (grants_of rest) xs).subs) one in
+    let others : IsLeft members (past ++ left_by members s) rest (for_each (settle_sub members) (grants_of_subs rest) ((past ++ left_by members s) ++ rest)).subs = all_left members (past ++ left_by members s) rest (settled_order members past s rest order) in
+    let same : (for_each (settle_sub members) (grants_of_subs rest) (settle_sub members s.grant (past ++ s ∷ rest)).subs).subs ≡ (for_each (settle_sub members) (grants_of_subs rest) ((past ++ left_by members s) ++ rest)).subs = ap (λ xs. (for_each (settle_sub members) (grants_of_subs rest) xs).subs) one in
     record {
       list = same ∙ others.list ∙ append_assoc past (left_by members s) (flat_map (left_by members) rest) ∙ ap (λ xs. past ++ xs) (sym (flat_map-cons (left_by members) s rest));
       order = subst (λ xs. AreInOrder name_of_sub xs) (sym same) others.order;
     }
 
 -- what is left of all
-pub left_of_all : (members : List Member) (subs : List SubOf) → AreInOrder name_of_sub subs → IsLeft members [] subs (for_each (settle_sub members) (grants_of subs) subs).subs
+pub left_of_all : (members : List Member) (subs : List SubOf) → AreInOrder name_of_sub subs → IsLeft members [] subs (for_each (settle_sub members) (grants_of_subs subs) subs).subs
 left_of_all members subs order = all_left members [] subs order
 
 -- ---- a draft that settles one after another
@@ -89,7 +89,7 @@ pub record IsSettling (members : List Member) (subs rest : List SubOf) (d : Draf
   pub split : so_far.subs ≡ past ++ rest
   pub order : AreInOrder name_of_sub (past ++ rest)
   pub follows : Follows subs empty d so_far
-  pub total : so_far then for_each (settle_sub members) (grants_of rest) ≡ for_each (settle_sub members) (grants_of subs) subs
+  pub total : so_far then for_each (settle_sub members) (grants_of_subs rest) ≡ for_each (settle_sub members) (grants_of_subs subs) subs
 
 -- a draft of nothing
 same_empty : (d : Draft) → d.settled ≡ [] → d.stopped ≡ [] → d.again ≡ [] → d ≡ empty
@@ -118,7 +118,7 @@ next_settled members subs s rest d e i ordered step =
       split = ap (λ xs. (settle_sub members s.grant xs).subs) i.split ∙ settled_one members i.past s rest i.order;
       order = settled_order members i.past s rest i.order;
       follows = follows_more subs empty d e i.so_far (settle_sub members s.grant) i.follows (subst (λ r. IsStep subs d e r) (sym part) step);
-      total = sym (then_assoc i.so_far (settle_sub members s.grant) (for_each (settle_sub members) (grants_of rest))) ∙ i.total;
+      total = sym (then_assoc i.so_far (settle_sub members s.grant) (for_each (settle_sub members) (grants_of_subs rest))) ∙ i.total;
     }
 
 module _ (members : List Member) (subs : List SubOf) (s : SubOf) (rest : List SubOf) (d e : Draft) (i : IsSettling members subs (s ∷ rest) d) where
@@ -157,7 +157,7 @@ module _ (members : List Member) (subs : List SubOf) (s : SubOf) (rest : List Su
       (subst (λ xs. IsStep subs d e (settled xs)) (sym again) (step_none subs d e i.follows.held same))
 
 -- all are settled
-pub settling_all : (members : List Member) (subs rest : List SubOf) (d : Draft) → rest ≡ [] → IsSettling members subs rest d → IsStep subs empty d (for_each (settle_sub members) (grants_of subs) subs)
+pub settling_all : (members : List Member) (subs rest : List SubOf) (d : Draft) → rest ≡ [] → IsSettling members subs rest d → IsStep subs empty d (for_each (settle_sub members) (grants_of_subs subs) subs)
 settling_all members subs rest d none i =
-    let all : i.so_far ≡ for_each (settle_sub members) (grants_of subs) subs = sym (then_none i.so_far) ∙ ap (λ xs. i.so_far then for_each (settle_sub members) (grants_of xs)) (sym none) ∙ i.total in
+    let all : i.so_far ≡ for_each (settle_sub members) (grants_of_subs subs) subs = sym (then_none i.so_far) ∙ ap (λ xs. i.so_far then for_each (settle_sub members) (grants_of_subs xs)) (sym none) ∙ i.total in
     subst (λ r. IsStep subs empty d r) all (i.follows.left, i.follows.stopped, i.follows.again, i.follows.held)

@@ -9,7 +9,7 @@ use Rattle.ids.specs.Ordered.{AreInOrder}
 use Rattle.ids.specs.declared.work.Record.{Record}
 use Rattle.ids.proofs.Replacing.{put_is_found}
 use Rattle.subcomputation.specs.Subs.{SubOf, name_of_sub, put_sub, sub_in, without_sub}
-use Rattle.subcomputation.specs.declared.sub.ReadyIn.{ReadyIn}
+use Rattle.subcomputation.specs.declared.sub.ReadiedOf.{ReadiedOf}
 use Rattle.subcomputation.specs.Recovering.{Recovery, ◌then◌, settled}
 use Rattle.subcomputation.proofs.Others.{put_other, without_itself, without_other}
 use Rattle.recovery.specs.Plans.{AreHeld, carried, carried_out, grant_of, stop_of}
@@ -183,12 +183,12 @@ then_none r =
     ∙ ap (λ xs. (record { subs = r.subs; stopped = r.stopped; again = xs })) (append-nil r.again)
 
 -- ---- what a part does to a draft
-pub step_put : (subs : List SubOf) (d e : Draft) (x : Settled) (m : List Record) (b : List ReadyIn) → AreInOrder name_of_settled d.settled → AreInOrder name_of_sub subs → AreHeld d.settled subs → IsKept subs x → e.settled ≡ put_in name_of_settled x d.settled → e.stopped ≡ d.stopped ++ map stop_of m → e.again ≡ d.again ++ b → IsStep subs d e (record { subs = carried x (carried_out d.settled subs); stopped = m; again = b })
+pub step_put : (subs : List SubOf) (d e : Draft) (x : Settled) (m : List Record) (b : List ReadiedOf) → AreInOrder name_of_settled d.settled → AreInOrder name_of_sub subs → AreHeld d.settled subs → IsKept subs x → e.settled ≡ put_in name_of_settled x d.settled → e.stopped ≡ d.stopped ++ map stop_of m → e.again ≡ d.again ++ b → IsStep subs d e (record { subs = carried x (carried_out d.settled subs); stopped = m; again = b })
 step_put subs d e x m b order sorted held kept put stopped again =
     (ap (λ xs. carried_out xs subs) put ∙ carried_more x d.settled subs order sorted, stopped, again, subst (λ xs. AreHeld xs subs) (sym put) (held_more x d.settled subs kept held))
 
 -- the same where the one before it was taken away first
-pub step_anew : (subs : List SubOf) (d e : Draft) (x : Settled) (n : Name) (m : List Record) (b : List ReadyIn) → n ≡ name_of_settled x → AreInOrder name_of_settled d.settled → AreInOrder name_of_sub subs → AreHeld d.settled subs → IsKept subs x → e.settled ≡ put_in name_of_settled x (without_in name_of_settled n d.settled) → e.stopped ≡ d.stopped ++ map stop_of m → e.again ≡ d.again ++ b → IsStep subs d e (record { subs = carried x (carried_out d.settled subs); stopped = m; again = b })
+pub step_anew : (subs : List SubOf) (d e : Draft) (x : Settled) (n : Name) (m : List Record) (b : List ReadiedOf) → n ≡ name_of_settled x → AreInOrder name_of_settled d.settled → AreInOrder name_of_sub subs → AreHeld d.settled subs → IsKept subs x → e.settled ≡ put_in name_of_settled x (without_in name_of_settled n d.settled) → e.stopped ≡ d.stopped ++ map stop_of m → e.again ≡ d.again ++ b → IsStep subs d e (record { subs = carried x (carried_out d.settled subs); stopped = m; again = b })
 step_anew subs d e x n m b here order sorted held kept put stopped again =
     (ap (λ xs. carried_out xs subs) put ∙ carried_anew x n d.settled subs here order sorted, stopped, again, subst (λ xs. AreHeld xs subs) (sym put) (held_anew x n d.settled subs kept held))
 

@@ -10,13 +10,14 @@ use Rattle.task_tree.specs.declared.tree.Program.{Program}
 use Rattle.sub_rules.specs.Debts.{IsSound}
 use Rattle.sub_rules.specs.Changes.{readied_in}
 use Rattle.sub_rules.specs.Content.{ready_in}
-use Rattle.sub_rules.specs.Readiness.{TellsReady, times}
+use Rattle.sub_rules.specs.Readiness.{TellsReady, times_listed}
 use Rattle.sub_rules.specs.declared.change.Readied.{Readied}
 use Rattle.subcomputation.specs.Fitting.{Fits}
 use Rattle.subcomputation.specs.Recovering.{Recovery, recovered}
-use Rattle.subcomputation.specs.Subs.{SubOf, grants_of, host_in, name_of_sub, put_sub, sub_in}
-use Rattle.subcomputation.specs.declared.sub.ReadyIn.{ReadyIn}
+use Rattle.subcomputation.specs.Subs.{SubOf, grants_of_subs, host_in, name_of_sub, put_sub, sub_in}
+use Rattle.subcomputation.specs.declared.sub.ReadiedOf.{ReadiedOf}
 use Rattle.subcomputation.specs.Told.{HasNoOthers}
+pub use Rattle.ids.specs.Names.{same_grant}
 
 -- a subcomputation as its type keeps it
 pub record IsWhole (s : SubOf) : Type 0 where
@@ -29,17 +30,14 @@ pub record AreWhole (subs : List SubOf) : Type 0 where
   pub each : AllByRecursion IsWhole subs
   pub order : AreInOrder name_of_sub subs
 
-abbrev pub same_grant : Grant → Grant → Bool
-same_grant g h = nat_eq g.minter h.minter && nat_eq g.number h.number
-
 -- the ready frames that are told of a grant's subcomputation
-abbrev pub told_of : Grant → List ReadyIn → List Readied
+abbrev pub told_of : Grant → List ReadiedOf → List Readied
 told_of g [] = []
 told_of g (r ∷ rs) = if same_grant r.grant g then r.frame ∷ told_of g rs else told_of g rs
 
 -- a subcomputation that is left was held before, what became ready in it is told, and it has no new record and fits what it
 -- fitted
-pub record IsLeft (g : Grant) (before : List SubOf) (s : SubOf) (again : List ReadyIn) : Type 0 where
+pub record IsLeft (g : Grant) (before : List SubOf) (s : SubOf) (again : List ReadiedOf) : Type 0 where
   pub was : SubOf
   pub there : sub_in g before ≡ Some was
   pub ready : TellsReady was.content s.content (told_of g again)
@@ -48,7 +46,7 @@ pub record IsLeft (g : Grant) (before : List SubOf) (s : SubOf) (again : List Re
 
 -- the ready frames of a subcomputation that comes are told, each once
 pub record ComesTold (s : SubOf) (told : List Readied) : Type 0 where
-  pub each : (r : Readied) → times r (readied_in s.content.frames) ≡ if is_some (ready_in r.frame s.content) then times r told else 0
+  pub each : (r : Readied) → times_listed r (readied_in s.content.frames) ≡ if is_some (ready_in r.frame s.content) then times_listed r told else 0
 
 -- those of an option
 abbrev pub those : Option SubOf → List SubOf
@@ -56,7 +54,7 @@ those None = []
 those (Some s) = s ∷ []
 
 -- frames of a grant's subcomputation, as ready frames in it
-abbrev pub all_in : Grant → List Readied → List ReadyIn
+abbrev pub all_in : Grant → List Readied → List ReadiedOf
 all_in g told = map (λ r. record { grant = g; frame = r }) told
 
 -- the same recovery, with what it leaves beside other subcomputations

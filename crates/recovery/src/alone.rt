@@ -10,10 +10,10 @@ ghost use Rattle.recovery.specs.Plans.{stop_of};
 ghost use Rattle.recovery.specs.Told.{ComesTold, IsWhole, all_in, those};
 
 use crate::plan::{Stopped, make_plan};
-use ids::{Listed, Member, Named, Store};
+use ids::{Listed, Member, Named, SortedMap};
 use std::alloc::{AllocError, Global};
 use sub_rules::Readied;
-use subcomputation::{ReadyIn, Sub};
+use subcomputation::{ReadiedOf, Sub};
 
 /// What comes of a subcomputation that an Offer hands on: it, or nothing where its host is dead; the holders that are told
 /// to stop; and its ready frames, those with which it came first.
@@ -24,7 +24,7 @@ pub struct Alone {
     pub ready: Listed<Readied>,
 }
 
-/// Recovers a subcomputation that comes by a roster; refused for want of memory alone.
+/// Recovers a subcomputation that comes by a roster; refused only when out of memory.
 pub fn recover_alone(alloc: Global, members: &[Member], sub: Sub) -> Result<Alone, AllocError>
     ensures after { IfOk result (λ a. those a.after ≡ (recovered members.now (sub.grant ∷ []) (sub ∷ [])).subs) }
     ensures named { IfOk result (λ a. IfSome a.after (λ s. s.grant ≡ sub.grant)) }
@@ -34,10 +34,10 @@ pub fn recover_alone(alloc: Global, members: &[Member], sub: Sub) -> Result<Alon
     ensures records { IfOk result (λ a. IfSome a.after (λ s. HasNoOthers sub.content.records s.content.records)) }
     ensures fits { (p : Program) → Fits p sub.content → IfOk result (λ a. IfSome a.after (λ s. Fits p s.content)) }
 {
-    is_whole(&sub);
+    law_is_whole(&sub);
     let first = ready_of(alloc, &sub)?;
     let name = sub.name();
-    let mut subs = Store::new(alloc);
+    let mut subs = SortedMap::new(alloc);
     subs.put(sub)?;
     let plan = make_plan(alloc, members, &subs)?;
     let stopped = copied(alloc, plan.stopped())?;
@@ -52,12 +52,12 @@ pub fn recover_alone(alloc: Global, members: &[Member], sub: Sub) -> Result<Alon
 }
 
 /// A subcomputation is sound, and its frames and records stand in order. Does nothing.
-fn is_whole(sub: &Sub)
+fn law_is_whole(sub: &Sub)
     ensures { IsWhole sub.now }
 {
     let content = sub.content();
-    content.frames.stand_in_order();
-    content.records.stand_in_order();
+    content.frames.law_stand_in_order();
+    content.records.law_stand_in_order();
 }
 
 /// The ready frames of a subcomputation, by rising number.
@@ -84,7 +84,7 @@ fn is_full(slots: &[Option<i64>]) -> bool
 }
 
 /// Ready frames, and behind them those that are ready again.
-fn with_again(ready: Listed<Readied>, again: &[ReadyIn]) -> Result<Listed<Readied>, AllocError>
+fn with_again(ready: Listed<Readied>, again: &[ReadiedOf]) -> Result<Listed<Readied>, AllocError>
     ensures { IfOk result (λ all. all ≡ ready ++ map (λ r. r.frame) again.now) }
 {
     let mut all = ready;

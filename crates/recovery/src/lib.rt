@@ -6,5 +6,5 @@ mod laws;
 mod plan;
 
 pub use alone::{Alone, recover_alone};
-pub use laws::{recoveries_are_told, recovery_alone_is_recovery_beside};
+pub use laws::{law_recoveries_are_told, recovery_alone_is_recovery_beside};
 pub use plan::{Plan, Settled, Stopped, make_plan};

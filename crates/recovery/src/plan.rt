@@ -11,15 +11,15 @@ ghost use Rattle.heirs.specs.Bearers.{bearer_in};
 ghost use Rattle.heirs.specs.declared.bearers.Bearing.{Bearing};
 ghost use Rattle.victim_records.specs.Records.{record_in};
 ghost use Rattle.sub_rules.specs.Changes.{frame_of, readied, redone, with_parent, with_thief};
-ghost use Rattle.subcomputation.specs.Subs.{SubOf, grants_of, has_record, host_in, sub_in, with_content};
+ghost use Rattle.subcomputation.specs.Subs.{SubOf, grants_of_subs, has_record, host_in, sub_in, with_content};
 ghost use Rattle.subcomputation.specs.Recovering.{for_each, settle_record, settle_sub, their_records};
-ghost use Rattle.recovery.specs.Plans.{AreHeld, IsPlan, carried, carried_out, grant_of, stop_of};
+ghost use Rattle.recovery.specs.Plans.{AreHeld, Furthers, IsPlan, carried, carried_out, grant_of, settled_but, settled_with, stop_of};
 
 use heirs::{Bearers, bearer_of};
-use ids::{Actor, GrantId, Incarnation, Listed, Member, Named, Status, Store};
+use ids::{Actor, GrantId, Incarnation, Listed, Member, Named, SortedMap, Status};
 use std::alloc::{AllocError, Global};
 use std::marker::Model;
-use subcomputation::{ReadyIn, Sub};
+use subcomputation::{ReadiedOf, Sub};
 
 /// The most workers that are followed one by one.
 const FEW: usize = 64;
@@ -58,10 +58,10 @@ pub struct Stopped {
 /// Aborts, and the frames that are ready again, in their order.
 #[derive(Drop)]
 pub struct Plan {
-    settled: Store<Settled>,
+    settled: SortedMap<Settled>,
     grants: Listed<GrantId>,
     stopped: Listed<Stopped>,
-    again: Listed<ReadyIn>,
+    again: Listed<ReadiedOf>,
 }
 
 impl Model for Plan {
@@ -77,19 +77,23 @@ impl Model for Plan {
 
 /// Plans the recovery of all subcomputations by a roster: one whose host is dead goes, and one whose host left waits for
 /// whoever has that one's work; then, by rising grant over all that are left, a record whose holder is dead is closed and its
-/// frame is ready again, and one whose holder left is held by whoever has that one's work. Refused for want of memory alone.
+/// frame is ready again, and one whose holder left is held by whoever has that one's work. Refused only when out of memory.
 /// Only those subcomputations are copied that change, each once.
-pub fn make_plan(alloc: Global, members: &[Member], subs: &Store<Sub>) -> Result<Plan, AllocError>
+pub fn make_plan(
+    alloc: Global,
+    members: &[Member],
+    subs: &SortedMap<Sub>,
+) -> Result<Plan, AllocError>
     ensures { IfOk result (λ p. IsPlan members.now subs.now p) }
 {
     if subs.len() == 0 {
         return Ok(nothing(alloc));
     }
     let roster = Roster::of(alloc, members, subs)?;
-    subs.stand_in_order();
+    subs.law_stand_in_order();
     let mut draft = settle_subs(alloc, &roster, subs)?;
     let hosts = hosts(alloc, &roster, subs)?;
-    hosts.stand_in_order();
+    hosts.law_stand_in_order();
     settle_records(alloc, &roster, subs, &hosts, &mut draft)?;
     draft.finished(alloc)
 }
@@ -104,19 +108,19 @@ impl Plan {
     }
 
     /// The frames that are ready again, by the rising grants of their records.
-    pub fn again(&self) -> &[ReadyIn]
+    pub fn again(&self) -> &[ReadiedOf]
         ensures { result.now ≡ self.now.again }
     {
         self.again.as_slice()
     }
 
     /// Carries it out; takes no memory.
-    pub fn carry_out(self, subs: &mut Store<Sub>)
+    pub fn carry_out(self, subs: &mut SortedMap<Sub>)
         requires { AreHeld self.settled subs.old }
         ensures { subs.new ≡ carried_out self.settled subs.old }
     {
         let mut settled = self.settled;
-        settled.stand_in_order();
+        settled.law_stand_in_order();
         for grant in self.grants.as_slice() {
             if let Some(next) = settled.take(name_of(*grant)) {
                 carry(subs, next);
@@ -126,7 +130,7 @@ impl Plan {
 }
 
 /// A subcomputation that is there goes, or another stands in its place.
-fn carry(subs: &mut Store<Sub>, settled: Settled)
+fn carry(subs: &mut SortedMap<Sub>, settled: Settled)
     requires { IsSome (sub_in (grant_of settled) subs.old) }
     ensures { subs.new ≡ carried settled subs.old }
 {
@@ -143,7 +147,7 @@ fn nothing(alloc: Global) -> Plan
     ensures { result ≡ record { settled = []; stopped = []; again = [] } }
 {
     Plan {
-        settled: Store::new(alloc),
+        settled: SortedMap::new(alloc),
         grants: Listed::new(alloc),
         stopped: Listed::new(alloc),
         again: Listed::new(alloc),
@@ -167,12 +171,16 @@ struct Roster<'a> {
 }
 
 impl<'a> Roster<'a> {
-    /// Looks through a roster's members, for the hosts of these subcomputations and the holders of their records; refused for
-    /// want of memory alone.
-    fn of(alloc: Global, members: &'a [Member], subs: &Store<Sub>) -> Result<Roster<'a>, AllocError>
+    /// Looks through a roster's members, for the hosts of these subcomputations and the holders of their records; refused
+    /// only when out of memory.
+    fn of(
+        alloc: Global,
+        members: &'a [Member],
+        subs: &SortedMap<Sub>,
+    ) -> Result<Roster<'a>, AllocError>
         ensures { IfOk result (λ r. r.members.now ≡ members.now) }
     {
-        heirs_are_workers(members);
+        law_heirs_are_workers(members);
         if is_cheaper_followed(members, subs) {
             return Ok(Roster {
                 members,
@@ -208,7 +216,7 @@ impl<'a> Roster<'a> {
 
 /// Whether following each worker that is asked for costs less than a table of all: few are asked for, and the heirs to be
 /// followed are not too many, even where each chain goes over all members that left.
-fn is_cheaper_followed(members: &[Member], subs: &Store<Sub>) -> bool {
+fn is_cheaper_followed(members: &[Member], subs: &SortedMap<Sub>) -> bool {
     let asked = asked_for(subs);
     if asked > FEW {
         return false;
@@ -218,7 +226,7 @@ fn is_cheaper_followed(members: &[Member], subs: &Store<Sub>) -> bool {
 }
 
 /// How often a worker is asked for at most: twice for the host of each subcomputation, and once for the holder of each record.
-fn asked_for(subs: &Store<Sub>) -> usize {
+fn asked_for(subs: &SortedMap<Sub>) -> usize {
     let mut asked: usize = 0;
     for sub in subs.values() {
         let records = sub.content().records.len();
@@ -236,7 +244,7 @@ fn left(members: &[Member]) -> usize {
 }
 
 /// Who has a worker's work is a worker. Does nothing.
-fn heirs_are_workers(members: &[Member])
+fn law_heirs_are_workers(members: &[Member])
     ensures { (i j : ℕ) → IsTrue (is_worker i) → resolve members.now i ≡ Some j → IsTrue (is_worker j) }
 {
     for member in members {
@@ -249,9 +257,9 @@ fn heirs_are_workers(members: &[Member])
 /// A plan in the making.
 #[derive(Drop)]
 struct Draft {
-    settled: Store<Settled>,
+    settled: SortedMap<Settled>,
     stopped: Listed<Stopped>,
-    again: Listed<ReadyIn>,
+    again: Listed<ReadiedOf>,
 }
 
 /// The subcomputation that has the open record of a grant, as far as it is left.
@@ -271,15 +279,15 @@ impl Named for Hosted {
 }
 
 /// Settles each subcomputation by its host.
-fn settle_subs(alloc: Global, roster: &Roster, subs: &Store<Sub>) -> Result<Draft, AllocError>
-    ensures { let r = for_each (settle_sub roster.now.members.now) (grants_of subs.now) subs.now in IfOk result (λ d. (carried_out d.settled subs.now ≡ r.subs) × (d.stopped ≡ map stop_of r.stopped) × (d.again ≡ r.again) × AreHeld d.settled subs.now) }
+fn settle_subs(alloc: Global, roster: &Roster, subs: &SortedMap<Sub>) -> Result<Draft, AllocError>
+    ensures { let r = for_each (settle_sub roster.now.members.now) (grants_of_subs subs.now) subs.now in IfOk result (λ d. (carried_out d.settled subs.now ≡ r.subs) × (d.stopped ≡ map stop_of r.stopped) × (d.again ≡ r.again) × AreHeld d.settled subs.now) }
 {
     let mut draft = Draft {
-        settled: Store::new(alloc),
+        settled: SortedMap::new(alloc),
         stopped: Listed::new(alloc),
         again: Listed::new(alloc),
     };
-    subs.stand_in_order();
+    subs.law_stand_in_order();
     for sub in subs.values() {
         let parent = sub.content().parent;
         match roster.host(parent) {
@@ -293,23 +301,27 @@ fn settle_subs(alloc: Global, roster: &Roster, subs: &Store<Sub>) -> Result<Draf
 
 /// The hosts of the records of the subcomputations that are left when each is settled, by the rising grants of the records;
 /// of two hosts of one grant the first.
-fn hosts(alloc: Global, roster: &Roster, subs: &Store<Sub>) -> Result<Store<Hosted>, AllocError>
-    ensures grants { let left = (for_each (settle_sub roster.now.members.now) (grants_of subs.now) subs.now).subs in IfOk result (λ hosts. map (λ h. h.grant) hosts ≡ their_records (grants_of subs.now) left) }
-    ensures hosts { let left = (for_each (settle_sub roster.now.members.now) (grants_of subs.now) subs.now).subs in IfOk result (λ hosts. AllByRecursion (λ h. option_map (λ s. s.grant) (host_in h.grant left) ≡ Some h.host) hosts) }
+fn hosts(
+    alloc: Global,
+    roster: &Roster,
+    subs: &SortedMap<Sub>,
+) -> Result<SortedMap<Hosted>, AllocError>
+    ensures grants { let left = (for_each (settle_sub roster.now.members.now) (grants_of_subs subs.now) subs.now).subs in IfOk result (λ hosts. map (λ h. h.grant) hosts ≡ their_records (grants_of_subs subs.now) left) }
+    ensures hosts { let left = (for_each (settle_sub roster.now.members.now) (grants_of_subs subs.now) subs.now).subs in IfOk result (λ hosts. AllByRecursion (λ h. option_map (λ s. s.grant) (host_in h.grant left) ≡ Some h.host) hosts) }
 {
-    let mut hosts = Store::new(alloc);
-    subs.stand_in_order();
+    let mut hosts = SortedMap::new(alloc);
+    subs.law_stand_in_order();
     for sub in subs.values() {
         if roster.host(sub.content().parent).is_some() {
             add_records(&mut hosts, sub)?;
         }
     }
-    hosts.stand_in_order();
+    hosts.law_stand_in_order();
     Ok(hosts)
 }
 
 /// A subcomputation hosts each of its records whose grant has no host yet.
-fn add_records(hosts: &mut Store<Hosted>, sub: &Sub) -> Result<(), AllocError>
+fn add_records(hosts: &mut SortedMap<Hosted>, sub: &Sub) -> Result<(), AllocError>
     ensures { OnOk result ((g : Grant) → item_in (λ h. name_of_grant h.grant) (name_of_grant g) hosts.new ≡ option_or (item_in (λ h. name_of_grant h.grant) (name_of_grant g) hosts.old) (if has_record g sub.now then Some (record { grant = g; host = sub.now.grant }) else None)) }
 {
     let content = sub.content();
@@ -328,16 +340,16 @@ fn add_records(hosts: &mut Store<Hosted>, sub: &Sub) -> Result<(), AllocError>
 fn settle_records(
     alloc: Global,
     roster: &Roster,
-    subs: &Store<Sub>,
-    hosts: &Store<Hosted>,
+    subs: &SortedMap<Sub>,
+    hosts: &SortedMap<Hosted>,
     draft: &mut Draft,
 ) -> Result<(), AllocError>
     requires hosts { AllByRecursion (λ h. option_map (λ s. s.grant) (host_in h.grant (carried_out draft.old.settled subs.now)) ≡ Some h.host) hosts.now }
     requires held { AreHeld draft.old.settled subs.now }
-    ensures { let r = for_each (settle_record roster.now.members.now) (map (λ h. h.grant) hosts.now) (carried_out draft.old.settled subs.now) in OnOk result ((carried_out draft.new.settled subs.now ≡ r.subs) × (draft.new.stopped ≡ draft.old.stopped ++ map stop_of r.stopped) × (draft.new.again ≡ draft.old.again ++ r.again) × AreHeld draft.new.settled subs.now) }
+    ensures { let r = for_each (settle_record roster.now.members.now) (map (λ h. h.grant) hosts.now) (carried_out draft.old.settled subs.now) in OnOk result (Furthers subs.now draft.old draft.new r) }
 {
-    subs.stand_in_order();
-    hosts.stand_in_order();
+    subs.law_stand_in_order();
+    hosts.law_stand_in_order();
     for hosted in hosts.values() {
         draft.settle_record(alloc, roster, subs, hosted)?;
     }
@@ -347,7 +359,7 @@ fn settle_records(
 impl Draft {
     /// A subcomputation goes, and the holders of its records are told to stop.
     fn drop_sub(&mut self, sub: &Sub) -> Result<(), AllocError>
-        ensures settled { OnOk result (self.new.settled ≡ put_in (λ x. name_of_grant (grant_of x)) (Settled.Goes sub.now.grant) self.old.settled) }
+        ensures settled { OnOk result (self.new.settled ≡ settled_with (Settled.Goes sub.now.grant) self.old.settled) }
         ensures stopped { OnOk result (self.new.stopped ≡ self.old.stopped ++ map stop_of sub.now.content.records) }
         ensures again { OnOk result (self.new.again ≡ self.old.again) }
     {
@@ -363,7 +375,7 @@ impl Draft {
 
     /// Another host waits for a subcomputation.
     fn rename_host(&mut self, sub: &Sub, host: Actor) -> Result<(), AllocError>
-        ensures settled { OnOk result (self.new.settled ≡ put_in (λ x. name_of_grant (grant_of x)) (Settled.Stays (with_content sub.now (with_parent host sub.now.content))) self.old.settled) }
+        ensures settled { OnOk result (self.new.settled ≡ settled_with (Settled.Stays (with_content sub.now (with_parent host sub.now.content))) self.old.settled) }
         ensures stopped { OnOk result (self.new.stopped ≡ self.old.stopped) }
         ensures again { OnOk result (self.new.again ≡ self.old.again) }
     {
@@ -377,13 +389,13 @@ impl Draft {
         &mut self,
         alloc: Global,
         roster: &Roster,
-        subs: &Store<Sub>,
+        subs: &SortedMap<Sub>,
         hosted: &Hosted,
     ) -> Result<(), AllocError>
-        ensures { let left = carried_out self.old.settled subs.now in let r = settle_record roster.now.members.now hosted.now.grant left in AreHeld self.old.settled subs.now → option_map (λ s. s.grant) (host_in hosted.now.grant left) ≡ Some hosted.now.host → OnOk result ((carried_out self.new.settled subs.now ≡ r.subs) × (self.new.stopped ≡ self.old.stopped ++ map stop_of r.stopped) × (self.new.again ≡ self.old.again ++ r.again) × AreHeld self.new.settled subs.now) }
+        ensures { let left = carried_out self.old.settled subs.now in let r = settle_record roster.now.members.now hosted.now.grant left in AreHeld self.old.settled subs.now → option_map (λ s. s.grant) (host_in hosted.now.grant left) ≡ Some hosted.now.host → OnOk result (Furthers subs.now self.old self.new r) }
     {
-        self.settled.stand_in_order();
-        subs.stand_in_order();
+        self.settled.law_stand_in_order();
+        subs.law_stand_in_order();
         let Some(holder) = self.holder(subs, hosted) else {
             return Ok(());
         };
@@ -395,13 +407,13 @@ impl Draft {
     }
 
     /// Who holds a record, where it is there.
-    fn holder(&self, subs: &Store<Sub>, hosted: &Hosted) -> Option<Incarnation>
+    fn holder(&self, subs: &SortedMap<Sub>, hosted: &Hosted) -> Option<Incarnation>
         ensures sub { sub_in hosted.now.host (carried_out self.now.settled subs.now) ≡ None → result ≡ None }
         ensures holder { (s : SubOf) → sub_in hosted.now.host (carried_out self.now.settled subs.now) ≡ Some s → result ≡ option_map (λ (r : declared.Record). r.holder) (record_in hosted.now.grant s.content.records) }
         ensures order { (s : SubOf) → sub_in hosted.now.host (carried_out self.now.settled subs.now) ≡ Some s → AreInOrder name_of_record s.content.records }
     {
         let content = self.standing(subs, hosted.host)?.content();
-        content.records.stand_in_order();
+        content.records.law_stand_in_order();
         Some(content.records.get(hosted.grant)?.holder)
     }
 
@@ -409,11 +421,11 @@ impl Draft {
     fn redo(
         &mut self,
         alloc: Global,
-        subs: &Store<Sub>,
+        subs: &SortedMap<Sub>,
         hosted: &Hosted,
         holder: Incarnation,
     ) -> Result<(), AllocError>
-        ensures { (s : SubOf) (r : declared.Record) → sub_in hosted.now.host (carried_out self.old.settled subs.now) ≡ Some s → record_in hosted.now.grant s.content.records ≡ Some r → OnOk result ((self.new.settled ≡ put_in (λ x. name_of_grant (grant_of x)) (Settled.Stays (with_content s (redone r s.content))) (without_in (λ x. name_of_grant (grant_of x)) (name_of_grant hosted.now.host) self.old.settled)) × (self.new.stopped ≡ self.old.stopped ++ record { grant = hosted.now.grant; holder = holder } ∷ []) × (self.new.again ≡ self.old.again ++ record { grant = hosted.now.host; frame = readied (frame_of r) } ∷ [])) }
+        ensures { (s : SubOf) (r : declared.Record) → sub_in hosted.now.host (carried_out self.old.settled subs.now) ≡ Some s → record_in hosted.now.grant s.content.records ≡ Some r → OnOk result ((self.new.settled ≡ settled_with (Settled.Stays (with_content s (redone r s.content))) (settled_but hosted.now.host self.old.settled)) × (self.new.stopped ≡ self.old.stopped ++ record { grant = hosted.now.grant; holder = holder } ∷ []) × (self.new.again ≡ self.old.again ++ record { grant = hosted.now.host; frame = readied (frame_of r) } ∷ [])) }
     {
         let Some(sub) = self.taken(subs, hosted.host)? else {
             return Ok(());
@@ -425,7 +437,7 @@ impl Draft {
             grant: hosted.grant,
             holder,
         })?;
-        self.again.push(ReadyIn {
+        self.again.push(ReadiedOf {
             grant: hosted.host,
             frame: again.ready,
         })?;
@@ -435,11 +447,11 @@ impl Draft {
     /// Another worker holds a record.
     fn rename_holder(
         &mut self,
-        subs: &Store<Sub>,
+        subs: &SortedMap<Sub>,
         hosted: &Hosted,
         heir: Incarnation,
     ) -> Result<(), AllocError>
-        ensures { (s : SubOf) → sub_in hosted.now.host (carried_out self.old.settled subs.now) ≡ Some s → OnOk result ((self.new.settled ≡ put_in (λ x. name_of_grant (grant_of x)) (Settled.Stays (with_content s (with_thief hosted.now.grant heir s.content))) (without_in (λ x. name_of_grant (grant_of x)) (name_of_grant hosted.now.host) self.old.settled)) × (self.new.stopped ≡ self.old.stopped) × (self.new.again ≡ self.old.again)) }
+        ensures { (s : SubOf) → sub_in hosted.now.host (carried_out self.old.settled subs.now) ≡ Some s → OnOk result ((self.new.settled ≡ settled_with (Settled.Stays (with_content s (with_thief hosted.now.grant heir s.content))) (settled_but hosted.now.host self.old.settled)) × (self.new.stopped ≡ self.old.stopped) × (self.new.again ≡ self.old.again)) }
     {
         let Some(mut sub) = self.taken(subs, hosted.host)? else {
             return Ok(());
@@ -449,10 +461,10 @@ impl Draft {
     }
 
     /// The subcomputation that stands under a grant, as it is settled so far.
-    fn standing<'s>(&'s self, subs: &'s Store<Sub>, grant: GrantId) -> Option<&'s Sub>
+    fn standing<'s>(&'s self, subs: &'s SortedMap<Sub>, grant: GrantId) -> Option<&'s Sub>
         ensures { option_copied result ≡ sub_in grant (carried_out self.now.settled subs.now) }
     {
-        self.settled.stand_in_order();
+        self.settled.law_stand_in_order();
         match self.settled.get(name_of(grant)) {
             Some(Settled::Stays(sub)) => Some(sub),
             Some(Settled::Goes(_)) => None,
@@ -461,13 +473,13 @@ impl Draft {
     }
 
     /// The same, taken out of what is settled, or a copy where it had not changed.
-    fn taken(&mut self, subs: &Store<Sub>, grant: GrantId) -> Result<Option<Sub>, AllocError>
+    fn taken(&mut self, subs: &SortedMap<Sub>, grant: GrantId) -> Result<Option<Sub>, AllocError>
         ensures sub { IfOk result (λ o. o ≡ sub_in grant (carried_out self.old.settled subs.now)) }
-        ensures settled { OnOk result (self.new.settled ≡ without_in (λ x. name_of_grant (grant_of x)) (name_of_grant grant) self.old.settled) }
+        ensures settled { OnOk result (self.new.settled ≡ settled_but grant self.old.settled) }
         ensures stopped { OnOk result (self.new.stopped ≡ self.old.stopped) }
         ensures again { OnOk result (self.new.again ≡ self.old.again) }
     {
-        self.settled.stand_in_order();
+        self.settled.law_stand_in_order();
         match self.settled.take(name_of(grant)) {
             Some(Settled::Stays(sub)) => Ok(Some(sub)),
             Some(Settled::Goes(_)) => Ok(None),
@@ -475,7 +487,7 @@ impl Draft {
         }
     }
 
-    /// The plan, when all is settled; refused for want of memory alone.
+    /// The plan, when all is settled; refused only when out of memory.
     fn finished(self, alloc: Global) -> Result<Plan, AllocError>
         ensures { IfOk result (λ p. p ≡ record { settled = self.settled; stopped = self.stopped; again = self.again }) }
     {
@@ -490,7 +502,7 @@ impl Draft {
 }
 
 /// A copy of the subcomputation of a grant, if it is there.
-fn copy_of(subs: &Store<Sub>, grant: GrantId) -> Result<Option<Sub>, AllocError>
+fn copy_of(subs: &SortedMap<Sub>, grant: GrantId) -> Result<Option<Sub>, AllocError>
     ensures { IfOk result (λ o. o ≡ sub_in grant subs.now) }
 {
     match subs.get(name_of(grant)) {
@@ -500,7 +512,10 @@ fn copy_of(subs: &Store<Sub>, grant: GrantId) -> Result<Option<Sub>, AllocError>
 }
 
 /// The grants of the subcomputations that are settled, in their order.
-fn settled_grants(alloc: Global, settled: &Store<Settled>) -> Result<Listed<GrantId>, AllocError>
+fn settled_grants(
+    alloc: Global,
+    settled: &SortedMap<Settled>,
+) -> Result<Listed<GrantId>, AllocError>
     ensures { IfOk result (λ grants. grants ≡ map grant_of settled.now) }
 {
     let mut grants = Listed::with_capacity(alloc, settled.len())?;

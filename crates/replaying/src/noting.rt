@@ -6,7 +6,7 @@ use crate::fault::ReplayFault;
 use crate::replayed::{Replayed, replay_script};
 use event_script::Event;
 use jobs::{bytes_within, job_of, text_bytes};
-use progress::{Progress, tell};
+use progress::{RunProgress, tell};
 use serial_meaning::Job;
 use std::alloc::Global;
 use std::io::{IsTerminal, Stderr};
@@ -18,7 +18,7 @@ use world::{EventAnswer, Unwatched, Watch, World};
 /// Notes how far a replay has come.
 #[derive(Drop)]
 struct Noting<'p> {
-    progress: &'p Progress,
+    progress: &'p RunProgress,
     events: u64,
 }
 
@@ -34,7 +34,7 @@ fn replay_noted(
     alloc: Global,
     job: &Job,
     script: &[u8],
-    progress: &Progress,
+    progress: &RunProgress,
 ) -> Result<Replayed, ReplayFault>
     ensures run { IfOk result (IsReplayOf job.now script.now) }
     ensures refused { IfErr result (IsScriptRefusal script.now) }
@@ -62,7 +62,7 @@ fn replay_shown<R: Threads + Clock + Sync>(
     if !err.is_terminal() {
         return replay_script(alloc, job, script, &mut Unwatched);
     }
-    let progress = Progress::new();
+    let progress = RunProgress::new();
     let shared = &progress;
     // (where no second thread can be made, the first closure is called last: then the replay has ended, and nothing is told)
     let (_, replayed) = join(

@@ -63,7 +63,10 @@ pub(crate) fn read_event(event: &Event) -> (Site, Deed) {
         Event::Crash(place) => (Site::At(*place), Deed::Crash),
         Event::AtHouse(event) => (Site::House, house_deed(*event)),
         Event::HouseCrash => (Site::House, Deed::Crash),
-        Event::Cut(cut) => (Site::House, Deed::Cut(cut.calls, cut.event)),
+        Event::Cut(cut) => {
+            let cut = cut.as_ref();
+            (Site::House, Deed::Cut(cut.calls, cut.event))
+        }
     }
 }
 

@@ -6,19 +6,19 @@ use Rattle.run_tables.specs.Content.{Return, Whole, Local, Slot, Full, given, Co
 use Rattle.run_tables.specs.View.{View}
 use Rattle.run_tables.specs.Facts.{result_to}
 use Rattle.run_tables.specs.Guards.{Begins}
-use Rattle.run_tables.specs.Meaning.{Part, End, Sends, Joins, Meaning, SlotFits, Fits, Runs, IsSerial}
+use Rattle.run_tables.specs.Meaning.{Part, End, Sends, Joins, Meaning, SlotFits, FitsMeaning, Runs, IsSerial}
 use Rattle.run_tables.specs.Causes.{TakesTurn, Ends, Filled, Arrives, Joined, Stays, Cause, sends, joins, is_deep, hears, hears_deep, redoes}
-use Rattle.run_tables.specs.Values.{Agrees, FillAgrees}
+use Rattle.run_tables.specs.Values.{TablesAgree, FillAgrees}
 use Rattle.run_tables.proofs.Lists.{same_or, some_same}
 use Rattle.run_tables.proofs.Made.{filled_kept, Made, stays, succeeds, begins, made, there}
 use Rattle.run_tables.proofs.Sounder.{local_frame, local_slot}
 
 -- the same place, thread and slots fit as well
-pub fits_same : (m : Meaning) {p q : List ℕ} {t u : ℕ} {a b : ℕ → Slot} → q ≡ p → u ≡ t → ((j : ℕ) → b j ≡ a j) → Fits m p t a → Fits m q u b
+pub fits_same : (m : Meaning) {p q : List ℕ} {t u : ℕ} {a b : ℕ → Slot} → q ≡ p → u ≡ t → ((j : ℕ) → b j ≡ a j) → FitsMeaning m p t a → FitsMeaning m q u b
 fits_same m e f g x = record { thread = rw (e, f) x.thread; slots = λ j. rw (e, g j) (x.slots j) }
 
 -- what a Grant begins with agrees where its task fits
-pub begun_agrees : (m : Meaning) (c : Content) (i : ℕ) → Begins c i → Fits m c.task.place c.task.thread (λ j. given c.task.numbers j) → Agrees m c
+pub begun_agrees : (m : Meaning) (c : Content) (i : ℕ) → Begins c i → FitsMeaning m c.task.place c.task.thread (λ j. given c.task.numbers j) → TablesAgree m c
 begun_agrees m c i begun fits = record {
   root = fits;
   fits = λ n r e. rw ((begun.only n r e).0) (fits_same m begun.holds.place begun.holds.thread begun.holds.numbers fits);
@@ -28,7 +28,7 @@ begun_agrees m c i begun fits = record {
 }
 
 -- where the task of a frame or record has no value, the root task has none: from each debtor to the frame that waits for it
-no_value : (m : Meaning) → IsSerial m → (c : Content) → Sound c → Agrees m c → (fuel n : ℕ) (r : Return) → n < fuel → c.returns n ≡ Some r → m.value (c.place n) ≡ None → m.value c.task.place ≡ None
+no_value : (m : Meaning) → IsSerial m → (c : Content) → Sound c → TablesAgree m c → (fuel n : ℕ) (r : Return) → n < fuel → c.returns n ≡ Some r → m.value (c.place n) ≡ None → m.value c.task.place ≡ None
 no_value m law c s a zero n r less e none = absurd (omega (arith, less))
 no_value m law c s a (suc fuel) n Whole less e none = sym (a.whole n e) ∙ none
 no_value m law c s a (suc fuel) n (Local f j) less e none =
@@ -39,10 +39,10 @@ no_value m law c s a (suc fuel) n (Local f j) less e none =
 
 -- a change after which a content agrees, and so does the fill
 pub record AgreesAfter (m : Meaning) (d : Content) (fill : Option Fill) : Type 0 where
-  pub content : Agrees m d
+  pub content : TablesAgree m d
   pub filled : (x : Fill) → fill ≡ Some x → FillAgrees m x
 
-ended : (m : Meaning) (c d : Content) (o : Option ℤ) (fill : Option Fill) → Ends c d o fill → d.task ≡ c.task → o ≡ m.value c.task.place → Agrees m c → AgreesAfter m d fill
+ended : (m : Meaning) (c d : Content) (o : Option ℤ) (fill : Option Fill) → Ends c d o fill → d.task ≡ c.task → o ≡ m.value c.task.place → TablesAgree m c → AgreesAfter m d fill
 ended m c d o fill end task is a = record {
   content = record {
     root = rw task a.root;
@@ -55,7 +55,7 @@ ended m c d o fill end task is a = record {
 }
 
 -- a value comes to a slot
-slot_filled : (m : Meaning) (g : Grant) (c d : Content) (n f j : ℕ) (x : ℤ) (fill : Option Fill) → Filled g c d n f j x fill → c.returns n ≡ Some (Local f j) → d.task ≡ c.task → m.value (c.place n) ≡ Some x → Sound c → Agrees m c → AgreesAfter m d fill
+slot_filled : (m : Meaning) (g : Grant) (c d : Content) (n f j : ℕ) (x : ℤ) (fill : Option Fill) → Filled g c d n f j x fill → c.returns n ≡ Some (Local f j) → d.task ≡ c.task → m.value (c.place n) ≡ Some x → Sound c → TablesAgree m c → AgreesAfter m d fill
 slot_filled m g c d n f j x fill change e task value s a = record {
   content = record {
     root = rw task a.root;
@@ -80,7 +80,7 @@ slot_filled m g c d n f j x fill change e task value s a = record {
     missed k l (inl o) = grind (arith, o)
     missed k l (inr o) = grind (arith, o)
 
-    slot : (k l : ℕ) → Fits m (c.place k) (c.thread k) (c.slots k) → SlotFits (m.slot (c.place k) l) (put_at c.slots f j (Full x) k l)
+    slot : (k l : ℕ) → FitsMeaning m (c.place k) (c.thread k) (c.slots k) → SlotFits (m.slot (c.place k) l) (put_at c.slots f j (Full x) k l)
     slot k l was = ⊎_elim
         (λ (is : k ≡ f). ⊎_elim
         (λ (too : l ≡ j). rw (is, too, gets) at_slot)
@@ -90,20 +90,20 @@ slot_filled m g c d n f j x fill change e task value s a = record {
         (same_or k f)
 
 -- a value comes to where it is awaited
-arrived : (m : Meaning) (g : Grant) (c d : Content) (n : ℕ) (r : Return) (x : ℤ) (fill : Option Fill) → Arrives g c d n r x fill → c.returns n ≡ Some r → d.task ≡ c.task → m.value (c.place n) ≡ Some x → Sound c → Agrees m c → AgreesAfter m d fill
+arrived : (m : Meaning) (g : Grant) (c d : Content) (n : ℕ) (r : Return) (x : ℤ) (fill : Option Fill) → Arrives g c d n r x fill → c.returns n ≡ Some r → d.task ≡ c.task → m.value (c.place n) ≡ Some x → Sound c → TablesAgree m c → AgreesAfter m d fill
 arrived m g c d n Whole x fill end e task value s a = ended m c d (Some x) fill end task (sym value ∙ a.whole n e) a
 arrived m g c d n (Local f j) x fill change e task value s a = slot_filled m g c d n f j x fill change e task value s a
 
 -- too deep is the end of the whole
-sunk : (m : Meaning) → IsSerial m → (c d : Content) (n : ℕ) (r : Return) (fill : Option Fill) → Ends c d None fill → c.returns n ≡ Some r → d.task ≡ c.task → m.value (c.place n) ≡ None → Sound c → Agrees m c → AgreesAfter m d fill
+sunk : (m : Meaning) → IsSerial m → (c d : Content) (n : ℕ) (r : Return) (fill : Option Fill) → Ends c d None fill → c.returns n ≡ Some r → d.task ≡ c.task → m.value (c.place n) ≡ None → Sound c → TablesAgree m c → AgreesAfter m d fill
 sunk m law c d n r fill end e task none s a = ended m c d None fill end task (sym (no_value m law c s a (suc n) n r (omega arith) e none)) a
 
 -- a frame that takes its turn runs the thread of its place
-runs : (m : Meaning) (c : Content) (n : ℕ) (end : End) (turn : TakesTurn m c n end) → Agrees m c → Runs m (c.place n) (c.thread n) turn.numbers end
+runs : (m : Meaning) (c : Content) (n : ℕ) (end : End) (turn : TakesTurn m c n end) → TablesAgree m c → Runs m (c.place n) (c.thread n) turn.numbers end
 runs m c n end turn a = record { fits = fits_same m refl refl (λ j. sym (turn.holds j)) (a.fits n turn.frame.returns turn.frame.there); ends = turn.ends }
 
 -- a frame joins
-join : (m : Meaning) → IsSerial m → (c d : Content) (n u : ℕ) (r : Return) (numbers : List ℤ) (parts : List Part) → Joined c d n u r parts → c.returns n ≡ Some r → d.task ≡ c.task → Runs m (c.place n) (c.thread n) numbers (Joins u parts) → length (c.place n) < 1024 → Sound c → Agrees m c → Agrees m d
+join : (m : Meaning) → IsSerial m → (c d : Content) (n u : ℕ) (r : Return) (numbers : List ℤ) (parts : List Part) → Joined c d n u r parts → c.returns n ≡ Some r → d.task ≡ c.task → Runs m (c.place n) (c.thread n) numbers (Joins u parts) → length (c.place n) < 1024 → Sound c → TablesAgree m c → TablesAgree m d
 join m law c d n u r numbers parts change e task run room s a = record {
   root = rw task a.root;
   fits = λ k q x. fits k q (made change k q x);
@@ -118,7 +118,7 @@ join m law c d n u r numbers parts change e task run room s a = record {
     apart : {h l : ℕ} → Whole ≡ Local h l → ⊥
     apart x = cc
 
-    fits : (k : ℕ) (q : Return) → Made c d n r parts change.number k q → Fits m (d.place k) (d.thread k) (d.slots k)
+    fits : (k : ℕ) (q : Return) → Made c d n r parts change.number k q → FitsMeaning m (d.place k) (d.thread k) (d.slots k)
     fits k q (stays less other old) = let same = (change.kept k less other).1 in fits_same m same.place same.thread same.slots (a.fits k q old)
     fits k q (succeeds is to) = rw is (fits_same m change.place change.thread change.slots (law.successor (c.place n) (c.thread n) u numbers parts run room))
     fits k q (begins j hole t own part is to) =
@@ -144,7 +144,7 @@ join m law c d n u r numbers parts change e task run room s a = record {
     whole k (begins j hole t own part is to) = absurd (apart to)
 
 -- nothing happens to the values
-stayed : (m : Meaning) (c d : Content) → Stays c d → d.task ≡ c.task → Sound c → Agrees m c → Agrees m d
+stayed : (m : Meaning) (c d : Content) → Stays c d → d.task ≡ c.task → Sound c → TablesAgree m c → TablesAgree m d
 stayed m c d change task s a = record {
   root = rw task a.root;
   fits = λ k r x. let same = change.work k in fits_same m same.place same.thread same.slots (a.fits k r (sym (change.returns k) ∙ x));
@@ -155,7 +155,7 @@ stayed m c d change task s a = record {
 
 -- whatever the cause, where Results that were heard tell their records' values
 pub caused : (m : Meaning) → IsSerial m → (v : View) (i : ℕ) (g : Grant) (c d : Content) (fill : Option Fill) → Cause m v i g c d fill → d.task ≡ c.task
-    → ((n : ℕ) (k : Grant) (o : Option ℤ) → c.granted n ≡ Some k → result_to k i o ∈ v.results → o ≡ m.value (c.place n)) → Sound c → Agrees m c → AgreesAfter m d fill
+    → ((n : ℕ) (k : Grant) (o : Option ℤ) → c.granted n ≡ Some k → result_to k i o ∈ v.results → o ≡ m.value (c.place n)) → Sound c → TablesAgree m c → AgreesAfter m d fill
 caused m law v i g c d fill (sends n x turn change) task heard s a =
     let value = law.sent (c.place n) (c.thread n) turn.numbers x (runs m c n (Sends x) turn a) in
     arrived m g c d n turn.frame.returns x fill change turn.frame.there task value s a

@@ -11,7 +11,7 @@ use Rattle.serial_meaning.specs.Serial.{TaskValue, slot_value, slot_values, seri
 use Rattle.serial_meaning.specs.Places.{Call, room, after_step, task_at, turn_at, value_within, value_at}
 use Rattle.serial_meaning.proofs.FrameLaws.{call_of, sent_value, joined_value, last_value, kid_small, kid_task}
 use Rattle.run_tables.specs.Content.{given}
-use Rattle.run_tables.specs.Meaning.{Part, Kid, Sends, Joins, begun, SlotFits, Fits, Runs, IsSerial}
+use Rattle.run_tables.specs.Meaning.{Part, Kid, Sends, Joins, begun, SlotFits, FitsMeaning, Runs, IsSerial}
 use Rattle.run_tables.specs.Program.{part_of, end_of, ends_on, next_thread, next_slot, number_slot, frame_slot, program_meaning}
 use Rattle.run_tables.proofs.Lists.{some_same}
 
@@ -48,7 +48,7 @@ then_again : {A B C : Type 0} (o : Option A) (f : A → Option B) (g : B → Opt
 then_again None f g = refl
 then_again (Some a) f g = refl
 
-held : (p : Program) (input : List ℤ) (place : List ℕ) (t : ℕ) (numbers : List ℤ) → Fits (program_meaning p input) place t (λ j. given numbers j) → task_at p input place ≡ Some (call_of t numbers)
+held : (p : Program) (input : List ℤ) (place : List ℕ) (t : ℕ) (numbers : List ℤ) → FitsMeaning (program_meaning p input) place t (λ j. given numbers j) → task_at p input place ≡ Some (call_of t numbers)
 held p input [] t numbers fits = called (task_at p input []) t numbers fits.thread fits.slots
 held p input (zero ∷ q) t numbers fits =
     let f = serial p (room (zero ∷ q)) in
@@ -101,7 +101,7 @@ kid_named (Filled v ∷ slots) (suc j) hole t own e = let rest = kid_named slots
 kid_named (Awaits other ∷ slots) (suc j) hole t own e = let rest = kid_named slots j hole t own e in record { kid = rest.kid; there = rest.there; hole_is = rest.hole_is; thread = rest.thread; numbers = rest.numbers }
 
 -- a frame that begins with its task's numbers fits, after a step to a kid
-kid_fits : (p : Program) (input : List ℤ) (place : List ℕ) (hole t : ℕ) (own : List ℤ) → 0 < hole → task_at p input (hole ∷ place) ≡ Some (call_of t own) → Fits (program_meaning p input) (hole ∷ place) t (λ l. given own l)
+kid_fits : (p : Program) (input : List ℤ) (place : List ℕ) (hole t : ℕ) (own : List ℤ) → 0 < hole → task_at p input (hole ∷ place) ≡ Some (call_of t own) → FitsMeaning (program_meaning p input) (hole ∷ place) t (λ l. given own l)
 kid_fits p input place zero t own first e = absurd (omega (arith, first))
 kid_fits p input place (suc i) t own first e = record { thread = rw e refl; slots = λ l. rw e (numbers_fit own l) }
 
@@ -137,7 +137,7 @@ lacking p input (zero ∷ q) j e =
 lacking p input (suc i ∷ q) j e = absurd (number_there (task_at p input (suc i ∷ q)) j e)
 
 -- the successor of a join fits at its place
-next_fits : (p : Program) (input : List ℤ) (place : List ℕ) (t u : ℕ) (numbers : List ℤ) (slots : List JoinSlot) (parts : List Part) → task_at p input place ≡ Some (call_of t numbers) → turn_of p t numbers ≡ Some (TurnJoins u slots) → parts ≡ map part_of slots → Fits (program_meaning p input) (0 ∷ place) u (λ j. begun parts j)
+next_fits : (p : Program) (input : List ℤ) (place : List ℕ) (t u : ℕ) (numbers : List ℤ) (slots : List JoinSlot) (parts : List Part) → task_at p input place ≡ Some (call_of t numbers) → turn_of p t numbers ≡ Some (TurnJoins u slots) → parts ≡ map part_of slots → FitsMeaning (program_meaning p input) (0 ∷ place) u (λ j. begun parts j)
 next_fits p input place t u numbers slots parts task turn all = record {
   thread = rw (task, turn) refl;
   slots = λ j. rw (task, turn, all) (successor_fits (serial p (room (0 ∷ place))) u slots j);
@@ -161,7 +161,7 @@ module _ (p : Program) (input : List ℤ) (place : List ℕ) (t u : ℕ) (number
   turn : JoinTurn (turn_of p t numbers) u parts
   turn = joins_turn (turn_of p t numbers) u parts run.ends
 
-  next_there : Fits (program_meaning p input) (0 ∷ place) u (λ j. begun parts j)
+  next_there : FitsMeaning (program_meaning p input) (0 ∷ place) u (λ j. begun parts j)
   next_there = next_fits p input place t u numbers turn.slots parts task turn.turn turn.parts_are
 
   named : (j hole x : ℕ) (own : List ℤ) → slice_get parts j ≡ Some (Kid hole x own) → KidOf turn.slots j hole x own

@@ -4,7 +4,7 @@ use Rattle.std.proofs.Common.{◌≡◌, ℕ, suc, zero, pos, nat_eq, ◌&&◌, 
 use Rattle.run_tables.specs.Content.{Content, Whole, Local, Absent, Full, given, Fill, regrant}
 use Rattle.run_tables.specs.View.{Result, View}
 use Rattle.run_tables.specs.Moves.{alter, commit}
-use Rattle.run_tables.specs.Acts.{Reached, commits, alters}
+use Rattle.run_tables.specs.Acts.{ReachedInTables, commits, alters}
 use Rattle.run_tables.specs.Causes.{Filled, Cause, sends, hears}
 use Rattle.run_tables.specs.Runs.{Run, by_right}
 use Rattle.run_tables.proofs.SampleJob.{sample_job}
@@ -65,7 +65,7 @@ filled_run = by_right (by_right heard_run
     (record { host = refl; task = refl; fewer = λ n k e. cc; keeps = λ n k e. cc; result_own = λ x m. absurd m; result_host = λ x m. absurd m; result_outcome = λ x m. absurd m; had = λ k. elim [ inl e ↦ rw e (record { number = 2; is = refl }) | inr m ↦ absurd m ]; lost = λ k m r. let is = r.is in cc }))
     kid_comes
 
-pub filled_reached : Reached filled_view
+pub filled_reached : ReachedInTables filled_view
 filled_reached = run_reached filled_run
 
 -- the root's frame sends what it got, and the house records it

@@ -1,7 +1,7 @@
 -- The job of the sample runs: its first task joins a successor with one kid, the kid sends 7, and the successor sends what it got.
 use Rattle.std.proofs.Common.{◌≡◌, ℕ, ℤ, pos, suc, zero, List, [], ◌∷◌, Option, Some, None, slice_get, refl, arith}
 use Rattle.run_tables.specs.Content.{given}
-use Rattle.run_tables.specs.Meaning.{Part, Kid, End, Sends, Joins, begun, Meaning, SlotFits, Fits, Runs, IsSerial}
+use Rattle.run_tables.specs.Meaning.{Part, Kid, End, Sends, Joins, begun, Meaning, SlotFits, FitsMeaning, Runs, IsSerial}
 use Rattle.run_tables.proofs.Lists.{some_same}
 
 -- threads by place: the first task, its successor, its kid
@@ -78,7 +78,7 @@ only_first (suc (suc i) ∷ []) t u numbers parts run = let none : None ≡ Some
 only_first (i ∷ j ∷ place) t u numbers parts run = let none : None ≡ Some t = run.fits.thread in cc
 
 -- the successor
-fits_next : Fits sample_job (0 ∷ []) 1 (λ j. begun parts_of j)
+fits_next : FitsMeaning sample_job (0 ∷ []) 1 (λ j. begun parts_of j)
 fits_next = record { thread = refl; slots = slots }
   where
     slots : (j : ℕ) → SlotFits (slot_at (0 ∷ []) j) (begun parts_of j)
@@ -96,7 +96,7 @@ only_kid : (j hole x : ℕ) (own : List ℤ) → slice_get parts_of j ≡ Some (
 only_kid zero hole x own e = record { slot = refl; hole_is = cc; thread = cc; numbers = cc }
 only_kid (suc j) hole x own e = cc
 
-fits_kid : Fits sample_job (1 ∷ []) 2 (λ l. given [] l)
+fits_kid : FitsMeaning sample_job (1 ∷ []) 2 (λ l. given [] l)
 fits_kid = record { thread = refl; slots = λ j. tt }
 
 never : (place : List ℕ) (j : ℕ) → slot_at place j ≡ Some None → ⊥

@@ -80,7 +80,7 @@ pub record Joined (c d : Content) (n u : ℕ) (r : Return) (parts : List Part) :
   pub next : c.next < d.next
   pub active : d.outcome ≡ None
 
--- nothing changes but that records may be frames again
+-- nothing changes, except that records may be frames again
 pub record Stays (c d : Content) : Type 0 where
   pub fewer : (n : ℕ) (k : Grant) → d.granted n ≡ Some k → c.granted n ≡ Some k
   pub returns : (n : ℕ) → d.returns n ≡ c.returns n
@@ -97,5 +97,5 @@ pub data Cause (m : Meaning) (v : View) (i : ℕ) (g : Grant) (c d : Content) (f
   -- the Result of record n's grant came, with a number or too deep
   hears : (n : ℕ) (k : Grant) (r : Return) (x : ℤ) (numbers : List ℤ) → c.granted n ≡ Some k → c.returns n ≡ Some r → ((j : ℕ) → c.slots n j ≡ given numbers j) → result_to k i (Some x) ∈ v.results → Arrives g c d n r x fill → Cause m v i g c d fill
   hears_deep : (n : ℕ) (k : Grant) (r : Return) → c.granted n ≡ Some k → c.returns n ≡ Some r → result_to k i None ∈ v.results → Ends c d None fill → Cause m v i g c d fill
-  -- a record is a frame again, or nothing happens but that a Result is sent again
+  -- a record is a frame again, or nothing happens, except that a Result is sent again
   redoes : Stays c d → fill ≡ None → Cause m v i g c d fill

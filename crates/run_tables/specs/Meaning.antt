@@ -41,13 +41,13 @@ SlotFits (Some value) Empty = Unit {0}
 SlotFits (Some value) (Full v) = value ≡ Some v
 
 -- a frame of thread t with this row of slots is the one that the meaning has at the place
-pub record Fits (m : Meaning) (place : List ℕ) (t : ℕ) (row : ℕ → Slot) : Type 0 where
+pub record FitsMeaning (m : Meaning) (place : List ℕ) (t : ℕ) (row : ℕ → Slot) : Type 0 where
   pub thread : m.thread place ≡ Some t
   pub slots : (j : ℕ) → SlotFits (m.slot place j) (row j)
 
 -- a thread whose frame at a place fits, holding these numbers, and whose turn on them ends so
 pub record Runs (m : Meaning) (place : List ℕ) (t : ℕ) (numbers : List ℤ) (end : End) : Type 0 where
-  pub fits : Fits m place t (λ j. given numbers j)
+  pub fits : FitsMeaning m place t (λ j. given numbers j)
   pub ends : m.ends t numbers ≡ Some end
 
 -- what is used of the serial meaning
@@ -58,9 +58,9 @@ pub record IsSerial (m : Meaning) : Type 0 where
   pub joined : (place : List ℕ) (t u : ℕ) (numbers : List ℤ) (parts : List Part) → Runs m place t numbers (Joins u parts) → length place < 1024 → m.value place ≡ m.value (0 ∷ place)
   pub deep : (place : List ℕ) (t u : ℕ) (numbers : List ℤ) (parts : List Part) → Runs m place t numbers (Joins u parts) → 1024 ≤ length place → m.value place ≡ None
   -- the new successor is the frame at its place (`successor_agrees`, new)
-  pub successor : (place : List ℕ) (t u : ℕ) (numbers : List ℤ) (parts : List Part) → Runs m place t numbers (Joins u parts) → length place < 1024 → Fits m (0 ∷ place) u (λ j. begun parts j)
+  pub successor : (place : List ℕ) (t u : ℕ) (numbers : List ℤ) (parts : List Part) → Runs m place t numbers (Joins u parts) → length place < 1024 → FitsMeaning m (0 ∷ place) u (λ j. begun parts j)
   -- a kid is the frame at its place, and its value is what its slot gets (`kids_value_fills_its_slot`, task and value)
-  pub kid : (place : List ℕ) (t u : ℕ) (numbers : List ℤ) (parts : List Part) (j hole x : ℕ) (given_kid : List ℤ) → Runs m place t numbers (Joins u parts) → length place < 1024 → slice_get parts j ≡ Some (Kid hole x given_kid) → Fits m (hole ∷ place) x (λ l. given given_kid l)
+  pub kid : (place : List ℕ) (t u : ℕ) (numbers : List ℤ) (parts : List Part) (j hole x : ℕ) (given_kid : List ℤ) → Runs m place t numbers (Joins u parts) → length place < 1024 → slice_get parts j ≡ Some (Kid hole x given_kid) → FitsMeaning m (hole ∷ place) x (λ l. given given_kid l)
   pub kid_value : (place : List ℕ) (t u : ℕ) (numbers : List ℤ) (parts : List Part) (j hole x : ℕ) (given_kid : List ℤ) → Runs m place t numbers (Joins u parts) → length place < 1024 → slice_get parts j ≡ Some (Kid hole x given_kid) → m.slot (0 ∷ place) j ≡ Some (m.value (hole ∷ place))
   -- where a slot gets no value, its frame's task has none (the definition of `task_at`: a successor's task is on the values of
   -- all its slots)

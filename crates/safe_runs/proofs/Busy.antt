@@ -10,7 +10,7 @@ use Rattle.clearinghouse.specs.House.{HouseOf}
 use Rattle.clearinghouse.specs.declared.parts.RootGrant.{RootGrant}
 use Rattle.run_tables.specs.View.{Sub, View}
 use Rattle.run_tables.specs.Facts.{Live}
-use Rattle.run_tables.specs.Acts.{Reached}
+use Rattle.run_tables.specs.Acts.{ReachedInTables}
 use Rattle.run_tables.specs.Work as tables
 use Rattle.run_tables.proofs.Lists.{some_same}
 use Rattle.run_tables.proofs.SomeWork.{work_somewhere}
@@ -33,11 +33,11 @@ is_over Active o e = cc
 is_over (Finished x) o e = tt
 
 -- a sub that has work shows one that has
-has_work : (t : Sub) (x : SubOf) → IsShown t x → ((o : Option ℤ) × (t.content.outcome ≡ Some o)) ⊎ tables.Ready t.content → HasWork x
+has_work : (t : Sub) (x : SubOf) → IsShown t x → ((o : Option ℤ) × (t.content.outcome ≡ Some o)) ⊎ tables.ReadyInTables t.content → HasWork x
 has_work t x is (inl over) = inl (is_over x.content.progress over.0 (sym is.content.outcome ∙ over.1))
 has_work t x is (inr ready) = inr (ready.frame, ready_there t.content x.content is.kept is.content ready)
 
-module _ (job : JobOf) (v : View) (w : WorldOf) (shown : Shown job v w) (reached : Reached v) (h : HouseOf) (s : OpenShown v h) (root : RootGrant) (out : h.root ≡ Some root) where
+module _ (job : JobOf) (v : View) (w : WorldOf) (shown : Shown job v w) (reached : ReachedInTables v) (h : HouseOf) (s : OpenShown v h) (root : RootGrant) (out : h.root ≡ Some root) where
   -- a grant of a record that tables have is wanted if its host is
   record_wanted : (host g : Grant) (i n : ℕ) (t : Sub) → Wanted w h host → Live v i host t → t.content.granted n ≡ Some g → Wanted w h g
   record_wanted host g i n t wanted there is =
@@ -56,7 +56,7 @@ module _ (job : JobOf) (v : View) (w : WorldOf) (shown : Shown job v w) (reached
   wanted_there g (tables.as_record host k i t n wanted there is) = record_wanted host k i n t (wanted_there host wanted) there is
 
   -- who holds a grant live does so in the tables
-  holds_there : (g : Grant) → IsLive w g → tables.Holder v g
+  holds_there : (g : Grant) → IsLive w g → tables.HasHolder v g
   holds_there g found =
       let at : Holder w found.0 g = found.1 in
       let held = live_there v at.node g at.sub (shown.nodes found.0 at.node at.up) at.live in

@@ -8,7 +8,7 @@ use Rattle.clearinghouse.specs.House.{HouseOf}
 use Rattle.clearinghouse.specs.declared.parts.RootGrant.{RootGrant}
 use Rattle.run_tables.specs.View.{View}
 use Rattle.run_tables.specs.Facts.{Came, RecordOf}
-use Rattle.run_tables.specs.Acts.{Reached}
+use Rattle.run_tables.specs.Acts.{ReachedInTables}
 use Rattle.run_tables.specs.Recovery.{Comes, from_holder, from_thief, from_leaver, from_redo}
 use Rattle.run_tables.proofs.NamesReached.{names_reached}
 use Rattle.run_tables.proofs.NothingLost.{record_comes, root_comes}
@@ -25,7 +25,7 @@ use Rattle.safe_runs.proofs.Root.{root_there}
 use Rattle.safe_runs.proofs.SentWork.{awaits, was_sent}
 use Rattle.safe_runs.proofs.Up.{held_frozen, held_live}
 
-module _ (job : JobOf) (v : View) (w : WorldOf) (shown : Shown job v w) (reached : Reached v) (h : HouseOf) (s : OpenShown v h) where
+module _ (job : JobOf) (v : View) (w : WorldOf) (shown : Shown job v w) (reached : ReachedInTables v) (h : HouseOf) (s : OpenShown v h) where
   -- from each place where the tables say that it can
   comes_there : (host g : Grant) → ((i : ℕ) → (Came v.transfers g i) ⊎ (Came v.transfers host i) → Carried w g i) → Comes v s.roster host g → Found w h g
   comes_there host g carried (from_holder i t there) = let held = held_live job v w shown i g t there in live (held.at, held.holder)

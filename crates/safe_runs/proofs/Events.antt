@@ -4,10 +4,10 @@ use Rattle.ids.specs.Names.{is_worker}
 use Rattle.ids.specs.declared.outcome.Outcome.{Outcome}
 use Rattle.serial_meaning.specs.Job.{JobOf, meaning_of as job_meaning}
 use Rattle.serial_meaning.specs.Places.{outcome_of}
-use Rattle.content_moves.specs.Shown.{number_of}
+use Rattle.content_moves.specs.Shown.{outcome_number}
 use Rattle.node_state.specs.Node.{NodeOf}
 use Rattle.node_core.specs.Calls as call
-use Rattle.node_core.specs.Cases.{Choice}
+use Rattle.node_core.specs.Cases.{Candidate}
 use Rattle.node_core.specs.Cases as cases
 use Rattle.event_script.specs.declared.event.Event.{Event}
 use Rattle.event_script.specs.declared.event.Event.TheVariants.{Start, AtNode, Crash, AtHouse, HouseCrash, Cut}
@@ -27,12 +27,12 @@ use Rattle.world_steps.specs.Nodes.{at_node, grant_of, starts, victim_of}
 use Rattle.world_steps.specs.Runs.{CanBegin, Entry, Runs, ends, goes}
 use Rattle.world_steps.specs.Steps.{HouseEnds, HouseHalts, IsCut, Step, ThenCut, ThenStopped, house_crash, settled_by}
 use Rattle.world_steps.specs.World.{Down, HouseAt, IsUp, WorldOf, first_over, is_used, node_in, with_used}
-use Rattle.house_moves.specs.Steps.{meaning_of}
+use Rattle.house_moves.specs.Steps.{tables_meaning}
 use Rattle.house_moves.specs.Shows.{stored_of}
 use Rattle.clearinghouse.specs.House.{Stopped}
 use Rattle.clearinghouse.specs.declared.parts.Stop.TheVariants as by
 use Rattle.disk.specs.Device.{Device}
-use Rattle.disk.specs.File.{settled}
+use Rattle.disk.specs.File.{settled_file}
 use Rattle.event_script.specs.declared.event.HouseEvent.{HouseEvent}
 use Rattle.event_script.specs.declared.event.Cut.{Cut as CutOf}
 use Rattle.safe_runs.proofs.Disks.{settled_keeps}
@@ -50,12 +50,12 @@ module _ (job : JobOf) (base : View) (w : WorldOf) (tied : TiedSince job base w)
   with_there (Some a) f all = all a refl
 
   module _ (a : ℕ) (n : NodeOf) (there : node_in a w.nodes ≡ Some n) where
-    at_node_tied : (choice : Option Choice) (e : NodeEvent) → TiedSince job base (at_node job choice a e n w).world
-    at_node_tied choice (Deliver i) = with_there (slice_get w.net i) (λ p. answered a (cases.on_packet job choice p n) w) (λ p e. answered_tied job base tied.view w tied.run tied.since tied.shown a n there (cases.on_packet job choice p n) (packet_shown (meaning_of job) job tied.view n tied.run (tied.shown.nodes a n there) choice p (tied.shown.net p (got w.net i p e))))
+    at_node_tied : (choice : Option Candidate) (e : NodeEvent) → TiedSince job base (at_node job choice a e n w).world
+    at_node_tied choice (Deliver i) = with_there (slice_get w.net i) (λ p. answered a (cases.on_packet job choice p n) w) (λ p e. answered_tied job base tied.view w tied.run tied.since tied.shown a n there (cases.on_packet job choice p n) (packet_shown (tables_meaning job) job tied.view n tied.run (tied.shown.nodes a n there) choice p (tied.shown.net p (got w.net i p e))))
     at_node_tied choice (Exec f) = answered_tied job base tied.view w tied.run tied.since tied.shown a n there (call.exec_ready job (grant_of f) f.frame n) (exec_ready_shown job tied.view n tied.run (tied.shown.nodes a n there) (grant_of f) f.frame)
-    at_node_tied choice (Ask v) = answered_tied job base tied.view w tied.run tied.since tied.shown a n there (call.ask job (victim_of v) n) (ask_shown (meaning_of job) job tied.view n tied.run (tied.shown.nodes a n there) (victim_of v))
-    at_node_tied choice Resend = answered_tied job base tied.view w tied.run tied.since tied.shown a n there (call.resend job n) (resend_shown (meaning_of job) job tied.view n tied.run (tied.shown.nodes a n there))
-    at_node_tied choice (Depart heir) = answered_tied job base tied.view w tied.run tied.since tied.shown a n there (call.depart job heir n) (depart_shown (meaning_of job) job tied.view n tied.run (tied.shown.nodes a n there) heir)
+    at_node_tied choice (Ask v) = answered_tied job base tied.view w tied.run tied.since tied.shown a n there (call.ask job (victim_of v) n) (ask_shown (tables_meaning job) job tied.view n tied.run (tied.shown.nodes a n there) (victim_of v))
+    at_node_tied choice Resend = answered_tied job base tied.view w tied.run tied.since tied.shown a n there (call.resend job n) (resend_shown (tables_meaning job) job tied.view n tied.run (tied.shown.nodes a n there))
+    at_node_tied choice (Depart heir) = answered_tied job base tied.view w tied.run tied.since tied.shown a n there (call.depart job heir n) (depart_shown (tables_meaning job) job tied.view n tied.run (tied.shown.nodes a n there) heir)
 
   starts_tied : (a word : ℕ) → TiedSince job base (starts job a word w).world
   unfolding of_worker
@@ -79,7 +79,7 @@ module _ (job : JobOf) (base : View) (w : WorldOf) (tied : TiedSince job base w)
 
   falls_tied : (x : HouseAt) → w.house ≡ x → TiedSince job base (house_crash x w).world
   falls_tied Down is = tied
-  falls_tied (IsUp state) is = shut_tied job base w tied Down (record w.disk { file = settled w.disk.file [] }) is_down (λ n r k. settled_keeps w.disk.file [] n r k)
+  falls_tied (IsUp state) is = shut_tied job base w tied Down (record w.disk { file = settled_file w.disk.file [] }) is_down (λ n r k. settled_keeps w.disk.file [] n r k)
 
   -- a call of the disk fails, and the clearinghouse is stopped
   stopped_tied : (e : HouseEvent) (k : ℕ) (bytes : List ℕ) (o : StepResult) → ThenStopped (HouseHalts job e w.house k bytes w) o → TiedSince job base o.world
@@ -111,10 +111,10 @@ module _ (job : JobOf) (base : View) (w : WorldOf) (tied : TiedSince job base w)
   step_tied (Crash a) o (inr x) = absurd x
 
 -- what an outcome of a job's meaning is in the tables
-means_at_root : (job : JobOf) (o : Outcome) → o ≡ job_meaning job → number_of o ≡ (meaning_of job).value []
-means_at_root job o is = ap number_of is ∙ told ((meaning_of job).value [])
+means_at_root : (job : JobOf) (o : Outcome) → o ≡ job_meaning job → outcome_number o ≡ (tables_meaning job).value []
+means_at_root job o is = ap outcome_number is ∙ told ((tables_meaning job).value [])
   where
-    told : (x : Option ℤ) → number_of (outcome_of x) ≡ x
+    told : (x : Option ℤ) → outcome_number (outcome_of x) ≡ x
     told None = refl
     told (Some n) = refl
 
@@ -138,9 +138,9 @@ first_tied job d can = record {
   };
 }
   where
-    meant : (x : Option Outcome) → can.found.outcome ≡ x → (o : Option ℤ) → stored_of x ≡ Some o → o ≡ (meaning_of job).value []
+    meant : (x : Option Outcome) → can.found.outcome ≡ x → (o : Option ℤ) → stored_of x ≡ Some o → o ≡ (tables_meaning job).value []
     meant None e o is = cc
-    meant (Some y) e o is = let same : number_of y ≡ o = cc in sym same ∙ means_at_root job y (can.meant y e)
+    meant (Some y) e o is = let same : outcome_number y ≡ o = cc in sym same ∙ means_at_root job y (can.meant y e)
 
 -- so each world of a run is tied
 pub runs_tied : (job : JobOf) (base : View) (w : WorldOf) (entries : List Entry) (worlds : List WorldOf) → Runs job w entries worlds → TiedSince job base w → (v : WorldOf) → v ∈ worlds → TiedSince job base v

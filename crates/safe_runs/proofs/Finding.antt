@@ -2,8 +2,8 @@
 use Rattle.std.proofs.Common.{◌≡◌, ℕ, false, List, inl, inr, Some, refl, ap, subst, ◌∙◌}
 use Rattle.disk.specs.File.{bytes_of}
 use Rattle.disk.proofs.Crashes.{crash-leaves-bytes_of}
-use Rattle.checkpoint.specs.Store.{IsRefused, Reads}
-use Rattle.checkpoint.specs.declared.record.Record.{Record}
+use Rattle.checkpoint.specs.Store.{IsRefused, ReadsAsStore}
+use Rattle.checkpoint.specs.declared.record.CheckpointRecord.{CheckpointRecord}
 use Rattle.checkpoint.specs.declared.record.StoreError.{StoreError}
 use Rattle.checkpoint.specs.declared.record.StoreError.TheVariants.{Spent, JobMismatch, Damaged, Device, Version}
 use Rattle.checkpoint.proofs.Opened.{one_kept}
@@ -17,7 +17,7 @@ use Rattle.event_script.specs.declared.event.Event.TheVariants.{Start, AtNode, C
 use Rattle.event_script.specs.declared.event.HouseEvent.{HouseEvent}
 use Rattle.event_script.specs.declared.event.HouseEvent.TheVariants.{Deliver, Tick, Restart}
 use Rattle.run_tables.specs.Tables.{◌∈◌}
-use Rattle.world_steps.specs.Answers.{Answer, StepResult, Unfit, Ignored, Refused, Did, House}
+use Rattle.world_steps.specs.Answers.{WorldAnswer, StepResult, Unfit, Ignored, Refused, Did, House}
 use Rattle.world_steps.specs.Houses.{IsRefusedAs, RestartHalts, Restarts}
 use Rattle.world_steps.specs.Runs.{Entry, Runs, ends, goes}
 use Rattle.world_steps.specs.Steps.{DeviceFails, HouseEnds, HouseHalts, IsCut, Step, stopped_answer}
@@ -27,7 +27,7 @@ use Rattle.safe_runs.specs.Shown.{Tied, tied_here, tied_of}
 use Rattle.safe_runs.proofs.Events.{step_tied}
 
 -- a clearinghouse that is stopped tells why as before
-stopped_finds : (a : Answer) → FindsItsStore a → FindsItsStore (stopped_answer a)
+stopped_finds : (a : WorldAnswer) → FindsItsStore a → FindsItsStore (stopped_answer a)
 stopped_finds Unfit f = tt
 stopped_finds Ignored f = tt
 stopped_finds (Refused e) f = tt
@@ -36,7 +36,7 @@ stopped_finds (House e sent outcome) f = f
 
 module _ (job : JobOf) (w : WorldOf) (tied : Tied job w) where
   -- the file reads as what is kept
-  reads : Reads (bytes_of w.disk.file) tied.shown.disk.sequence tied.shown.disk.found
+  reads : ReadsAsStore (bytes_of w.disk.file) tied.shown.disk.sequence tied.shown.disk.found
   reads = (tied.shown.disk.keeps.second, tied.shown.disk.keeps.each (bytes_of w.disk.file) (crash-leaves-bytes_of w.disk.file))
 
   not_refused : (s : StoreError) → IsRefused s (bytes_of w.disk.file) job.number → finds_none (Some (error_of_store s)) ≡ false
@@ -44,7 +44,7 @@ module _ (job : JobOf) (w : WorldOf) (tied : Tied job w) where
   not_refused Damaged (known, none) = absurd (none tied.shown.disk.sequence tied.shown.disk.found reads)
   not_refused JobMismatch (n, r, read, other) =
       let one = one_kept w.disk.file read.0 n tied.shown.disk.sequence r tied.shown.disk.found read.1 tied.shown.disk.keeps in
-      absurd (other (ap (λ (x : Record). x.job) one.1 ∙ tied.shown.disk.own))
+      absurd (other (ap (λ (x : CheckpointRecord). x.job) one.1 ∙ tied.shown.disk.own))
   not_refused Spent never = absurd never
   not_refused Device never = absurd never
 

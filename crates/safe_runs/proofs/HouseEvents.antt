@@ -7,7 +7,7 @@ use Rattle.serial_meaning.specs.Job.{JobOf}
 use Rattle.clearinghouse.specs.Calls.{passes}
 use Rattle.clearinghouse.specs.Cases.{on_packet}
 use Rattle.clearinghouse.specs.House.{HouseOf, Open, Stopped}
-use Rattle.clearinghouse.specs.Laws.{Keeps}
+use Rattle.clearinghouse.specs.Laws.{KeepsHouse}
 use Rattle.clearinghouse.specs.Steps as house
 use Rattle.clearinghouse.specs.declared.parts.Stop.TheVariants as by
 use Rattle.clearinghouse.proofs.Keeping.{moment_keeps, packet_keeps}
@@ -34,23 +34,23 @@ module _ (job : JobOf) (base : View) (w : WorldOf) (tied : TiedSince job base w)
   v = tied.view
 
   -- what an answer of an open clearinghouse promises
-  abbrev Promises : HouseOf → house.Answer → Type 0
+  abbrev Promises : HouseOf → house.HouseAnswer → Type 0
   Promises h house.Ignored = Unit {0}
   Promises h (house.Refused e) = Unit {0}
-  Promises h (house.Does s) = Keeps h s
+  Promises h (house.Does s) = KeepsHouse h s
 
-  packet_promises : (p : PacketOf) (h : HouseOf) (a : house.Answer) → on_packet job p h ≡ a → Promises h a
+  packet_promises : (p : PacketOf) (h : HouseOf) (a : house.HouseAnswer) → on_packet job p h ≡ a → Promises h a
   packet_promises p h house.Ignored e = tt
   packet_promises p h (house.Refused f) e = tt
   packet_promises p h (house.Does s) e = packet_keeps job p h s e
 
   module _ (h : HouseOf) (is : w.house ≡ IsUp (Open h)) where
-    ends_tied : (a : house.Answer) → HouseAnswerShown job v h a → Promises h a → (o : StepResult) → Ends job h a w o → TiedSince job base o.world
+    ends_tied : (a : house.HouseAnswer) → HouseAnswerShown job v h a → Promises h a → (o : StepResult) → Ends job h a w o → TiedSince job base o.world
     ends_tied house.Ignored step keeps o e = rw e tied
     ends_tied (house.Refused f) step keeps o e = rw e tied
     ends_tied (house.Does s) step keeps o e = rw (e.2) (stepped_tied job base v w tied.run tied.since tied.shown h is s step keeps.holds keeps.commits e.0 e.1)
 
-    halts_tied : (a : house.Answer) → HouseAnswerShown job v h a → Promises h a → (k : ℕ) (bytes : List ℕ) (o : StepResult) → Halts job h a k bytes w o → TiedSince job base o.world
+    halts_tied : (a : house.HouseAnswer) → HouseAnswerShown job v h a → Promises h a → (k : ℕ) (bytes : List ℕ) (o : StepResult) → Halts job h a k bytes w o → TiedSince job base o.world
     halts_tied house.Ignored step keeps k bytes o e = absurd e
     halts_tied (house.Refused f) step keeps k bytes o e = absurd e
     halts_tied (house.Does s) step keeps k bytes o e = rw (e.3) (halted_tied job base v w tied.run tied.since tied.shown h is s step keeps.holds keeps.commits e.0 k bytes by.Device e.1 e.2)

@@ -3,9 +3,9 @@ use Rattle.std.proofs.Common.{◌≡◌, ◌+◌, ℕ, true, false, List, [], �
 use Rattle.codec.specs.Table.{PacketOf}
 use Rattle.disk.specs.declared.cells.Cell.{Cell}
 use Rattle.disk.specs.Device.{Device}
-use Rattle.checkpoint.specs.Calls.{Call, after}
-use Rattle.checkpoint.specs.Store.{Keeps}
-use Rattle.checkpoint.specs.declared.record.Record.{Record}
+use Rattle.checkpoint.specs.Calls.{DeviceCall, after}
+use Rattle.checkpoint.specs.Store.{KeepsRecord}
+use Rattle.checkpoint.specs.declared.record.CheckpointRecord.{CheckpointRecord}
 use Rattle.serial_meaning.specs.Job.{JobOf}
 use Rattle.node_state.specs.Node.{NodeOf}
 use Rattle.clearinghouse.specs.House.{HouseOf, Kept, Open, Stopped, kept_of, name_of}
@@ -23,32 +23,32 @@ use Rattle.node_moves.proofs.Beside.{node_beside}
 use Rattle.node_moves.proofs.Told.{all_shown, both_shown, sent_early, sent_late}
 use Rattle.node_moves.specs.Steps.{AllShown, IsSent}
 use Rattle.house_moves.specs.Shows.{OpenShown}
-use Rattle.house_moves.specs.Steps.{HouseStepShown, meaning_of}
+use Rattle.house_moves.specs.Steps.{HouseStepShown, tables_meaning}
 use Rattle.world_steps.specs.Houses.{MakesCalls, made}
 use Rattle.world_steps.specs.World.{Down, HouseAt, IsUp, WorldOf, node_in}
 use Rattle.safe_runs.specs.Shown.{UpAt, OpenHouse, DiskShown, Shown, TiedSince}
 use Rattle.safe_runs.proofs.Disks.{committed}
 
 -- what is kept, by other names
-pub kept_as : {f : List Cell} {n m : ℕ} {r t : Record} → n ≡ m → r ≡ t → Keeps f n r → Keeps f m t
-kept_as {f = f} {n = n} {t = t} e q k = subst (λ x. Keeps f x t) e (subst (λ y. Keeps f n y) q k)
+pub kept_as : {f : List Cell} {n m : ℕ} {r t : CheckpointRecord} → n ≡ m → r ≡ t → KeepsRecord f n r → KeepsRecord f m t
+kept_as {f = f} {n = n} {t = t} e q k = subst (λ x. KeepsRecord f x t) e (subst (λ y. KeepsRecord f n y) q k)
 
 -- an open clearinghouse's disk keeps what it has committed
-pub open_disk : (job : JobOf) (v : View) (h : HouseOf) (d : Device) → OpenShown v h → Keeps d.file h.sequence (record_of job (kept_of h)) → DiskShown job v d (IsUp (Open h))
+pub open_disk : (job : JobOf) (v : View) (h : HouseOf) (d : Device) → OpenShown v h → KeepsRecord d.file h.sequence (record_of job (kept_of h)) → DiskShown job v d (IsUp (Open h))
 open_disk job v h d s keeps = record { sequence = h.sequence; found = record_of job (kept_of h); keeps = keeps; own = refl; stored = s.stored; epoch = rw s.epoch (omega arith); held = (refl, refl) }
 
-module _ (job : JobOf) (base v : View) (w : WorldOf) (run : Run (meaning_of job) v) (since : Leads base v) (shown : Shown job v w) (h : HouseOf) (is : w.house ≡ IsUp (Open h)) where
+module _ (job : JobOf) (base v : View) (w : WorldOf) (run : Run (tables_meaning job) v) (since : Leads base v) (shown : Shown job v w) (h : HouseOf) (is : w.house ≡ IsUp (Open h)) where
   pub own : OpenHouse v h
   own = let s = shown.house in rw is at s
 
   -- what its disk keeps
-  pub own_kept : Keeps w.disk.file h.sequence (record_of job (kept_of h))
+  pub own_kept : KeepsRecord w.disk.file h.sequence (record_of job (kept_of h))
   own_kept = by_house w.house is shown.disk
     where
-      by_house : (x : HouseAt) → x ≡ IsUp (Open h) → DiskShown job v w.disk x → Keeps w.disk.file h.sequence (record_of job (kept_of h))
+      by_house : (x : HouseAt) → x ≡ IsUp (Open h) → DiskShown job v w.disk x → KeepsRecord w.disk.file h.sequence (record_of job (kept_of h))
       by_house Down e d = cc
       by_house (IsUp (Stopped s)) e d = cc
-      by_house (IsUp (Open k)) e d = let same : k ≡ h = cc in let held : (d.sequence ≡ k.sequence) × (d.found ≡ record_of job (kept_of k)) = d.held in subst (λ (x : HouseOf). Keeps w.disk.file x.sequence (record_of job (kept_of x))) same (kept_as held.0 held.1 d.keeps)
+      by_house (IsUp (Open k)) e d = let same : k ≡ h = cc in let held : (d.sequence ≡ k.sequence) × (d.found ≡ record_of job (kept_of k)) = d.held in subst (λ (x : HouseOf). KeepsRecord w.disk.file x.sequence (record_of job (kept_of x))) same (kept_as held.0 held.1 d.keeps)
 
   pub no_worker : (a : ℕ) (n : NodeOf) → node_in a w.nodes ≡ Some n → n.incarnation ≡ name_of h → ⊥
   no_worker a n at e =
@@ -58,7 +58,7 @@ module _ (job : JobOf) (base v : View) (w : WorldOf) (run : Run (meaning_of job)
       cc
 
   -- a step of it, over whatever disk keeps what it has committed then, of which these packets went
-  pub house_stepped : (s : house.StepOf) (disk : Device) (sent : List PacketOf) → (step : HouseStepShown job v h s) → IsHouse s.after → Keeps disk.file s.after.sequence (record_of job (kept_of s.after)) → AllShown step.view sent → ((t : Transfer) → t ∈ step.view.transfers → (t ∈ v.transfers) ⊎ IsSent job.number sent t) → Shown job step.view (record w { house = IsUp (Open s.after); disk = disk; net = w.net ++ sent })
+  pub house_stepped : (s : house.HouseStepOf) (disk : Device) (sent : List PacketOf) → (step : HouseStepShown job v h s) → IsHouse s.after → KeepsRecord disk.file s.after.sequence (record_of job (kept_of s.after)) → AllShown step.view sent → ((t : Transfer) → t ∈ step.view.transfers → (t ∈ v.transfers) ⊎ IsSent job.number sent t) → Shown job step.view (record w { house = IsUp (Open s.after); disk = disk; net = w.net ++ sent })
   house_stepped s disk sent step sound keeps told transfers =
       let x = step.view in
       record {
@@ -82,18 +82,18 @@ module _ (job : JobOf) (base v : View) (w : WorldOf) (run : Run (meaning_of job)
       }
 
   -- all calls of a step passed
-  module _ (s : house.StepOf) (step : HouseStepShown job v h s) (holds : IsHouse h → IsHouse s.after) (commits : Commits s.commits h s.after) (calls : List Call) (makes : MakesCalls job h s.commits w.disk calls) where
-    after_kept : Keeps (made w.disk calls).file s.after.sequence (record_of job (kept_of s.after))
+  module _ (s : house.HouseStepOf) (step : HouseStepShown job v h s) (holds : IsHouse h → IsHouse s.after) (commits : Commits s.commits h s.after) (calls : List DeviceCall) (makes : MakesCalls job h s.commits w.disk calls) where
+    after_kept : KeepsRecord (made w.disk calls).file s.after.sequence (record_of job (kept_of s.after))
     unfolding after
     after_kept = by_commit s.commits commits makes
       where
-        same : (k : Kept) (n : ℕ) (f : List Cell) → kept_of s.after ≡ k → k.sequence ≡ n → Keeps f n (record_of job k) → Keeps f s.after.sequence (record_of job (kept_of s.after))
-        same k n f e q keeps = subst (λ (x : Kept). Keeps f x.sequence (record_of job x)) (sym e) (kept_as (sym q) refl keeps)
+        same : (k : Kept) (n : ℕ) (f : List Cell) → kept_of s.after ≡ k → k.sequence ≡ n → KeepsRecord f n (record_of job k) → KeepsRecord f s.after.sequence (record_of job (kept_of s.after))
+        same k n f e q keeps = subst (λ (x : Kept). KeepsRecord f x.sequence (record_of job x)) (sym e) (kept_as (sym q) refl keeps)
 
-        by_none : calls ≡ [] → kept_of s.after ≡ kept_of h → Keeps (made w.disk calls).file s.after.sequence (record_of job (kept_of s.after))
-        by_none none e = subst (λ cs. Keeps (made w.disk cs).file s.after.sequence (record_of job (kept_of s.after))) (sym none) (same (kept_of h) h.sequence w.disk.file e refl own_kept)
+        by_none : calls ≡ [] → kept_of s.after ≡ kept_of h → KeepsRecord (made w.disk calls).file s.after.sequence (record_of job (kept_of s.after))
+        by_none none e = subst (λ cs. KeepsRecord (made w.disk cs).file s.after.sequence (record_of job (kept_of s.after))) (sym none) (same (kept_of h) h.sequence w.disk.file e refl own_kept)
 
-        by_commit : (o : Option Kept) → Commits o h s.after → MakesCalls job h o w.disk calls → Keeps (made w.disk calls).file s.after.sequence (record_of job (kept_of s.after))
+        by_commit : (o : Option Kept) → Commits o h s.after → MakesCalls job h o w.disk calls → KeepsRecord (made w.disk calls).file s.after.sequence (record_of job (kept_of s.after))
         by_commit None e none = by_none none e
         by_commit (Some k) e commit = same k (h.sequence + 1) (made w.disk calls).file e.0 e.2 (committed w.disk h.sequence (record_of job (kept_of h)) (record_of job k) calls own_kept commit)
 

@@ -1,7 +1,7 @@
 -- The clearinghouse opens over its disk: in the epoch after the last one that was committed, with nobody listed.
 use Rattle.std.proofs.Common.{◌≡◌, ◌+◌, ◌<◌, ◌≤◌, ℕ, Bool, true, false, cond, List, [], ◌∷◌, ◌++◌, length, inl, inr, ⊎_elim, None, refl, sym, ap, ◌∙◌, arith}
-use Rattle.checkpoint.specs.Store.{Keeps}
-use Rattle.checkpoint.specs.declared.record.Record.{Record}
+use Rattle.checkpoint.specs.Store.{KeepsRecord}
+use Rattle.checkpoint.specs.declared.record.CheckpointRecord.{CheckpointRecord}
 use Rattle.checkpoint.proofs.Opened.{one_kept}
 use Rattle.serial_meaning.specs.Job.{JobOf}
 use Rattle.node_state.specs.Node.{NodeOf}
@@ -21,12 +21,12 @@ use Rattle.run_tables.proofs.Entries.{put_here, put_other, clear_here, clear_oth
 use Rattle.run_tables.proofs.EpochsKept.{epochs_reached, house_named, name_new}
 use Rattle.run_tables.proofs.Lists.{same_or}
 use Rattle.run_tables.proofs.ValuesKept.{run_reached}
-use Rattle.actor_moves.specs.Beside.{SameAt, Keeps as KeepsTables}
+use Rattle.actor_moves.specs.Beside.{SameAt, KeepsSent}
 use Rattle.actor_moves.proofs.Sent.{keeps_one}
 use Rattle.node_moves.proofs.Beside.{node_beside}
 use Rattle.node_moves.proofs.Told.{all_shown, both_shown, none_shown, sent_early}
 use Rattle.house_moves.specs.Shows.{OpenShown, stored_of}
-use Rattle.house_moves.specs.Steps.{meaning_of}
+use Rattle.house_moves.specs.Steps.{tables_meaning}
 use Rattle.world_steps.specs.Houses.{Opens, calls_of, halted, made, silence}
 use Rattle.world_steps.specs.World.{Down, IsUp, WorldOf}
 use Rattle.safe_runs.specs.Shown.{UpAt, Closed, DiskShown, Shown, TiedSince}
@@ -74,7 +74,7 @@ lost_all v (k ∷ js) j m not = by_mode (λ x. lost_all v js j x not) (joins (v.
     by_mode rest false e (inl same) = inl same
     by_mode rest false e (inr m) = inr (rest m)
 
-module _ (job : JobOf) (base v : View) (w : WorldOf) (run : Run (meaning_of job) v) (since : Leads base v) (shown : Shown job v w) (closed : Closed v) (way : Opens job w.disk) where
+module _ (job : JobOf) (base v : View) (w : WorldOf) (run : Run (tables_meaning job) v) (since : Leads base v) (shown : Shown job v w) (closed : Closed v) (way : Opens job w.disk) where
   -- what is read is what is kept
   abbrev read : Kept
   read = kept_in way.sequence way.found
@@ -85,11 +85,11 @@ module _ (job : JobOf) (base v : View) (w : WorldOf) (run : Run (meaning_of job)
   agrees : (way.sequence ≡ shown.disk.sequence) × (way.found ≡ shown.disk.found)
   agrees = one_kept w.disk.file way.reads.0 way.sequence shown.disk.sequence way.found shown.disk.found way.reads.1 shown.disk.keeps
 
-  pub read_kept : Keeps w.disk.file way.sequence way.found
+  pub read_kept : KeepsRecord w.disk.file way.sequence way.found
   read_kept = kept_as (sym agrees.0) (sym agrees.1) shown.disk.keeps
 
   pub read_stored : v.stored ≡ stored_of way.found.outcome
-  read_stored = shown.disk.stored ∙ ap (λ (r : Record). stored_of r.outcome) (sym agrees.1)
+  read_stored = shown.disk.stored ∙ ap (λ (r : CheckpointRecord). stored_of r.outcome) (sym agrees.1)
 
   pub read_epoch : v.epoch ≤ way.found.epoch
   read_epoch = let old = shown.disk.epoch in rw agrees.1 old
@@ -164,7 +164,7 @@ module _ (job : JobOf) (base v : View) (w : WorldOf) (run : Run (meaning_of job)
   pub opened_tied : TiedSince job base (record w { house = IsUp (Open new); disk = made w.disk (calls_of way); net = w.net ++ [] })
   unfolding act
   opened_tied =
-      let keeps : KeepsTables v x = keeps_one act in
+      let keeps : KeepsSent v x = keeps_one act in
       record {
         view = x;
         run = by_right run act tt;

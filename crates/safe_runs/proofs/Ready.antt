@@ -9,7 +9,7 @@ use Rattle.sub_rules.specs.declared.content.Content.{Content}
 use Rattle.sub_rules.specs.Content.{ready, ready_in}
 use Rattle.sub_rules.proofs.Departures.{frame_number}
 use Rattle.run_tables.specs.Content.{Content as Tables, Empty}
-use Rattle.run_tables.specs.Work.{Ready}
+use Rattle.run_tables.specs.Work.{ReadyInTables}
 use Rattle.run_tables.proofs.Lists.{none_some}
 use Rattle.content_moves.specs.Moved.{IsKept}
 use Rattle.content_moves.specs.Shown.{slot_of, ShowsFrame, Shows}
@@ -32,7 +32,7 @@ frame_ready c n f there full =
     ap is_some (found ∙ some)
 
 -- a ready frame of tables is a frame of the content, under its number
-pub ready_there : (t : Tables) (c : Content) → IsKept c → Shows t c → (r : Ready t) → IsSome (ready_in r.frame c)
+pub ready_there : (t : Tables) (c : Content) → IsKept c → Shows t c → (r : ReadyInTables t) → IsSome (ready_in r.frame c)
 ready_there t c kept shows r = by_frame (frame_in r.frame c.frames) refl
   where
     by_record : frame_in r.frame c.frames ≡ None → (Stolen c.records r.frame) ⊎ (NoneStolen c.records r.frame) → IsSome (ready_in r.frame c)

@@ -9,16 +9,16 @@ use Rattle.run_tables.specs.View.{View}
 use Rattle.run_tables.specs.Program.{program_meaning}
 use Rattle.run_tables.proofs.ProgramMeaning.{program_serial}
 use Rattle.run_tables.proofs.ValuesKept.{values_run}
-use Rattle.content_moves.specs.Shown.{number_of}
+use Rattle.content_moves.specs.Shown.{outcome_number}
 use Rattle.world_steps.specs.World.{Down, HouseAt, IsUp, WorldOf, recorded, recorded_at}
 use Rattle.house_moves.specs.Shows.{stored_of}
 use Rattle.safe_runs.specs.Shown.{HouseShown, Tied}
 
-pub told_back : (o : Outcome) → outcome_of (number_of o) ≡ o
+pub told_back : (o : Outcome) → outcome_of (outcome_number o) ≡ o
 told_back (Value v) = refl
 told_back TooDeep = refl
 
-pub stored_at : (v : View) (house : HouseAt) (o : Outcome) → HouseShown v house → recorded_at house ≡ Some o → v.stored ≡ Some (number_of o)
+pub stored_at : (v : View) (house : HouseAt) (o : Outcome) → HouseShown v house → recorded_at house ≡ Some o → v.stored ≡ Some (outcome_number o)
 stored_at v Down o s e = cc
 stored_at v (IsUp (Open h)) o s e = s.shown.stored ∙ ap stored_of e
 stored_at v (IsUp (Stopped why)) o s e = cc
@@ -26,4 +26,4 @@ stored_at v (IsUp (Stopped why)) o s e = cc
 pub recorded_is_meant : (job : JobOf) (w : WorldOf) → Tied job w → (o : Outcome) → recorded w ≡ Some o → o ≡ meaning_of job
 recorded_is_meant job w tied o e =
     let stored = stored_at tied.view w.house o tied.shown.house e in
-    sym (told_back o) ∙ ap outcome_of ((values_run (program_meaning job.program job.input) (program_serial job.program job.input) tied.run).stored_agrees (number_of o) stored)
+    sym (told_back o) ∙ ap outcome_of ((values_run (program_meaning job.program job.input) (program_serial job.program job.input) tied.run).stored_agrees (outcome_number o) stored)

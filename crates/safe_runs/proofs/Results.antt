@@ -20,22 +20,22 @@ use Rattle.run_tables.proofs.NamesReached.{names_reached}
 use Rattle.run_tables.proofs.ProgramMeaning.{program_serial}
 use Rattle.run_tables.proofs.TasksKept.{tasks_reached}
 use Rattle.run_tables.proofs.ValuesKept.{run_reached, values_run}
-use Rattle.content_moves.specs.Shown.{number_of, ShowsRecord}
+use Rattle.content_moves.specs.Shown.{outcome_number, ShowsRecord}
 use Rattle.content_moves.proofs.Apart.{own_grant}
-use Rattle.house_moves.specs.Steps.{meaning_of}
+use Rattle.house_moves.specs.Steps.{tables_meaning}
 use Rattle.node_moves.specs.Shows.{mode_of, NodeShown, PartsShown}
 use Rattle.node_moves.proofs.Held.{HeldAt, held_at}
 use Rattle.node_moves.proofs.Members.{unrecorded}
-use Rattle.actor_agreement.specs.Values.{IsFresh, IsOutcomeAt}
+use Rattle.actor_agreement.specs.Values.{NextGrantIsFresh, IsOutcomeAt}
 use Rattle.safe_runs.proofs.Recorded.{told_back}
 
-module _ (job : JobOf) (v : View) (run : Run (meaning_of job) v) where
+module _ (job : JobOf) (v : View) (run : Run (tables_meaning job) v) where
   -- the value of the task of whatever was sent under its name
-  pub told_value : (g : Grant) (to : ℕ) (o : Option ℤ) (t : Transfer) → result_to g to o ∈ v.results → t ∈ v.transfers → t.grant ≡ g → o ≡ (meaning_of job).value t.content.task.place
-  told_value g to o t told there is = (values_run (meaning_of job) (program_serial job.program job.input) run).results_agree (result_to g to o) t.content told (sent t there is refl)
+  pub told_value : (g : Grant) (to : ℕ) (o : Option ℤ) (t : Transfer) → result_to g to o ∈ v.results → t ∈ v.transfers → t.grant ≡ g → o ≡ (tables_meaning job).value t.content.task.place
+  told_value g to o t told there is = (values_run (tables_meaning job) (program_serial job.program job.input) run).results_agree (result_to g to o) t.content told (sent t there is refl)
 
   -- at a place, the outcome
-  pub told_outcome : (o : Outcome) (place : List ℕ) → number_of o ≡ (meaning_of job).value place → o ≡ outcome_at job.program job.input place
+  pub told_outcome : (o : Outcome) (place : List ℕ) → outcome_number o ≡ (tables_meaning job).value place → o ≡ outcome_at job.program job.input place
   told_outcome o place e = sym (told_back o) ∙ ap outcome_of e
 
   -- what stands in the tables of a subcomputation that a node holds
@@ -46,7 +46,7 @@ module _ (job : JobOf) (v : View) (run : Run (meaning_of job) v) where
       held_at (v.subs n.incarnation s.grant) (sub_in s.grant n.subs) s (p.subs s.grant) at
 
   -- nothing that a node holds has a record of the next grant that it mints
-  pub fresh_there : (n : NodeOf) → NodeShown v n → Works (mode_of n.state) → IsFresh n
+  pub fresh_there : (n : NodeOf) → NodeShown v n → Works (mode_of n.state) → NextGrantIsFresh n
   fresh_there n shown up s m =
       let i = n.incarnation in
       let p : PartsShown v n = shown.parts up in
@@ -56,14 +56,14 @@ module _ (job : JobOf) (v : View) (run : Run (meaning_of job) v) where
       rw at at none
 
   -- that of the record's task, at a host that has the record of a grant
-  pub outcome_there : (n : NodeOf) → NodeShown v n → Works (mode_of n.state) → (b : TaskResult) (to : ℕ) → result_to b.grant to (number_of b.outcome) ∈ v.results → IsOutcomeAt job n b
+  pub outcome_there : (n : NodeOf) → NodeShown v n → Works (mode_of n.state) → (b : TaskResult) (to : ℕ) → result_to b.grant to (outcome_number b.outcome) ∈ v.results → IsOutcomeAt job n b
   outcome_there n shown up b to told s r m there =
       let i = n.incarnation in
       let h : HeldAt (v.subs i s.grant) s = held_there n shown up s m in
       let rec : ShowsRecord h.sub.content r = h.shown.content.records b.grant r there in
-      let granted : Granted v.transfers b.grant = (names_reached (run_reached run)).result_granted (result_to b.grant to (number_of b.outcome)) told in
+      let granted : Granted v.transfers b.grant = (names_reached (run_reached run)).result_granted (result_to b.grant to (outcome_number b.outcome)) told in
       let t = granted.transfer in
       let mine : b.grant ≡ r.grant = own_grant b.grant r s.content.records there in
       let task : HoldsTask h.sub.content r.frame t.content.task = (tasks_reached (run_reached run)).record_task s.grant b.grant h.sub.content t.content r.frame (held i h.sub (rw shown.mode up) h.is refl) (rec.stolen ∙ ap Some (sym mine)) (sent t granted.sent granted.grant refl) in
       let place : t.content.task.place ≡ r.task.place = sym task.place ∙ rec.holds.place in
-      told_outcome b.outcome r.task.place (told_value b.grant to (number_of b.outcome) t told granted.sent granted.grant ∙ ap (meaning_of job).value place)
+      told_outcome b.outcome r.task.place (told_value b.grant to (outcome_number b.outcome) t told granted.sent granted.grant ∙ ap (tables_meaning job).value place)

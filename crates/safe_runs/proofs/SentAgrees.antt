@@ -11,7 +11,7 @@ use Rattle.codec.specs.declared.body.TaskResult.{TaskResult}
 use Rattle.serial_meaning.specs.Job.{JobOf}
 use Rattle.serial_meaning.specs.Places.{outcome_at}
 use Rattle.agreement.specs.Agreement.{IsReceived}
-use Rattle.agreement.specs.Agreement.{Agrees as ContentAgrees}
+use Rattle.agreement.specs.Agreement.{ContentAgrees}
 use Rattle.node_core.specs.declared.parts.Fill.{Fill}
 use Rattle.run_tables.specs.Tables.{◌∈◌}
 use Rattle.run_tables.specs.Content as tables
@@ -21,10 +21,10 @@ use Rattle.run_tables.proofs.Among.{found_among, got, placed}
 use Rattle.run_tables.proofs.NamesReached.{names_reached}
 use Rattle.run_tables.proofs.Paths.{grant_of_transfer}
 use Rattle.run_tables.proofs.ValuesKept.{run_reached}
-use Rattle.content_moves.specs.Shown.{number_of, task_of}
+use Rattle.content_moves.specs.Shown.{outcome_number, task_of}
 use Rattle.node_moves.specs.Shows.{BodyShown, GrantShown, OfferShown}
 use Rattle.node_moves.specs.Steps.{Carries, IsSent}
-use Rattle.house_moves.specs.Steps.{meaning_of}
+use Rattle.house_moves.specs.Steps.{tables_meaning}
 use Rattle.actor_agreement.specs.Values.{BodyIsRight}
 use Rattle.world_steps.specs.Agrees.{Agrees, BodyAgrees, WasGranted}
 use Rattle.world_steps.specs.Safe.{filling_of}
@@ -51,10 +51,10 @@ module _ (job : JobOf) (w : WorldOf) (tied : Tied job w) where
       record { transfer = s.transfer; sent = s.sent; grant = s.grant; task = s.content.task }
 
   -- so a Result tells the outcome of each task that was granted under its name
-  outcome_of_granted : (b : TaskResult) (to : ℕ) → result_to b.grant to (number_of b.outcome) ∈ v.results → (t : Task) → WasGranted job w.net b.grant t → b.outcome ≡ outcome_at job.program job.input t.place
+  outcome_of_granted : (b : TaskResult) (to : ℕ) → result_to b.grant to (outcome_number b.outcome) ∈ v.results → (t : Task) → WasGranted job w.net b.grant t → b.outcome ≡ outcome_at job.program job.input t.place
   outcome_of_granted b to told t was =
       let u = transfer_of b.grant t was in
-      told_outcome job v tied.run b.outcome t.place (told_value job v tied.run b.grant to (number_of b.outcome) u.transfer told u.sent u.grant ∙ ap (λ (x : tables.Task). (meaning_of job).value x.place) u.task)
+      told_outcome job v tied.run b.outcome t.place (told_value job v tied.run b.grant to (outcome_number b.outcome) u.transfer told u.sent u.grant ∙ ap (λ (x : tables.Task). (tables_meaning job).value x.place) u.task)
 
   -- and there is one
   made : (p : PacketOf) (b : GrantBody) (g : Grant) → p.job ≡ job.number → p.body ≡ body.Grant b → b.grant ≡ g → p ≡ record { job = job.number; to = p.to; body = body.Grant (record { seq = b.seq; grant = g; task = b.task }) }
@@ -83,10 +83,10 @@ module _ (job : JobOf) (w : WorldOf) (tied : Tied job w) where
   granted_by g u of first s (body.Abort b) is carries shown = absurd carries
   granted_by g u of first s (body.Beat b) is carries shown = absurd carries
 
-  some_granted : (b : TaskResult) (to : ℕ) → result_to b.grant to (number_of b.outcome) ∈ v.results → (t : Task) × WasGranted job w.net b.grant t
+  some_granted : (b : TaskResult) (to : ℕ) → result_to b.grant to (outcome_number b.outcome) ∈ v.results → (t : Task) × WasGranted job w.net b.grant t
   some_granted b to told =
       let names = names_reached (run_reached tied.run) in
-      let granted : Granted v.transfers b.grant = names.result_granted (result_to b.grant to (number_of b.outcome)) told in
+      let granted : Granted v.transfers b.grant = names.result_granted (result_to b.grant to (outcome_number b.outcome)) told in
       by_first (grant_of_transfer v names b.grant granted)
     where
       by_first : ((i : ℕ) × SentTo v.transfers b.grant 0 i) → (t : Task) × WasGranted job w.net b.grant t

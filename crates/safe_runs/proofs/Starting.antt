@@ -22,7 +22,7 @@ use Rattle.run_tables.proofs.HomesKept.{homes_reached}
 use Rattle.run_tables.proofs.Lists.{same_or, one_found}
 use Rattle.run_tables.proofs.ValuesKept.{run_reached}
 use Rattle.content_moves.proofs.Orders.{none_order}
-use Rattle.actor_moves.specs.Beside.{SameAt, SameHouse, Keeps, unmoved}
+use Rattle.actor_moves.specs.Beside.{SameAt, SameHouse, KeepsSent, unmoved}
 use Rattle.actor_moves.proofs.Others.{beside}
 use Rattle.actor_moves.proofs.Sent.{house_all, keeps_all, keeps_one, runs_on, used_all, leads_all}
 use Rattle.node_moves.specs.Shows.{PartsShown, NodeShown}
@@ -32,7 +32,7 @@ use Rattle.node_moves.proofs.Told.{all_shown, both_shown, one_shown, sent_early,
 use Rattle.node_moves.proofs.Rostering.{ends_shown}
 use Rattle.world_steps.specs.Answers.{stepped}
 use Rattle.world_steps.specs.World.{WorldOf, is_used, name_of_word, node_in, with_used, without_node}
-use Rattle.house_moves.specs.Steps.{meaning_of}
+use Rattle.house_moves.specs.Steps.{tables_meaning}
 use Rattle.safe_runs.specs.Shown.{UpAt, Shown, TiedSince}
 use Rattle.safe_runs.proofs.Places.{put_here, put_beside, gone_beside, new_or_old, left_there}
 use Rattle.safe_runs.proofs.Stepping.{disk_beside, house_beside, not_house}
@@ -69,14 +69,14 @@ used_still word i w used = ⊎_elim
     (λ (other : i ≡ word → ⊥). ap (λ (o : Option ℕ). is_some o) (put_stays name_of_word (i, 0) word w.used (λ z. other (ap (λ (k : ℕ × ℕ). k.0) z))) ∙ used)
     (same_or i word)
 
-module _ (job : JobOf) (base v : View) (w : WorldOf) (run : Run (meaning_of job) v) (since : Leads base v) (shown : Shown job v w) where
+module _ (job : JobOf) (base v : View) (w : WorldOf) (run : Run (tables_meaning job) v) (since : Leads base v) (shown : Shown job v w) where
   -- a node starts at a place where none is, with a word that wasn't used
   pub start_tied : (a word : ℕ) → of_worker word ≡ true → is_used word w ≡ false → node_in a w.nodes ≡ None → TiedSince job base (stepped a (call.start job word) (with_used word w)).world
   start_tied a word worker unused free =
       let new : word ∈ v.used → ⊥ = λ m. (let used = shown.words word m worker in let two : true ≡ false = sym used ∙ unused in cc) in
       let act : acts.Act v (start v word) = acts.starts word new worker in
       let x : View = start v word in
-      let keeps : Keeps v x = keeps_one act in
+      let keeps : KeepsSent v x = keeps_one act in
       let same : SameHouse v x = record { rosters = refl; house = refl; root = refl; stored = refl; epoch = refl } in
       let others : (j : ℕ) → (j ≡ word → ⊥) → SameAt v x j = λ j apart. start_beside v word j apart in
       let none : v.mode word ≡ House → ⊥ = λ e. (let house = (homes_reached (run_reached run)).house_name word e in let two : true ≡ false = sym worker ∙ house in cc) in
@@ -118,10 +118,10 @@ module _ (job : JobOf) (base v : View) (w : WorldOf) (run : Run (meaning_of job)
   pub gone_tied : (a : ℕ) (n : NodeOf) → node_in a w.nodes ≡ Some n → TiedSince job base (record w { nodes = without_node a w.nodes })
   gone_tied a n there = by_stage n.state refl
     where
-      by_step : (s : StepShown (meaning_of job) job.number v n (quiet (ended n))) → TiedSince job base (record w { nodes = without_node a w.nodes })
+      by_step : (s : StepShown (tables_meaning job) job.number v n (quiet (ended n))) → TiedSince job base (record w { nodes = without_node a w.nodes })
       by_step s =
           let x = s.view in
-          let keeps : Keeps v x = keeps_all s.way in
+          let keeps : KeepsSent v x = keeps_all s.way in
           let same : SameHouse v x = house_all s.way in
           let others : (j : ℕ) → (j ≡ n.incarnation → ⊥) → SameAt v x j = beside s.way in
           let mode : x.mode n.incarnation ≡ tables.Gone = s.node.mode in
@@ -154,7 +154,7 @@ module _ (job : JobOf) (base v : View) (w : WorldOf) (run : Run (meaning_of job)
           }
 
       ends : Works (v.mode n.incarnation) → TiedSince job base (record w { nodes = without_node a w.nodes })
-      ends up = by_step (ends_shown (meaning_of job) job v n run (shown.nodes a n there) up (not_house v n (shown.nodes a n there)))
+      ends up = by_step (ends_shown (tables_meaning job) job v n run (shown.nodes a n there) up (not_house v n (shown.nodes a n there)))
 
       by_stage : (x : Stage) → n.state ≡ x → TiedSince job base (record w { nodes = without_node a w.nodes })
       by_stage Joining e = ends (rw ((shown.nodes a n there).mode, e) tt)

@@ -9,7 +9,7 @@ use Rattle.run_tables.specs.View.{View}
 use Rattle.run_tables.proofs.Stored.{stored_stays}
 use Rattle.run_tables.proofs.ValuesKept.{run_reached}
 use Rattle.run_tables.proofs.Among.{got}
-use Rattle.content_moves.specs.Shown.{number_of}
+use Rattle.content_moves.specs.Shown.{outcome_number}
 use Rattle.house_moves.specs.Shows.{stored_of}
 use Rattle.world_steps.specs.Runs.{CanBegin, Entry, Runs, ends, goes}
 use Rattle.world_steps.specs.Safe.{Stays}
@@ -19,11 +19,11 @@ use Rattle.safe_runs.proofs.Events.{first_tied, runs_tied, step_tied}
 use Rattle.safe_runs.proofs.Recorded.{stored_at, told_back}
 
 -- what an open clearinghouse has recorded is what the tables store
-outcome_in : (x : Option Outcome) (o : Outcome) → stored_of x ≡ Some (number_of o) → x ≡ Some o
+outcome_in : (x : Option Outcome) (o : Outcome) → stored_of x ≡ Some (outcome_number o) → x ≡ Some o
 outcome_in None o e = cc
-outcome_in (Some y) o e = let same : number_of y ≡ number_of o = cc in ap Some (sym (told_back y) ∙ ap outcome_of same ∙ told_back o)
+outcome_in (Some y) o e = let same : outcome_number y ≡ outcome_number o = cc in ap Some (sym (told_back y) ∙ ap outcome_of same ∙ told_back o)
 
-open_records : (v : View) (house : HouseAt) (o : Outcome) → HouseShown v house → v.stored ≡ Some (number_of o) → IsTrue (is_some (open_house house)) → recorded_at house ≡ Some o
+open_records : (v : View) (house : HouseAt) (o : Outcome) → HouseShown v house → v.stored ≡ Some (outcome_number o) → IsTrue (is_some (open_house house)) → recorded_at house ≡ Some o
 open_records v Down o s e opened = let two : false ≡ true = opened in cc
 open_records v (IsUp (Open h)) o s e opened = outcome_in h.outcome o (sym s.shown.stored ∙ e)
 open_records v (IsUp (Stopped why)) o s e opened = let two : false ≡ true = opened in cc
@@ -32,7 +32,7 @@ open_records v (IsUp (Stopped why)) o s e opened = let two : false ≡ true = op
 later_records : (job : JobOf) (w v : WorldOf) (o : Outcome) → (tied : Tied job w) → TiedSince job tied.view v → recorded w ≡ Some o → IsTrue (is_some (open_house v.house)) → recorded v ≡ Some o
 later_records job w v o tied after e opened =
     let stored = stored_at tied.view w.house o tied.shown.house e in
-    open_records after.view v.house o after.shown.house (stored_stays (run_reached tied.run) after.since (number_of o) stored) opened
+    open_records after.view v.house o after.shown.house (stored_stays (run_reached tied.run) after.since (outcome_number o) stored) opened
 
 -- in a list of worlds that begins with a tied one
 module _ (job : JobOf) where

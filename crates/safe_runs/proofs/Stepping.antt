@@ -12,7 +12,7 @@ use Rattle.run_tables.specs.Runs.{Run, Leads}
 use Rattle.run_tables.proofs.HomesKept.{homes_reached}
 use Rattle.run_tables.proofs.Lists.{same_or, one_found}
 use Rattle.run_tables.proofs.ValuesKept.{run_reached}
-use Rattle.actor_moves.specs.Beside.{SameAt, SameHouse, Keeps}
+use Rattle.actor_moves.specs.Beside.{SameAt, SameHouse, KeepsSent}
 use Rattle.actor_moves.proofs.Others.{beside}
 use Rattle.actor_moves.proofs.Sent.{house_all, keeps_all, runs_on, used_all, leads_all}
 use Rattle.node_moves.specs.Shows.{mode_of, NodeShown}
@@ -22,13 +22,13 @@ use Rattle.node_moves.proofs.Told.{packet_kept, all_shown, both_shown, sent_earl
 use Rattle.world_steps.specs.Answers.{answered, stepped}
 use Rattle.world_steps.specs.World.{Down, HouseAt, IsUp, Up, WorldOf, node_in, put_node}
 use Rattle.house_moves.specs.Shows.{OpenShown}
-use Rattle.house_moves.specs.Steps.{meaning_of}
+use Rattle.house_moves.specs.Steps.{tables_meaning}
 use Rattle.disk.specs.Device.{Device}
 use Rattle.safe_runs.specs.Shown.{UpAt, Closed, HouseShown, DiskShown, Shown, TiedSince}
 use Rattle.safe_runs.proofs.Places.{put_here, put_beside, new_or_old}
 
 -- the clearinghouse stays shown by moves of a worker
-module _ (v x : View) (i : ℕ) (worker : of_worker i ≡ true) (same : SameHouse v x) (keeps : Keeps v x) (others : (j : ℕ) → (j ≡ i → ⊥) → SameAt v x j) (own : x.mode i ≡ House → ⊥) (names : (j : ℕ) → v.mode j ≡ House → of_worker j ≡ false) where
+module _ (v x : View) (i : ℕ) (worker : of_worker i ≡ true) (same : SameHouse v x) (keeps : KeepsSent v x) (others : (j : ℕ) → (j ≡ i → ⊥) → SameAt v x j) (own : x.mode i ≡ House → ⊥) (names : (j : ℕ) → v.mode j ≡ House → of_worker j ≡ false) where
   was_house : (j : ℕ) → x.mode j ≡ House → v.mode j ≡ House
   was_house j e = ⊎_elim (λ (is : j ≡ i). absurd (own (rw is at e))) (λ other. sym (others j other).mode ∙ e) (same_or j i)
 
@@ -73,11 +73,11 @@ not_house v n s e = by_state n.state (sym s.mode ∙ e)
     by_state (Leaving r heir) e = cc
     by_state Ended e = cc
 
-module _ (job : JobOf) (base v : View) (w : WorldOf) (run : Run (meaning_of job) v) (since : Leads base v) (shown : Shown job v w) (a : ℕ) (n : NodeOf) (there : node_in a w.nodes ≡ Some n) where
-  stepped_shown : (s : node.StepOf) → (step : StepShown (meaning_of job) job.number v n s) → Shown job step.view (stepped a s w).world
+module _ (job : JobOf) (base v : View) (w : WorldOf) (run : Run (tables_meaning job) v) (since : Leads base v) (shown : Shown job v w) (a : ℕ) (n : NodeOf) (there : node_in a w.nodes ≡ Some n) where
+  stepped_shown : (s : node.StepOf) → (step : StepShown (tables_meaning job) job.number v n s) → Shown job step.view (stepped a s w).world
   stepped_shown s step =
       let x = step.view in
-      let keeps : Keeps v x = keeps_all step.way in
+      let keeps : KeepsSent v x = keeps_all step.way in
       let same : SameHouse v x = house_all step.way in
       let used : x.used ≡ v.used = used_all step.way in
       let others : (j : ℕ) → (j ≡ n.incarnation → ⊥) → SameAt v x j = beside step.way in
@@ -124,7 +124,7 @@ module _ (job : JobOf) (base v : View) (w : WorldOf) (run : Run (meaning_of job)
       }
 
   -- what a node answers leads to a world that is tied as well
-  pub answered_tied : (ans : node.Answer) → AnswerShown (meaning_of job) job.number v n ans → TiedSince job base (answered a ans w).world
+  pub answered_tied : (ans : node.Answer) → AnswerShown (tables_meaning job) job.number v n ans → TiedSince job base (answered a ans w).world
   answered_tied node.Ignored s = record { view = v; run = run; since = since; shown = shown }
   answered_tied (node.Refused e) s = record { view = v; run = run; since = since; shown = shown }
   answered_tied (node.Does step) s = record { view = s.view; run = runs_on run s.way; since = leads_all since s.way; shown = stepped_shown step s }

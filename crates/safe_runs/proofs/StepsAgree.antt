@@ -5,7 +5,7 @@ use Rattle.codec.specs.Table.{PacketOf}
 use Rattle.codec.specs.declared.body.Body.{Body}
 use Rattle.codec.specs.declared.body.Body.TheVariants as body
 use Rattle.disk.specs.Device.{Device}
-use Rattle.disk.specs.File.{settled}
+use Rattle.disk.specs.File.{settled_file}
 use Rattle.serial_meaning.specs.Job.{JobOf, IsJob}
 use Rattle.agreement.specs.Agreement.{IsReceived}
 use Rattle.clearinghouse.specs.Calls.{begins, next_epoch, passes}
@@ -18,7 +18,7 @@ use Rattle.node_state.specs.Node.{NodeOf, by_state}
 use Rattle.node_state.specs.declared.parts.State.{State as Stage}
 use Rattle.node_state.specs.declared.parts.State.TheVariants.{Joining, Member, Leaving, Ended}
 use Rattle.node_core.specs.Calls as call
-use Rattle.node_core.specs.Cases.{Choice, on_body, on_packet}
+use Rattle.node_core.specs.Cases.{Candidate, on_body, on_packet}
 use Rattle.node_core.specs.Steps as node
 use Rattle.node_core.specs.declared.parts.Fill.{Fill}
 use Rattle.event_script.specs.declared.event.Cut.{Cut as CutOf}
@@ -33,7 +33,7 @@ use Rattle.run_tables.specs.View.{Works}
 use Rattle.run_tables.proofs.Lists.{either}
 use Rattle.run_tables.proofs.Among.{got}
 use Rattle.node_moves.specs.Shows.{mode_of, BodyShown}
-use Rattle.actor_agreement.specs.Values.{AllRight, AnswerIsRight, BodyIsRight, HouseAnswerIsRight, HouseStepIsRight, MayCome, NodeIsRight, RepliesAreRight, StepIsRight}
+use Rattle.actor_agreement.specs.Values.{AllRight, AnswerIsRight, BodyIsRight, HouseAnswerIsRight, HouseStepIsRight, BodyMayCome, NodeIsRight, RepliesAreRight, StepIsRight}
 use Rattle.actor_agreement.proofs.Changing.{exec_ready_right}
 use Rattle.actor_agreement.proofs.House.{passes_right}
 use Rattle.actor_agreement.proofs.House.{packet_right as house_packet_right}
@@ -64,7 +64,7 @@ shut : (job : JobOf) (w : WorldOf) → WorldIsRight job w → (house : HouseAt) 
 shut job w right house d answers = record { nodes = right.nodes; house = answers; net = right.net; fills = right.fills }
 
 -- an ended node ignores all
-ended_ignores_body : (job : JobOf) (choice : Option Choice) (n : NodeOf) → n.state ≡ Ended → (b : Body) → AnswerIsRight job (on_body job choice b n)
+ended_ignores_body : (job : JobOf) (choice : Option Candidate) (n : NodeOf) → n.state ≡ Ended → (b : Body) → AnswerIsRight job (on_body job choice b n)
 unfolding on_body by_state
 ended_ignores_body job choice n is (body.Join b) = tt
 ended_ignores_body job choice n is (body.Roster b) = rw is tt
@@ -79,7 +79,7 @@ ended_ignores_body job choice n is (body.Leave b) = tt
 ended_ignores_body job choice n is (body.Abort b) = rw is tt
 ended_ignores_body job choice n is (body.Beat b) = tt
 
-ended_ignores : (job : JobOf) (choice : Option Choice) (n : NodeOf) → n.state ≡ Ended → (p : PacketOf) → AnswerIsRight job (on_packet job choice p n)
+ended_ignores : (job : JobOf) (choice : Option Candidate) (n : NodeOf) → n.state ≡ Ended → (p : PacketOf) → AnswerIsRight job (on_packet job choice p n)
 unfolding on_packet
 ended_ignores job choice n is p = by_address (nat_eq p.job job.number && nat_eq p.to n.incarnation)
   where
@@ -123,7 +123,7 @@ module _ (job : JobOf) (w : WorldOf) (ok : IsJob job) (tied : Tied job w) (right
     own = right.nodes a n there
 
     -- a packet that was sent may come, a Result among them
-    may_come : Works (mode_of n.state) → (b : Body) (to : ℕ) → BodyIsRight job b → BodyShown tied.view to b → MayCome job n b
+    may_come : Works (mode_of n.state) → (b : Body) (to : ℕ) → BodyIsRight job b → BodyShown tied.view to b → BodyMayCome job n b
     may_come up (body.Result b) to r s = outcome_there job tied.view tied.run n (tied.shown.nodes a n there) up b to s
     may_come up (body.Grant b) to r s = r
     may_come up (body.Offer b) to r s = r
@@ -137,7 +137,7 @@ module _ (job : JobOf) (w : WorldOf) (ok : IsJob job) (tied : Tied job w) (right
     may_come up (body.Abort b) to r s = tt
     may_come up (body.Beat b) to r s = tt
 
-    hears_right : (choice : Option Choice) (p : PacketOf) → p ∈ w.net → AnswerIsRight job (on_packet job choice p n)
+    hears_right : (choice : Option Candidate) (p : PacketOf) → p ∈ w.net → AnswerIsRight job (on_packet job choice p n)
     hears_right choice p m = by_stage n.state refl
       where
         works : Works (mode_of n.state) → AnswerIsRight job (on_packet job choice p n)
@@ -149,7 +149,7 @@ module _ (job : JobOf) (w : WorldOf) (ok : IsJob job) (tied : Tied job w) (right
         by_stage (Leaving r heir) is = works (rw is tt)
         by_stage Ended is = ended_ignores job choice n is p
 
-    at_node_right : (choice : Option Choice) (e : NodeEvent) → WorldIsRight job (at_node job choice a e n w).world
+    at_node_right : (choice : Option Candidate) (e : NodeEvent) → WorldIsRight job (at_node job choice a e n w).world
     at_node_right choice (Deliver i) = with_there (slice_get w.net i) (λ p. answered a (on_packet job choice p n) w) (λ p e. answered_right a (on_packet job choice p n) (hears_right choice p (got w.net i p e)))
     at_node_right choice (Exec f) = answered_right a (call.exec_ready job (grant_of f) f.frame n) (exec_ready_right job n own ok (grant_of f) f.frame)
     at_node_right choice (Ask v) = answered_right a (call.ask job (victim_of v) n) (ask_right job n own (victim_of v))
@@ -172,12 +172,12 @@ module _ (job : JobOf) (w : WorldOf) (ok : IsJob job) (tied : Tied job w) (right
   }
 
   -- what an open clearinghouse answers
-  ends_right : (h : HouseOf) (a : house.Answer) → HouseAnswerIsRight job a → (o : StepResult) → Ends job h a w o → WorldIsRight job o.world
+  ends_right : (h : HouseOf) (a : house.HouseAnswer) → HouseAnswerIsRight job a → (o : StepResult) → Ends job h a w o → WorldIsRight job o.world
   ends_right h house.Ignored k o e = rw e right
   ends_right h (house.Refused f) k o e = rw e right
   ends_right h (house.Does s) k o e = rw (e.2) (housed job w right (IsUp (Open s.after)) _ s.sent k.after k.sent)
 
-  halts_right : (h : HouseOf) (a : house.Answer) (k : ℕ) (bytes : List ℕ) (o : StepResult) → Halts job h a k bytes w o → WorldIsRight job o.world
+  halts_right : (h : HouseOf) (a : house.HouseAnswer) (k : ℕ) (bytes : List ℕ) (o : StepResult) → Halts job h a k bytes w o → WorldIsRight job o.world
   halts_right h house.Ignored k bytes o e = absurd e
   halts_right h (house.Refused f) k bytes o e = absurd e
   halts_right h (house.Does s) k bytes o e = rw (e.3) (stops_right _)

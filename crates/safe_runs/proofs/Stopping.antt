@@ -3,9 +3,9 @@ use Rattle.std.proofs.Common.{◌≡◌, ◌+◌, ◌<◌, ℕ, List, [], ◌++�
 use Rattle.std.proofs.lemmas.List.{append-nil}
 use Rattle.codec.specs.Table.{PacketOf}
 use Rattle.disk.specs.Device.{Device}
-use Rattle.checkpoint.specs.Calls.{Call}
-use Rattle.checkpoint.specs.Store.{Keeps}
-use Rattle.checkpoint.specs.declared.record.Record.{Record}
+use Rattle.checkpoint.specs.Calls.{DeviceCall}
+use Rattle.checkpoint.specs.Store.{KeepsRecord}
+use Rattle.checkpoint.specs.declared.record.CheckpointRecord.{CheckpointRecord}
 use Rattle.serial_meaning.specs.Job.{JobOf}
 use Rattle.clearinghouse.specs.House.{HouseOf, Kept, Open, Stopped, kept_of, name_of}
 use Rattle.clearinghouse.specs.Laws.{Commits, IsHouse}
@@ -18,12 +18,12 @@ use Rattle.run_tables.specs.Acts as acts
 use Rattle.run_tables.specs.Runs.{Run, by_right, Leads, leads_on}
 use Rattle.run_tables.proofs.Lists.{same_or}
 use Rattle.run_tables.proofs.Entries.{put_here, put_other}
-use Rattle.actor_moves.specs.Beside.{SameAt, Keeps as KeepsTables}
+use Rattle.actor_moves.specs.Beside.{SameAt, KeepsSent}
 use Rattle.actor_moves.proofs.Sent.{keeps_one}
 use Rattle.node_moves.proofs.Beside.{node_beside}
 use Rattle.node_moves.proofs.Told.{all_shown, none_shown}
 use Rattle.house_moves.specs.Shows.{OpenShown}
-use Rattle.house_moves.specs.Steps.{HouseStepShown, meaning_of}
+use Rattle.house_moves.specs.Steps.{HouseStepShown, tables_meaning}
 use Rattle.world_steps.specs.Houses.{MakesCalls, halted}
 use Rattle.world_steps.specs.World.{Down, HouseAt, IsUp, WorldOf}
 use Rattle.safe_runs.specs.Shown.{UpAt, Closed, HouseShown, DiskShown, Shown, TiedSince}
@@ -48,14 +48,14 @@ pub loose : (job : JobOf) (v : View) (d : Device) (house : HouseAt) → DiskShow
 loose job v d house k = record { sequence = k.sequence; found = k.found; keeps = k.keeps; own = k.own; stored = k.stored; epoch = k.epoch; held = tt }
 
 -- so it is of another disk that keeps the same
-pub same_record : (job : JobOf) (v : View) (d e : Device) (house : HouseAt) → ((n : ℕ) (r : Record) → Keeps d.file n r → Keeps e.file n r) → DiskShown job v d house → DiskShown job v e Down
+pub same_record : (job : JobOf) (v : View) (d e : Device) (house : HouseAt) → ((n : ℕ) (r : CheckpointRecord) → KeepsRecord d.file n r → KeepsRecord e.file n r) → DiskShown job v d house → DiskShown job v e Down
 same_record job v d e house keeps k = record { sequence = k.sequence; found = k.found; keeps = keeps k.sequence k.found k.keeps; own = k.own; stored = k.stored; epoch = k.epoch; held = tt }
 
 -- nothing is sent
 pub net_as : (job : JobOf) (base : View) (w : WorldOf) (house : HouseAt) (d : Device) → TiedSince job base (record w { house = house; disk = d }) → TiedSince job base (record w { house = house; disk = d; net = w.net ++ [] })
 net_as job base w house d tied = subst (λ (n : List PacketOf). TiedSince job base (record w { house = house; disk = d; net = n })) (sym (append-nil w.net)) tied
 
-module _ (job : JobOf) (base v : View) (w : WorldOf) (run : Run (meaning_of job) v) (since : Leads base v) (shown : Shown job v w) where
+module _ (job : JobOf) (base v : View) (w : WorldOf) (run : Run (tables_meaning job) v) (since : Leads base v) (shown : Shown job v w) where
   -- where it wasn't open
   still_shut : Closed v → (house : HouseAt) (d : Device) → IsShut house → DiskShown job v d Down → TiedSince job base (record w { house = house; disk = d })
   still_shut closed house d shut disk = record { view = v; run = run; since = since; shown = record { nodes = shown.nodes; workers = shown.workers; started = shown.started; apart = shown.apart; up = λ i a b. (let u = shown.up i a b in record { at = u.at; node = u.node; there = u.there; name = u.name }); words = shown.words; house = shut_shown v house shut closed; disk = shut_disk job v d house shut disk; net = shown.net; sent = shown.sent; fills = shown.fills } }
@@ -66,7 +66,7 @@ module _ (job : JobOf) (base v : View) (w : WorldOf) (run : Run (meaning_of job)
       let s : OpenShown v h = (own job base v w run since shown h is).shown in
       let act : acts.Act v (close_house v (name_of h)) = acts.closes (name_of h) s.mode in
       let x : View = close_house v (name_of h) in
-      let keeps : KeepsTables v x = keeps_one act in
+      let keeps : KeepsSent v x = keeps_one act in
       let others : (j : ℕ) → (j ≡ name_of h → ⊥) → SameAt v x j = λ j apart. record { mode = put_other v.mode (name_of h) j tables.Gone apart; minted = refl; asked = refl; seen = λ g. refl; subs = λ g. refl; pending = refl; kept = λ t. refl; roster = refl } in
       let gone : x.mode (name_of h) ≡ tables.Gone = put_here v.mode (name_of h) tables.Gone in
       let over : Closed x = record {
@@ -110,17 +110,17 @@ module _ (job : JobOf) (base v : View) (w : WorldOf) (run : Run (meaning_of job)
       by_house (IsUp (Open h)) e s = falls h e house d shut disk
 
 -- it is shut over a disk that keeps what was kept
-pub shut_tied : (job : JobOf) (base : View) (w : WorldOf) (tied : TiedSince job base w) (house : HouseAt) (d : Device) → IsShut house → ((n : ℕ) (r : Record) → Keeps w.disk.file n r → Keeps d.file n r) → TiedSince job base (record w { house = house; disk = d })
+pub shut_tied : (job : JobOf) (base : View) (w : WorldOf) (tied : TiedSince job base w) (house : HouseAt) (d : Device) → IsShut house → ((n : ℕ) (r : CheckpointRecord) → KeepsRecord w.disk.file n r → KeepsRecord d.file n r) → TiedSince job base (record w { house = house; disk = d })
 shut_tied job base w tied house d shut keeps = shuts job base tied.view w tied.run tied.since tied.shown house d shut (same_record job tied.view w.disk d w.house keeps tied.shown.disk)
 
 -- a call of a step's commit fails: the disk has what was committed before, or the step's
-module _ (job : JobOf) (base v : View) (w : WorldOf) (run : Run (meaning_of job) v) (since : Leads base v) (shown : Shown job v w) (h : HouseOf) (is : w.house ≡ IsUp (Open h)) (s : house.StepOf) (step : HouseStepShown job v h s) (holds : IsHouse h → IsHouse s.after) (commits : Commits s.commits h s.after) where
-  before : (d : Device) (why : _) → Keeps d.file h.sequence (record_of job (kept_of h)) → TiedSince job base (record w { house = IsUp (Stopped why); disk = d; net = w.net ++ [] })
+module _ (job : JobOf) (base v : View) (w : WorldOf) (run : Run (tables_meaning job) v) (since : Leads base v) (shown : Shown job v w) (h : HouseOf) (is : w.house ≡ IsUp (Open h)) (s : house.HouseStepOf) (step : HouseStepShown job v h s) (holds : IsHouse h → IsHouse s.after) (commits : Commits s.commits h s.after) where
+  before : (d : Device) (why : _) → KeepsRecord d.file h.sequence (record_of job (kept_of h)) → TiedSince job base (record w { house = IsUp (Stopped why); disk = d; net = w.net ++ [] })
   before d why keeps =
       let o = own job base v w run since shown h is in
       net_as job base w (IsUp (Stopped why)) d (shuts job base v w run since shown (IsUp (Stopped why)) d (is_stopped why) (record { sequence = h.sequence; found = record_of job (kept_of h); keeps = keeps; own = refl; stored = o.shown.stored; epoch = rw o.shown.epoch (omega arith); held = tt }))
 
-  behind : (d : Device) (why : _) (k : Kept) → s.commits ≡ Some k → Keeps d.file s.after.sequence (record_of job (kept_of s.after)) → TiedSince job base (record w { house = IsUp (Stopped why); disk = d; net = w.net ++ [] })
+  behind : (d : Device) (why : _) (k : Kept) → s.commits ≡ Some k → KeepsRecord d.file s.after.sequence (record_of job (kept_of s.after)) → TiedSince job base (record w { house = IsUp (Stopped why); disk = d; net = w.net ++ [] })
   behind d why k e keeps =
       let o = own job base v w run since shown h is in
       let x = step.view in
@@ -128,7 +128,7 @@ module _ (job : JobOf) (base v : View) (w : WorldOf) (run : Run (meaning_of job)
       let open_shown : Shown job x open_world = house_stepped job base v w run since shown h is s d [] step (holds o.sound) keeps (none_shown x) (λ t m. inl (step.keeps_transfers k e t m)) in
       shuts job base x open_world (step.run run) (step.since base since) open_shown (IsUp (Stopped why)) d (is_stopped why) (record { sequence = s.after.sequence; found = record_of job (kept_of s.after); keeps = keeps; own = refl; stored = step.after.stored; epoch = rw step.after.epoch (omega arith); held = tt })
 
-  pub halted_tied : (calls : List Call) (k : ℕ) (bytes : List ℕ) (why : _) → MakesCalls job h s.commits w.disk calls → k < length calls → TiedSince job base (record w { house = IsUp (Stopped why); disk = halted w.disk calls k bytes; net = w.net ++ [] })
+  pub halted_tied : (calls : List DeviceCall) (k : ℕ) (bytes : List ℕ) (why : _) → MakesCalls job h s.commits w.disk calls → k < length calls → TiedSince job base (record w { house = IsUp (Stopped why); disk = halted w.disk calls k bytes; net = w.net ++ [] })
   halted_tied calls k bytes why makes within = by_commit s.commits refl commits makes
     where
       none : calls ≡ [] → length calls ≡ 0
@@ -138,5 +138,5 @@ module _ (job : JobOf) (base v : View) (w : WorldOf) (run : Run (meaning_of job)
       by_commit None e c m = let no = none m in absurd (omega (arith, no, within))
       by_commit (Some q) e c m = ⊎_elim
           (λ old. before (halted w.disk calls k bytes) why old)
-          (λ new. behind (halted w.disk calls k bytes) why q e (let at : s.after.sequence ≡ h.sequence + 1 = ap (λ (x : Kept). x.sequence) c.0 ∙ c.2 in subst (λ (x : Kept). Keeps (halted w.disk calls k bytes).file x.sequence (record_of job x)) (sym c.0) (kept_as (sym c.2) refl new)))
+          (λ new. behind (halted w.disk calls k bytes) why q e (let at : s.after.sequence ≡ h.sequence + 1 = ap (λ (x : Kept). x.sequence) c.0 ∙ c.2 in subst (λ (x : Kept). KeepsRecord (halted w.disk calls k bytes).file x.sequence (record_of job x)) (sym c.0) (kept_as (sym c.2) refl new)))
           (cut_off w.disk h.sequence (record_of job (kept_of h)) (record_of job q) calls (own_kept job base v w run since shown h is) m k bytes within)

@@ -1,7 +1,7 @@
 -- How a view shows a world.
 use Rattle.std.specs.Prelude.{◌≡◌, ◌≤◌, ℕ, true, [], Some, None}
-use Rattle.checkpoint.specs.Store.{Keeps}
-use Rattle.checkpoint.specs.declared.record.Record.{Record}
+use Rattle.checkpoint.specs.Store.{KeepsRecord}
+use Rattle.checkpoint.specs.declared.record.CheckpointRecord.{CheckpointRecord}
 use Rattle.disk.specs.Device.{Device}
 use Rattle.serial_meaning.specs.Job.{JobOf}
 use Rattle.node_state.specs.Node.{NodeOf}
@@ -15,7 +15,7 @@ use Rattle.run_tables.specs.Runs.{Run, Leads, stays_at}
 use Rattle.node_moves.specs.Shows.{NodeShown}
 use Rattle.node_moves.specs.Steps.{AllShown, IsSent, shown_fills}
 use Rattle.house_moves.specs.Shows.{OpenShown, stored_of}
-use Rattle.house_moves.specs.Steps.{meaning_of}
+use Rattle.house_moves.specs.Steps.{tables_meaning}
 use Rattle.world_steps.specs.World.{Down, HouseAt, IsUp, WorldOf, is_used, node_in}
 
 -- a node of that name is up
@@ -44,11 +44,11 @@ HouseShown v Down = Closed v
 HouseShown v (IsUp state) = StateShown v state
 
 -- what an open clearinghouse has committed is the record on the disk
-abbrev pub IsCommitted : JobOf → ℕ → Record → State → Type 0
+abbrev pub IsCommitted : JobOf → ℕ → CheckpointRecord → State → Type 0
 IsCommitted job sequence r (Open h) = (sequence ≡ h.sequence) × (r ≡ record_of job (kept_of h))
 IsCommitted job sequence r (Stopped s) = Unit {0}
 
-abbrev pub IsHeldBy : JobOf → ℕ → Record → HouseAt → Type 0
+abbrev pub IsHeldBy : JobOf → ℕ → CheckpointRecord → HouseAt → Type 0
 IsHeldBy job sequence r Down = Unit {0}
 IsHeldBy job sequence r (IsUp state) = IsCommitted job sequence r state
 
@@ -56,8 +56,8 @@ IsHeldBy job sequence r (IsUp state) = IsCommitted job sequence r state
 -- theirs, or a later one that began and was never open
 pub record DiskShown (job : JobOf) (v : View) (d : Device) (house : HouseAt) : Type 0 where
   pub sequence : ℕ
-  pub found : Record
-  pub keeps : Keeps d.file sequence found
+  pub found : CheckpointRecord
+  pub keeps : KeepsRecord d.file sequence found
   pub own : found.job ≡ job.number
   pub stored : v.stored ≡ stored_of found.outcome
   pub epoch : v.epoch ≤ found.epoch
@@ -82,13 +82,13 @@ pub record Shown (job : JobOf) (v : View) (w : WorldOf) : Type 0 where
 -- tables that come of right moves show it
 pub record Tied (job : JobOf) (w : WorldOf) : Type 0 where
   pub view : View
-  pub run : Run (meaning_of job) view
+  pub run : Run (tables_meaning job) view
   pub shown : Shown job view w
 
 -- and so do tables to which others lead by moves
 pub record TiedSince (job : JobOf) (base : View) (w : WorldOf) : Type 0 where
   pub view : View
-  pub run : Run (meaning_of job) view
+  pub run : Run (tables_meaning job) view
   pub since : Leads base view
   pub shown : Shown job view w
 

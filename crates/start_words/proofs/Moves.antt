@@ -5,7 +5,7 @@ use lib.ListN.{get_elem?}
 use Rattle.atomic_table.specs.Table.{State, Me, step, keeps, stepped, opening, Allows, Enters, Splits, Joins, Final, Seen}
 use Rattle.atomic_table.proofs.Lists.{set_else}
 use Rattle.start_words.specs.declared.law.Hand.{Hand}
-use Rattle.start_words.specs.Numbers.{times, times_to, EachOnce}
+use Rattle.start_words.specs.Numbers.{times_drawn, times_to, EachOnce}
 use Rattle.start_words.specs.Hands.{hand, total, IsWithin, Drawn, Draws, Comes, kept_of, dealt, gathered}
 use Rattle.start_words.proofs.Counts.{times-append, times_to-next, times_to-after, times_to-none, times_of_none}
 use Rattle.start_words.proofs.Totals.{total-set, total-snoc, le_total, total_within, total_alone, within-set, within-snoc}
@@ -30,7 +30,7 @@ opens pens = record {
 recounted : (pens : ℕ) (s : St) (views : List Hand) → Drawn pens s → IsWithin views
     → total (λ v. v.parts) views ≡ total (λ v. v.parts) s.views
     → total (λ v. length v.drawn) views ≡ total (λ v. length v.drawn) s.views
-    → ((x : ℕ) → total (λ v. times x v.drawn) views ≡ total (λ v. times x v.drawn) s.views)
+    → ((x : ℕ) → total (λ v. times_drawn x v.drawn) views ≡ total (λ v. times_drawn x v.drawn) s.views)
     → Drawn pens (record { words = s.words; homes = s.homes; views = views })
 recounted pens s views kept within parts counted each = record {
   one_word = kept.one_word;
@@ -64,11 +64,11 @@ drawn_next pens s id me kept at room =
       within = within-set s.views id w kept.within (omega arith);
       counted = (let t = total-set (λ v. length v.drawn) s.views id me.0 w at in let p = kept.counted in omega arith);
       each_once = λ x.
-          let t = total-set (λ v. times x v.drawn) s.views id me.0 w at in
+          let t = total-set (λ v. times_drawn x v.drawn) s.views id me.0 w at in
           let more = times-append x drawn ((n + 1) ∷ []) in
           let next = times_to-next n x in
           let p = kept.each_once x in
-          subst (λ (z : ℕ). total (λ v. times x v.drawn) (set s.views id w) ≡ times_to z x) (sym now) (omega arith);
+          subst (λ (z : ℕ). total (λ v. times_drawn x v.drawn) (set s.views id w) ≡ times_to z x) (sym now) (omega arith);
     }
 
 pub draws : (pens slots id : ℕ) (me : M) → pens ≤ 1024 → length me.0.drawn < me.0.parts * 2 ^ 32
@@ -78,7 +78,7 @@ draws pens slots id me few room s kept _ at _ =
     let w : Hand = hand me.0.parts (me.0.drawn ++ (n + 1) ∷ []) in
     let fits : n + 1 < 2 ^ 63 = count_fits pens s few kept in
     let same : n + 1 ≡ (n + 1) % 2 ^ 64 = omega arith in
-    let never = le_total (λ v. times (n + 1) v.drawn) s.views id me.0 at in
+    let never = le_total (λ v. times_drawn (n + 1) v.drawn) s.views id me.0 at in
     let once = kept.each_once (n + 1) in
     let none_yet = times_to-after n in (
       w,
@@ -95,7 +95,7 @@ comes pens slots first s kept _ _ =
       recounted pens s (s.views ++ w ∷ []) kept (within-snoc s.views w kept.within (omega arith))
           (let t = total-snoc (λ v. v.parts) s.views w in omega arith)
           (let t = total-snoc (λ v. length v.drawn) s.views w in omega arith)
-          (λ x. let t = total-snoc (λ v. times x v.drawn) s.views w in omega arith),
+          (λ x. let t = total-snoc (λ v. times_drawn x v.drawn) s.views w in omega arith),
       refl,
     )
 
@@ -109,7 +109,7 @@ deals pens id v some_part empty s kept at =
     (within-snoc views r (within-set s.views id l kept.within (omega arith)) (omega arith))
     (let t = total-set (λ u. u.parts) s.views id v l at in let u = total-snoc (λ u. u.parts) views r in omega arith)
     (let t = total-set (λ u. length u.drawn) s.views id v l at in let u = total-snoc (λ u. length u.drawn) views r in omega arith)
-    (λ x. let t = total-set (λ u. times x u.drawn) s.views id v l at in let u = total-snoc (λ u. times x u.drawn) views r in omega arith)
+    (λ x. let t = total-set (λ u. times_drawn x u.drawn) s.views id v l at in let u = total-snoc (λ u. times_drawn x u.drawn) views r in omega arith)
 
 pub gathers : (pens id : ℕ) (v : Hand) (other : ℕ) (w : Hand) → Joins (Drawn pens) id v other w (gathered v w) (hand 0 [])
 gathers pens id v other w s kept at apart there =
@@ -124,8 +124,8 @@ gathers pens id v other w s kept at apart there =
     (let t = total-set (λ u. u.parts) s.views id v all at in let u = total-set (λ u. u.parts) views other w left there in omega arith)
     (let t = total-set (λ u. length u.drawn) s.views id v all at in let u = total-set (λ u. length u.drawn) views other w left there in omega arith)
     (λ x.
-    let t = total-set (λ u. times x u.drawn) s.views id v all at in
-    let u = total-set (λ u. times x u.drawn) views other w left there in
+    let t = total-set (λ u. times_drawn x u.drawn) s.views id v all at in
+    let u = total-set (λ u. times_drawn x u.drawn) views other w left there in
     let both = times-append x v.drawn w.drawn in
     omega arith)
 
@@ -134,8 +134,8 @@ pub drawn_alone : (pens : ℕ) (s : St) (id : ℕ) (v : Hand) → v.parts ≡ pe
 drawn_alone pens s id v whole seen x =
     let kept = seen.0 in
     let parts = kept.parts in
-    let none_else : (j : ℕ) (u : Hand) → get_elem? s.views j ≡ some u → u.parts ≡ 0 → times x u.drawn ≡ 0 = λ j u there none. times_of_none x u.drawn (let h = kept.within j u there in omega arith) in
-    sym (total_alone (λ u. times x u.drawn) s.views id v none_else seen.1 (omega arith)) ∙ kept.each_once x
+    let none_else : (j : ℕ) (u : Hand) → get_elem? s.views j ≡ some u → u.parts ≡ 0 → times_drawn x u.drawn ≡ 0 = λ j u there none. times_of_none x u.drawn (let h = kept.within j u there in omega arith) in
+    sym (total_alone (λ u. times_drawn x u.drawn) s.views id v none_else seen.1 (omega arith)) ∙ kept.each_once x
 
 -- the same of a table that was closed
 pub closed_each_once : (pens : ℕ) (id : ℕ) (v : Hand) (words : List ℕ) (slots : List (Unit {0})) (n : ℕ) → v.parts ≡ pens
@@ -143,7 +143,7 @@ pub closed_each_once : (pens : ℕ) (id : ℕ) (v : Hand) (words : List ℕ) (sl
 closed_each_once pens id v words slots n whole final at x =
     let s = final.0 in
     let word : get_or s.words 0 0 ≡ n = ap (λ (l : List ℕ). get_or l 0 0) final.2 ∙ first_is words n at in
-    subst (λ (z : ℕ). times x v.drawn ≡ times_to z x) word (drawn_alone pens s id v whole final.1 x)
+    subst (λ (z : ℕ). times_drawn x v.drawn ≡ times_to z x) word (drawn_alone pens s id v whole final.1 x)
   where
     first_is : (l : List ℕ) (m : ℕ) → get_elem? l 0 ≡ some m → get_or l 0 0 ≡ m
     first_is [] m e = absurd (some-ne-none m (sym e))

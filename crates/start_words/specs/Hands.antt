@@ -4,7 +4,7 @@ use mathlib.Core.Option.{some}
 use lib.ListN.{get_elem?}
 use Rattle.atomic_table.specs.Table.{State, Me, Step}
 use Rattle.start_words.specs.declared.law.Hand.{Hand}
-use Rattle.start_words.specs.Numbers.{times, times_to, IsStartWord}
+use Rattle.start_words.specs.Numbers.{times_drawn, times_to, IsStartWord}
 
 abbrev pub hand : ℕ → List ℕ → Hand
 hand parts drawn = record { parts = parts; drawn = drawn }
@@ -24,7 +24,7 @@ pub record Drawn (pens : ℕ) (s : State (Unit {0}) Hand) : Type 0 where
   pub parts : total (λ v. v.parts) s.views ≡ pens
   pub within : IsWithin s.views
   pub counted : total (λ v. length v.drawn) s.views ≡ slice_index s.words 0
-  pub each_once : (x : ℕ) → total (λ v. times x v.drawn) s.views ≡ times_to (slice_index s.words 0) x
+  pub each_once : (x : ℕ) → total (λ v. times_drawn x v.drawn) s.views ≡ times_to (slice_index s.words 0) x
 
 abbrev Seated : Type 0
 Seated = Me (Unit {0}) Hand
@@ -34,7 +34,7 @@ abbrev pub Draws : Step (Unit {0}) → Seated → ℕ → Seated → Type 0
 Draws step before found after =
     (after.0 ≡ hand before.0.parts (before.0.drawn ++ (found + 1) ∷ []))
     × (after.1 ≡ before.1)
-    × (times (found + 1) before.0.drawn ≡ 0)
+    × (times_drawn (found + 1) before.0.drawn ≡ 0)
     × IsStartWord (found + 1)
 
 -- a view with no part and no number

@@ -2,7 +2,7 @@ ghost use Rattle.std.specs.Prelude.{◌≡◌, IsSome, OnOk, OnErr, option_copie
 ghost use Rattle.steal_protocol.specs.Replies.{reply_in, put_reply, without_reply, heard, told, name_of_reply};
 
 use codec::Packet;
-use ids::{Count, Incarnation, Named, Store, Values};
+use ids::{Count, Incarnation, Named, SortedMap, Values};
 use std::alloc::{AllocError, Global};
 use std::cmp::Ordering;
 use std::marker::Model;
@@ -36,7 +36,7 @@ pub enum Heard<'a> {
 /// The last answer to each thief. Contracts see the list of them, by rising thief.
 #[derive(Drop)]
 pub struct Replies {
-    replies: Store<Reply>,
+    replies: SortedMap<Reply>,
 }
 
 impl Model for Replies {
@@ -54,7 +54,7 @@ impl Replies {
         ensures { result ≡ [] }
     {
         Replies {
-            replies: Store::new(alloc),
+            replies: SortedMap::new(alloc),
         }
     }
 

@@ -7,7 +7,7 @@ ghost use Rattle.sub_rules.specs.Updates.{left_by, Leads};
 
 use crate::change::{Filling, Readied};
 use crate::content::Content;
-use crate::updates::{Leaver, Prepared, Update, Work};
+use crate::updates::{Leaver, Prepared, Replacement, Update};
 use ids::{Frame, FrameNo, Listed, Outcome, Return};
 use std::alloc::{AllocError, Global};
 
@@ -36,7 +36,7 @@ pub fn prepare_end(alloc: Global, content: &Content, leaver: Leaver, outcome: Ou
     Prepared {
         update: Update {
             leaver,
-            work: Work::Ends(outcome),
+            work: Replacement::Ends(outcome),
         },
         fill: None,
         ready: Listed::new(alloc),
@@ -59,7 +59,7 @@ fn prepare_fill(
     Ok(Prepared {
         update: Update {
             leaver,
-            work: Work::Fills(number, slot, value),
+            work: Replacement::Fills(number, slot, value),
         },
         fill: Some(Filling {
             frame: number,

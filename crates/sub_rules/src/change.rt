@@ -62,7 +62,7 @@ pub struct Readied {
 /// What a change leads to: the content after it, the value that it put into a slot, the frames that became ready, in the
 /// order in which they are posted, and the records that were dropped, whose holders are told so.
 #[derive(Drop)]
-pub struct Change {
+pub struct ContentChange {
     pub after: Content,
     pub fill: Option<Filling>,
     pub ready: Listed<Readied>,
@@ -71,7 +71,7 @@ pub struct Change {
 
 /// A frame that was given away: the content after it, and the task that the thief gets.
 #[derive(Drop)]
-pub struct GivenAway {
+pub struct ContentGrant {
     pub after: Content,
     pub task: Task,
 }
@@ -85,7 +85,7 @@ pub struct Opening {
 
 /// A frame that is to be done again: the content after it, and the frame, which is ready.
 #[derive(Drop)]
-pub struct DoneAgain {
+pub struct ContentRedo {
     pub after: Content,
     pub ready: Readied,
 }

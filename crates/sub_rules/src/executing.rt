@@ -7,7 +7,7 @@ ghost use Rattle.sub_rules.specs.Turning.{TurnFew};
 ghost use Rattle.sub_rules.specs.Updates.{change_by, IsPreparedFor, MayUpdate};
 
 use crate::arriving::prepare_arrival;
-use crate::change::{Change, SubError};
+use crate::change::{ContentChange, SubError};
 use crate::content::Content;
 use crate::joining::prepare_join;
 use crate::updates::{Leaver, Prepared};
@@ -25,9 +25,9 @@ pub fn exec(
     content: Content,
     number: FrameNo,
     done: &Done,
-) -> Result<Change, SubError>
+) -> Result<ContentChange, SubError>
     requires sound { IsSound content }
-    ensures answer { IsAnswerTo (carrying.exec done.now number content) result }
+    ensures answer { IsAnswerTo (carrying.exec_content done.now number content) result }
     ensures sound { IfOk result (λ change. IsSound change.after) }
 {
     let prepared = prepare_exec(alloc, &content, number, done)?;
@@ -42,7 +42,7 @@ pub fn prepare_exec(
     done: &Done,
 ) -> Result<Prepared, SubError>
     requires sound { IsSound content.now }
-    ensures { IsPreparedFor content.now (carrying.exec done.now number content.now) result }
+    ensures { IsPreparedFor content.now (carrying.exec_content done.now number content.now) result }
 {
     let Some(frame) = content.frames.get(number) else {
         return Err(SubError::Stale);
@@ -50,9 +50,9 @@ pub fn prepare_exec(
     if !is_turn_of(frame, done) {
         return Err(SubError::Stale);
     }
-    content.frames.stand_in_order();
-    next_is_a_number(content);
-    turn_is_few(done);
+    content.frames.law_stand_in_order();
+    law_next_is_a_number(content);
+    law_turn_is_few(done);
     match done.turn() {
         Turn::Sends(value) => {
             let leaver = Leaver::FrameOf(number);
@@ -69,13 +69,13 @@ pub(crate) fn carried_out(
     alloc: Global,
     content: Content,
     prepared: Prepared,
-) -> Result<Change, AllocError>
+) -> Result<ContentChange, AllocError>
     requires { MayUpdate prepared.update content }
     ensures { IfOk result (λ change. change ≡ change_by prepared content) }
 {
     let mut after = content;
     let dropped = after.update(alloc, prepared.update)?;
-    Ok(Change {
+    Ok(ContentChange {
         after,
         fill: prepared.fill,
         ready: prepared.ready,
@@ -84,14 +84,14 @@ pub(crate) fn carried_out(
 }
 
 /// The number of the next frame is a frame's number. Does nothing.
-fn next_is_a_number(content: &Content)
+fn law_next_is_a_number(content: &Content)
     ensures { content.now.next < 2 ^ 32 }
 {
     let _ = content.next.number();
 }
 
 /// A turn that was evaluated has at most 8 slots, and holes 1 to 8, since its program was accepted. Does nothing.
-fn turn_is_few(done: &Done)
+fn law_turn_is_few(done: &Done)
     ensures { TurnFew done.now.turn }
 {
     kind_check::accepted_threads_are_few();

@@ -7,7 +7,7 @@ ghost use Rattle.sub_rules.specs.Debts.{IsSound};
 ghost use Rattle.sub_rules.specs.Updates.{IsPreparedIn, opened_in, opening_of};
 
 use crate::arriving::{prepare_arrival, prepare_end};
-use crate::change::{Change, DoneAgain, GivenAway, Opening, Readied};
+use crate::change::{ContentChange, ContentGrant, ContentRedo, Opening, Readied};
 use crate::content::Content;
 use crate::executing::carried_out;
 use crate::joining::all_given;
@@ -20,8 +20,8 @@ use ids::{
 use std::alloc::{AllocError, Global};
 use victim_records::Records;
 
-/// The content with which a granted task begins, for the host that granted it: one frame, number 0; refused for want of memory
-/// alone.
+/// The content with which a granted task begins, for the host that granted it: one frame, number 0; refused only when out
+/// of memory.
 pub fn granted(alloc: Global, host: Actor, task: Task) -> Result<Content, AllocError>
     ensures { IfOk result (λ content. content ≡ granted_content host task) }
 {
@@ -51,14 +51,14 @@ fn first_frame(alloc: Global, task: &Task) -> Result<Frame, AllocError>
 }
 
 /// Gives a ready frame away: a record of the grant, which the thief holds, stands in the frame's place. None where no frame
-/// is ready under that number; refused for want of memory alone.
+/// is ready under that number; refused only when out of memory.
 pub fn grant_out(
     alloc: Global,
     content: Content,
     number: FrameNo,
     grant: GrantId,
     thief: Incarnation,
-) -> Result<Option<GivenAway>, AllocError>
+) -> Result<Option<ContentGrant>, AllocError>
     requires sound { IsSound content }
     ensures given { IfOk result (λ o. o ≡ given_away grant thief content (ready_in number content)) }
     ensures sound { record_in grant content.records ≡ None → IfOk result (λ o. IfSome o (λ g. IsSound g.after)) }
@@ -67,14 +67,14 @@ pub fn grant_out(
         Some(Opening { opened, task }) => {
             let mut after = content;
             after.open(opened)?;
-            Ok(Some(GivenAway { after, task }))
+            Ok(Some(ContentGrant { after, task }))
         }
         None => Ok(None),
     }
 }
 
 /// Prepares what `grant_out` does, with the record and the task that it takes, and changes nothing. None where no frame is ready
-/// under that number; refused for want of memory alone.
+/// under that number; refused only when out of memory.
 pub fn prepare_grant_out(
     alloc: Global,
     content: &Content,
@@ -86,7 +86,7 @@ pub fn prepare_grant_out(
     ensures opening { IfOk result (λ o. o ≡ opening_of grant thief (ready_in number content.now)) }
     ensures sound { record_in grant content.now.records ≡ None → IfOk result (λ o. IfSome o (λ p. IsSound (opened_in p.opened content.now))) }
 {
-    content.frames.stand_in_order();
+    content.frames.law_stand_in_order();
     let Some(frame) = content.frames.get(number) else {
         return Ok(None);
     };
@@ -109,13 +109,13 @@ pub fn prepare_grant_out(
 }
 
 /// Takes the outcome of a grant: its record is closed, a value goes where it is awaited, and too deep is the outcome of the
-/// whole. None where there is no record of the grant; refused for want of memory alone.
+/// whole. None where there is no record of the grant; refused only when out of memory.
 pub fn close(
     alloc: Global,
     content: Content,
     grant: GrantId,
     outcome: Outcome,
-) -> Result<Option<Change>, AllocError>
+) -> Result<Option<ContentChange>, AllocError>
     requires sound { IsSound content }
     ensures change { IfOk result (λ o. o ≡ closed_in outcome content (record_in grant content.records)) }
     ensures sound { IfOk result (λ o. IfSome o (λ change. IsSound change.after)) }
@@ -139,8 +139,8 @@ pub fn prepare_close(
     let Some(taken) = content.records.get(grant) else {
         return Ok(None);
     };
-    content.frames.stand_in_order();
-    content.records.stand_in_order();
+    content.frames.law_stand_in_order();
+    content.records.law_stand_in_order();
     let leaver = Leaver::RecordOf(grant);
     match outcome {
         Outcome::Value(value) => {
@@ -152,12 +152,12 @@ pub fn prepare_close(
 }
 
 /// Closes a record without an outcome, so that its frame is done again: the frame is there under its old number, and ready.
-/// None where there is no record of the grant; refused for want of memory alone.
+/// None where there is no record of the grant; refused only when out of memory.
 pub fn redo(
     alloc: Global,
     content: Content,
     grant: GrantId,
-) -> Result<Option<DoneAgain>, AllocError>
+) -> Result<Option<ContentRedo>, AllocError>
     requires sound { IsSound content }
     ensures again { IfOk result (λ o. o ≡ done_again content (record_in grant content.records)) }
     ensures sound { IfOk result (λ o. IfSome o (λ a. IsSound a.after)) }
@@ -172,7 +172,7 @@ pub fn redo(
     };
     let mut after = content;
     after.frames.insert(frame)?;
-    Ok(Some(DoneAgain { after, ready }))
+    Ok(Some(ContentRedo { after, ready }))
 }
 
 /// The frame that a record stands for.
@@ -195,7 +195,7 @@ fn stolen_frame(alloc: Global, taken: Record) -> Result<Frame, AllocError>
     })
 }
 
-/// The numbers in slots, if none is empty; refused for want of memory alone.
+/// The numbers in slots, if none is empty; refused only when out of memory.
 pub fn numbers_in(alloc: Global, slots: &[Option<i64>]) -> Result<Option<Listed<i64>>, AllocError>
     ensures { IfOk result (λ numbers. numbers ≡ numbers_in slots.now) }
 {

@@ -11,7 +11,7 @@ ghost use Rattle.sub_rules.specs.declared.updates.Leaver.TheVariants.{FrameOf};
 use crate::arriving::prepare_end;
 use crate::change::{Readied, SubError};
 use crate::content::Content;
-use crate::updates::{Leaver, Prepared, Update, Work};
+use crate::updates::{Leaver, Prepared, Replacement, Update};
 use body_eval::{Kid, Slot};
 use ids::limits::MOST_STEPS;
 use ids::{Frame, FrameNo, Listed, Outcome, Place, Return};
@@ -47,7 +47,7 @@ pub fn prepare_join(
     Ok(Prepared {
         update: Update {
             leaver,
-            work: Work::Adds(Listed::from_vec(made), FrameNo::of(next)),
+            work: Replacement::Adds(Listed::from_vec(made), FrameNo::of(next)),
         },
         fill: None,
         ready,
@@ -117,7 +117,7 @@ fn kid_frame(
     })
 }
 
-/// The place one step further; refused for want of memory alone.
+/// The place one step further; refused only when out of memory.
 fn place_below(alloc: Global, place: &Place, step: u8) -> Result<Place, AllocError>
     requires short { length place.now < 1024 }
     requires step { step < 9 }

@@ -12,7 +12,7 @@ mod leaving;
 mod readiness;
 mod updates;
 
-pub use change::{Change, DoneAgain, Filling, GivenAway, Opening, Readied, SubError};
+pub use change::{ContentChange, ContentGrant, ContentRedo, Filling, Opening, Readied, SubError};
 pub use content::Content;
 pub use executing::{exec, is_stale, prepare_exec};
 pub use granting::{close, grant_out, granted, numbers_in, prepare_close, prepare_grant_out, redo};
@@ -21,8 +21,8 @@ pub use laws::{
     ready_frames_await_nothing, renaming_keeps_sound,
 };
 pub use readiness::{
-    frames_done_again_are_told, frames_that_leave_are_gone, grants_tell_what_is_ready,
-    ready_frames_are_listed_once, renaming_makes_nothing_ready, results_tell_what_is_ready,
-    turns_tell_what_is_ready,
+    law_frames_done_again_are_told, law_frames_that_leave_are_gone, law_grants_tell_what_is_ready,
+    law_ready_frames_are_listed_once, law_renaming_makes_nothing_ready,
+    law_results_tell_what_is_ready, law_turns_tell_what_is_ready,
 };
-pub use updates::{Leaver, Prepared, Update, Work};
+pub use updates::{Leaver, Prepared, Replacement, Update};

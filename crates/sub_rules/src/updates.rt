@@ -19,7 +19,7 @@ pub enum Leaver {
 /// What comes in the place of what left: the end of the whole with its outcome; a value in a slot of a frame; or new frames, and
 /// the number that is next behind them.
 #[derive(Drop)]
-pub enum Work {
+pub enum Replacement {
     Ends(Outcome),
     Fills(FrameNo, u8, i64),
     Adds(Listed<Frame>, FrameNo),
@@ -29,7 +29,7 @@ pub enum Work {
 #[derive(Drop)]
 pub struct Update {
     pub leaver: Leaver,
-    pub work: Work,
+    pub work: Replacement,
 }
 
 /// A change of a content that is prepared, with what memory it takes: how the content changes, the value that comes to a slot
@@ -43,7 +43,7 @@ pub struct Prepared {
 
 impl Content {
     /// Makes an update where the content stands, and gives the records that are dropped. Only room for new frames takes memory;
-    /// refused for want of it, which changes nothing.
+    /// refused only when there is none, which changes nothing.
     pub fn update(&mut self, alloc: Global, update: Update) -> Result<Records, AllocError>
         requires { MayUpdate update self.old }
         ensures after { OnOk result (self.new ≡ updated update self.old) }
@@ -52,18 +52,18 @@ impl Content {
     {
         let Update { leaver, work } = update;
         match work {
-            Work::Ends(outcome) => {
+            Replacement::Ends(outcome) => {
                 self.leave(leaver);
                 self.progress = Progress::Finished(outcome);
                 self.frames = Frames::new(alloc);
                 Ok(replace(&mut self.records, Records::new(alloc)))
             }
-            Work::Fills(number, slot, value) => {
+            Replacement::Fills(number, slot, value) => {
                 self.leave(leaver);
                 self.frames.fill(number, slot, value);
                 Ok(Records::new(alloc))
             }
-            Work::Adds(made, next) => {
+            Replacement::Adds(made, next) => {
                 self.frames.insert_join(self.next, made.into_vec())?;
                 self.leave(leaver);
                 self.next = next;
@@ -73,7 +73,7 @@ impl Content {
     }
 
     /// Gives a frame away where the content stands: its record stands in its place. Only room for the record takes memory; refused
-    /// for want of it, which changes nothing.
+    /// only when there is none, which changes nothing.
     pub fn open(&mut self, opened: Record) -> Result<(), AllocError>
         ensures ok { OnOk result (self.new ≡ opened_in opened self.old) }
         ensures err { OnErr result (self.new ≡ self.old) }

@@ -24,12 +24,12 @@ use Rattle.kind_check.specs.declared.turn.Turn.TheVariants.{Sends, Joins}
 use Rattle.body_eval.specs.Done.{DoneOf}
 use Rattle.frames.specs.Frames.{frame_in, with_slot, without_frame}
 use Rattle.victim_records.specs.Records.{record_in, with_holder, without_record}
-use Rattle.sub_rules.specs.Carrying.{exec, executed, is_turn_of, within_numbers}
+use Rattle.sub_rules.specs.Carrying.{exec_content, executed, is_turn_of, within_numbers}
 use Rattle.sub_rules.specs.Changes.{arrives, closed, closed_in, done_again, ends, filled_in, frame_of, given_away, granted_out, joined, kids, readied, record_of, redone, replaced, turned, with_parent, with_thief}
 use Rattle.sub_rules.specs.Content.{Ready, granted_content, ready, ready_in, task_of}
-use Rattle.sub_rules.specs.declared.change.Change.{Change}
-use Rattle.sub_rules.specs.declared.change.DoneAgain.{DoneAgain}
-use Rattle.sub_rules.specs.declared.change.GivenAway.{GivenAway}
+use Rattle.sub_rules.specs.declared.change.ContentChange.{ContentChange}
+use Rattle.sub_rules.specs.declared.change.ContentRedo.{ContentRedo}
+use Rattle.sub_rules.specs.declared.change.ContentGrant.{ContentGrant}
 use Rattle.sub_rules.specs.declared.change.SubError.{SubError}
 use Rattle.sub_rules.specs.declared.change.SubError.TheVariants.{Stale, Spent}
 use Rattle.sub_rules.specs.declared.content.Content.{Content}
@@ -164,16 +164,16 @@ granted_fits p g thief r c fits here = record {
 }
 
 -- what a call leaves fits
-pub exec_fits : (p : Program) (c x : Content) (d : DoneOf) (n : ℕ) (change : Change) → x ≡ c → exec d n x ≡ Ok change → Fits p c → TurnFits p d.turn → Fits p change.after
+pub exec_fits : (p : Program) (c x : Content) (d : DoneOf) (n : ℕ) (change : ContentChange) → x ≡ c → exec_content d n x ≡ Ok change → Fits p c → TurnFits p d.turn → Fits p change.after
 exec_fits p c x d n change same is fits turn = by_frame (frame_in n c.frames) (rw same at is)
   where
-    by_next : (f : Frame) (b : Bool) → cond {A = Result Change SubError} b (Ok (turned f d.turn c)) (Err Spent) ≡ Ok change → Fits p change.after
+    by_next : (f : Frame) (b : Bool) → cond {A = Result ContentChange SubError} b (Ok (turned f d.turn c)) (Err Spent) ≡ Ok change → Fits p change.after
     by_next f true at =
         let equal : turned f d.turn c ≡ change = cc in
         rw (← equal) (turned_fits p f d.turn c fits turn)
     by_next f false at = absurd cc
 
-    by_turn : (f : Frame) (b : Bool) → cond {A = Result Change SubError} b (within_numbers (turned f d.turn c)) (Err Stale) ≡ Ok change → Fits p change.after
+    by_turn : (f : Frame) (b : Bool) → cond {A = Result ContentChange SubError} b (within_numbers (turned f d.turn c)) (Err Stale) ≡ Ok change → Fits p change.after
     by_turn f true at = by_next f (nat_lt (turned f d.turn c).after.next (2 ^ 32)) at
     by_turn f false at = absurd cc
 
@@ -181,7 +181,7 @@ exec_fits p c x d n change same is fits turn = by_frame (frame_in n c.frames) (r
     by_frame None at = absurd cc
     by_frame (Some f) at = by_turn f (is_turn_of d f) at
 
-pub result_fits : (p : Program) (c x : Content) (g : Grant) (o : Outcome) (change : Change) → x ≡ c → Some change ≡ closed_in o x (record_in g x.records) → Fits p c → Fits p change.after
+pub result_fits : (p : Program) (c x : Content) (g : Grant) (o : Outcome) (change : ContentChange) → x ≡ c → Some change ≡ closed_in o x (record_in g x.records) → Fits p c → Fits p change.after
 result_fits p c x g o change same is fits = by_record (record_in g c.records) (rw same at is)
   where
     by_record : (r : Option Record) → Some change ≡ closed_in o c r → Fits p change.after
@@ -191,11 +191,11 @@ result_fits p c x g o change same is fits = by_record (record_in g c.records) (r
         rw (← equal) (closed_fits p r o c fits)
 
 -- the same of a frame that is given away, whose task fits too
-pub record GivesFitting (p : Program) (given : GivenAway) : Type 0 where
+pub record GivesFitting (p : Program) (given : ContentGrant) : Type 0 where
   pub after : Fits p given.after
   pub task : IsTrue (task_fits p given.task)
 
-pub grant_fits : (p : Program) (c x : Content) (g : Grant) (thief n : ℕ) (given : GivenAway) → x ≡ c → Some given ≡ given_away g thief x (ready_in n x) → Fits p c → GivesFitting p given
+pub grant_fits : (p : Program) (c x : Content) (g : Grant) (thief n : ℕ) (given : ContentGrant) → x ≡ c → Some given ≡ given_away g thief x (ready_in n x) → Fits p c → GivesFitting p given
 grant_fits p c x g thief n given same is fits = by_ready (ready_in n c) refl (rw same at is)
   where
     by_ready : (o : Option Ready) → ready_in n c ≡ o → Some given ≡ given_away g thief c o → GivesFitting p given
@@ -205,7 +205,7 @@ grant_fits p c x g thief n given same is fits = by_ready (ready_in n c) refl (rw
         let equal : record { after = granted_out g thief r c; task = task_of r } ≡ given = cc in
         rw (← equal) (record { after = granted_fits p g thief r c fits here; task = here })
 
-pub redo_fits : (p : Program) (c x : Content) (g : Grant) (again : DoneAgain) → x ≡ c → Some again ≡ done_again x (record_in g x.records) → Fits p c → Fits p again.after
+pub redo_fits : (p : Program) (c x : Content) (g : Grant) (again : ContentRedo) → x ≡ c → Some again ≡ done_again x (record_in g x.records) → Fits p c → Fits p again.after
 redo_fits p c x g again same is fits = by_record (record_in g c.records) refl (rw same at is)
   where
     by_record : (r : Option Record) → record_in g c.records ≡ r → Some again ≡ done_again c r → Fits p again.after

@@ -15,14 +15,14 @@ use Rattle.kind_check.specs.declared.turn.Turn.TheVariants.{Sends, Joins}
 use Rattle.body_eval.specs.Done.{DoneOf}
 use Rattle.frames.specs.Frames.{frame_in, missing_in, without_frame}
 use Rattle.victim_records.specs.Records.{record_in, without_record}
-use Rattle.sub_rules.specs.Carrying.{exec, executed, holds_numbers, is_turn_of, within_numbers}
+use Rattle.sub_rules.specs.Carrying.{exec_content, executed, holds_numbers, is_turn_of, within_numbers}
 use Rattle.sub_rules.specs.Changes.{arrives, closed, closed_in, done_again, ends, filled_in, frame_of, given_away, granted_out, joined, readied, record_of, redone, replaced, turned}
 use Rattle.sub_rules.specs.Content.{Ready, ready_in, task_of}
 use Rattle.sub_rules.specs.Debts.{IsSound}
 use Rattle.sub_rules.specs.Readiness.{TellsReady}
-use Rattle.sub_rules.specs.declared.change.Change.{Change}
-use Rattle.sub_rules.specs.declared.change.DoneAgain.{DoneAgain}
-use Rattle.sub_rules.specs.declared.change.GivenAway.{GivenAway}
+use Rattle.sub_rules.specs.declared.change.ContentChange.{ContentChange}
+use Rattle.sub_rules.specs.declared.change.ContentRedo.{ContentRedo}
+use Rattle.sub_rules.specs.declared.change.ContentGrant.{ContentGrant}
 use Rattle.sub_rules.specs.declared.change.Opening.{Opening}
 use Rattle.sub_rules.specs.declared.change.SubError.{SubError}
 use Rattle.sub_rules.specs.declared.change.SubError.TheVariants.{Stale, Spent}
@@ -77,7 +77,7 @@ granted_less : (g : Grant) (thief : ℕ) (r : Ready) (c : Content) → HasNoOthe
 granted_less g thief r c = λ h other none. put_other name_of_record (name_of_grant h) (record_of g thief r) c.records (λ is. other (same_name h g is)) ∙ none
 
 -- what a call tells
-pub record Tells (c : Content) (change : Change) : Type 0 where
+pub record Tells (c : Content) (change : ContentChange) : Type 0 where
   pub ready : TellsReady c change.after change.ready
   pub records : HasNoOthers c.records change.after.records
 
@@ -95,10 +95,10 @@ turn_is_ready d f is = by_count (missing_in f.slots) refl
         let none = empty_holds_none f.slots d.numbers k count in
         cc
 
-pub exec_tells : (c x : Content) (d : DoneOf) (n : ℕ) (change : Change) → x ≡ c → IsSound c → AreInOrder name_of_frame c.frames → exec d n x ≡ Ok change → Tells c change
+pub exec_tells : (c x : Content) (d : DoneOf) (n : ℕ) (change : ContentChange) → x ≡ c → IsSound c → AreInOrder name_of_frame c.frames → exec_content d n x ≡ Ok change → Tells c change
 exec_tells c x d n change same sound order is = by_frame (frame_in n c.frames) refl (rw same at is)
   where
-    by_next : (f : Frame) → frame_in n c.frames ≡ Some f → is_turn_of d f ≡ true → (b : Bool) → cond {A = Result Change SubError} b (Ok (turned f d.turn c)) (Err Spent) ≡ Ok change → Tells c change
+    by_next : (f : Frame) → frame_in n c.frames ≡ Some f → is_turn_of d f ≡ true → (b : Bool) → cond {A = Result ContentChange SubError} b (Ok (turned f d.turn c)) (Err Spent) ≡ Ok change → Tells c change
     by_next f there turn true at =
         let equal : turned f d.turn c ≡ change = cc in
         let name = found_name name_of_frame (n, 0) f c.frames there in
@@ -107,7 +107,7 @@ exec_tells c x d n change same sound order is = by_frame (frame_in n c.frames) r
         rw (← equal) (record { ready = turned_tells c f d.turn sound order found (ready_test f (turn_is_ready d f turn)); records = turned_less f d.turn c })
     by_next f there turn false at = cc
 
-    by_turn : (f : Frame) → frame_in n c.frames ≡ Some f → (b : Bool) → is_turn_of d f ≡ b → cond {A = Result Change SubError} b (within_numbers (turned f d.turn c)) (Err Stale) ≡ Ok change → Tells c change
+    by_turn : (f : Frame) → frame_in n c.frames ≡ Some f → (b : Bool) → is_turn_of d f ≡ b → cond {A = Result ContentChange SubError} b (within_numbers (turned f d.turn c)) (Err Stale) ≡ Ok change → Tells c change
     by_turn f there true turn at = by_next f there turn (nat_lt (turned f d.turn c).after.next (2 ^ 32)) at
     by_turn f there false turn at = cc
 
@@ -115,7 +115,7 @@ exec_tells c x d n change same sound order is = by_frame (frame_in n c.frames) r
     by_frame None there at = cc
     by_frame (Some f) there at = by_turn f there (is_turn_of d f) refl at
 
-pub result_tells : (c x : Content) (g : Grant) (o : Outcome) (change : Change) → x ≡ c → IsSound c → AreInOrder name_of_frame c.frames → AreInOrder name_of_record c.records → Some change ≡ closed_in o x (record_in g x.records) → Tells c change
+pub result_tells : (c x : Content) (g : Grant) (o : Outcome) (change : ContentChange) → x ≡ c → IsSound c → AreInOrder name_of_frame c.frames → AreInOrder name_of_record c.records → Some change ≡ closed_in o x (record_in g x.records) → Tells c change
 result_tells c x g o change same sound frames records is = by_record (record_in g c.records) refl (rw same at is)
   where
     by_record : (r : Option Record) → record_in g c.records ≡ r → Some change ≡ closed_in o c r → Tells c change
@@ -131,7 +131,7 @@ pub record Gives (c after : Content) (g : Grant) : Type 0 where
   pub ready : TellsReady c after []
   pub records : HasNoOthersBut g c.records after.records
 
-pub grant_tells : (c x : Content) (g : Grant) (thief n : ℕ) (given : GivenAway) → x ≡ c → AreInOrder name_of_frame c.frames → Some given ≡ given_away g thief x (ready_in n x) → Gives c given.after g
+pub grant_tells : (c x : Content) (g : Grant) (thief n : ℕ) (given : ContentGrant) → x ≡ c → AreInOrder name_of_frame c.frames → Some given ≡ given_away g thief x (ready_in n x) → Gives c given.after g
 grant_tells c x g thief n given same frames is = by_ready (ready_in n c) (rw same at is)
   where
     by_ready : (r : Option Ready) → Some given ≡ given_away g thief c r → Gives c given.after g
@@ -150,11 +150,11 @@ opening_gives c x g thief n p same is = by_ready (ready_in n c) (rw same at is)
         let equal : record { opened = record_of g thief r; task = task_of r } ≡ p = cc in
         rw (← equal) refl
 
-pub record Repeats (c : Content) (again : DoneAgain) : Type 0 where
+pub record Repeats (c : Content) (again : ContentRedo) : Type 0 where
   pub ready : TellsReady c again.after (again.ready ∷ [])
   pub records : HasNoOthers c.records again.after.records
 
-pub redo_tells : (c x : Content) (g : Grant) (again : DoneAgain) → x ≡ c → IsSound c → AreInOrder name_of_frame c.frames → AreInOrder name_of_record c.records → Some again ≡ done_again x (record_in g x.records) → Repeats c again
+pub redo_tells : (c x : Content) (g : Grant) (again : ContentRedo) → x ≡ c → IsSound c → AreInOrder name_of_frame c.frames → AreInOrder name_of_record c.records → Some again ≡ done_again x (record_in g x.records) → Repeats c again
 redo_tells c x g again same sound frames records is = by_record (record_in g c.records) refl (rw same at is)
   where
     by_record : (r : Option Record) → record_in g c.records ≡ r → Some again ≡ done_again c r → Repeats c again

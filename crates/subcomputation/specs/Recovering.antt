@@ -12,14 +12,14 @@ use Rattle.ids.specs.declared.work.Record.{Record}
 use Rattle.victim_records.specs.Records.{record_in}
 use Rattle.sub_rules.specs.Changes.{redone, with_parent, with_thief, frame_of, readied}
 use Rattle.subcomputation.specs.Subs.{SubOf, sub_in, put_sub, without_sub, with_content, host_in}
-use Rattle.subcomputation.specs.declared.sub.ReadyIn.{ReadyIn}
+use Rattle.subcomputation.specs.declared.sub.ReadiedOf.{ReadiedOf}
 
 -- what a recovery leads to: the subcomputations after it, the records whose holders are told to stop, in the order of their
 -- Aborts, and the frames that are ready again, in their order
 pub record Recovery : Type 0 where
   pub subs : List SubOf
   pub stopped : List Record
-  pub again : List ReadyIn
+  pub again : List ReadiedOf
 
 -- nothing but these subcomputations
 abbrev pub settled : List SubOf → Recovery

@@ -9,7 +9,7 @@ use Rattle.victim_records.specs.Records.{record_in}
 use Rattle.sub_rules.specs.declared.content.Content.{Content}
 use Rattle.sub_rules.specs.Content.{granted_content}
 use Rattle.sub_rules.specs.Changes.{readied_in}
-use Rattle.subcomputation.specs.declared.sub.ReadyIn.{ReadyIn}
+use Rattle.subcomputation.specs.declared.sub.ReadiedOf.{ReadiedOf}
 use Rattle.sub_rules.specs.Debts.{IsSound}
 
 -- what is kept of a content: it is sound, and the number of its first frame is given
@@ -52,13 +52,13 @@ abbrev pub host_in : Grant → List SubOf → Option SubOf
 host_in g subs = find (has_record g) subs
 
 -- the grants of subcomputations
-abbrev pub grants_of : List SubOf → List Grant
-grants_of subs = map (λ s. s.grant) subs
+abbrev pub grants_of_subs : List SubOf → List Grant
+grants_of_subs subs = map (λ s. s.grant) subs
 
 -- the subcomputation that a granted task begins, for the host that granted it
 abbrev pub granted_sub : Grant → Task → SubOf
 granted_sub g task = record { grant = g; hop = 0; content = granted_content g.minter task }
 
 -- the ready frames of a subcomputation, by rising number
-abbrev pub ready_frames : SubOf → List ReadyIn
+abbrev pub ready_frames : SubOf → List ReadiedOf
 ready_frames s = map (λ r. record { grant = s.grant; frame = r }) (readied_in s.content.frames)

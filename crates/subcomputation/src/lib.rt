@@ -5,4 +5,4 @@ mod laws;
 mod sub;
 
 pub use laws::{fitting_tasks_are_few, renaming_keeps_fitting};
-pub use sub::{Again, ReadyIn, Sub};
+pub use sub::{ReadiedOf, Sub, SubRedo};

@@ -4,7 +4,7 @@ ghost use Rattle.task_tree.specs.declared.tree.Program.{Program};
 ghost use Rattle.kind_check.specs.Total.{TurnFits};
 ghost use Rattle.victim_records.specs.Records.{record_in};
 ghost use Rattle.frames.specs.Frames.{frame_in};
-ghost use Rattle.sub_rules.specs.Carrying.{exec, is_stale_of};
+ghost use Rattle.sub_rules.specs.Carrying.{exec_content, is_stale_of};
 ghost use Rattle.sub_rules.specs.declared.change.SubError.TheVariants.{Memory};
 ghost use Rattle.sub_rules.specs.Changes.{closed_in, given_away, done_again, with_parent, with_thief};
 ghost use Rattle.sub_rules.specs.Content.{first_frame, ready_in};
@@ -70,21 +70,21 @@ impl Exact for Sub {
 
 /// A ready frame, and the grant of its subcomputation.
 #[derive(Clone, Copy, PartialEq, Eq, Debug)]
-pub struct ReadyIn {
+pub struct ReadiedOf {
     pub grant: GrantId,
     pub frame: Readied,
 }
 
 /// A frame that is to be done again: the subcomputation after it, and the frame, which is ready.
 #[derive(Drop)]
-pub struct Again {
+pub struct SubRedo {
     pub after: Sub,
     pub ready: Readied,
 }
 
 impl Sub {
-    /// The subcomputation that a granted task begins: one frame, number 0, for the host that granted it; refused for want of
-    /// memory alone.
+    /// The subcomputation that a granted task begins: one frame, number 0, for the host that granted it; refused only when out of
+    /// memory.
     pub fn granted(alloc: Global, grant: GrantId, task: Task) -> Result<Sub, AllocError>
         ensures granted { IfOk result (λ s. s ≡ granted_sub grant task) }
         ensures fits { (p : Program) → IsTrue (task_fits p task) → IfOk result (λ s. Fits p s.content) }
@@ -152,8 +152,8 @@ impl Sub {
         number: FrameNo,
         done: &Done,
     ) -> Result<Prepared, SubError>
-        ensures answer { IsPreparedAs self.now (exec done.now number self.now.content) result }
-        ensures starved { IsErrOf result Memory → is_stale_of done.now (frame_in number self.now.content.frames) ≡ false }
+        ensures answer { IsPreparedAs self.now (exec_content done.now number self.now.content) result }
+        ensures out_of_memory { IsErrOf result Memory → is_stale_of done.now (frame_in number self.now.content.frames) ≡ false }
         ensures may { IfOk result (λ p. MayChange self.now p) }
         ensures ready { IfOk result (λ p. TellsReady self.now.content (changed_of self.now p).after.content p.ready) }
         ensures records { IfOk result (λ p. HasNoOthers self.now.content.records (changed_of self.now p).after.content.records) }
@@ -162,13 +162,13 @@ impl Sub {
         if sub_rules::is_stale(&self.content, number, done) {
             return Err(SubError::Stale);
         }
-        self.content.frames.stand_in_order();
+        self.content.frames.law_stand_in_order();
         let prepared = sub_rules::prepare_exec(alloc, &self.content, number, done)?;
         Ok(prepared)
     }
 
     /// Prepares that the outcome of a grant comes: its record is closed, a value goes where it is awaited, and too deep is the
-    /// outcome of the whole. None where there is no record of the grant; refused for want of memory alone.
+    /// outcome of the whole. None where there is no record of the grant; refused only when out of memory.
     pub fn prepare_result(
         &self,
         alloc: Global,
@@ -181,15 +181,15 @@ impl Sub {
         ensures records { IfOk result (λ o. IfSome o (λ p. HasNoOthers self.now.content.records (changed_of self.now p).after.content.records)) }
         ensures fits { (p : Program) → Fits p self.now.content → IfOk result (λ o. IfSome o (λ q. Fits p (changed_of self.now q).after.content)) }
     {
-        self.content.frames.stand_in_order();
-        self.content.records.stand_in_order();
+        self.content.frames.law_stand_in_order();
+        self.content.records.law_stand_in_order();
         match sub_rules::prepare_close(alloc, &self.content, grant, outcome)? {
             Some(prepared) => Ok(Some(prepared)),
             None => Ok(None),
         }
     }
 
-    /// Makes a change that was prepared of this subcomputation; refused for want of memory alone, which changes nothing.
+    /// Makes a change that was prepared of this subcomputation; refused only when out of memory, which changes nothing.
     pub fn update(&mut self, alloc: Global, update: Update) -> Result<(), AllocError>
         requires may { MayUpdate update self.old.content }
         requires begun { IsBegun (updated update self.old.content) }
@@ -201,7 +201,7 @@ impl Sub {
     }
 
     /// Prepares that a ready frame is given away under a grant that no record has: the record that is to stand in the frame's place,
-    /// and the task that the thief gets. None where no frame is ready under that number; refused for want of memory alone.
+    /// and the task that the thief gets. None where no frame is ready under that number; refused only when out of memory.
     pub fn prepare_grant_out(
         &self,
         alloc: Global,
@@ -217,16 +217,16 @@ impl Sub {
         ensures fits { (p : Program) → Fits p self.now.content → IfOk result (λ o. IfSome o (λ q. Fits p (opened_in q.opened self.now.content))) }
         ensures task { (p : Program) → Fits p self.now.content → IfOk result (λ o. IfSome o (λ q. IsTrue (task_fits p q.task))) }
     {
-        sub_rules::grants_tell_what_is_ready();
-        self.content.frames.stand_in_order();
+        sub_rules::law_grants_tell_what_is_ready();
+        self.content.frames.law_stand_in_order();
         match sub_rules::prepare_grant_out(alloc, &self.content, number, grant, thief)? {
             Some(opening) => Ok(Some(opening)),
             None => Ok(None),
         }
     }
 
-    /// Gives away the frame of a record that was prepared of this subcomputation: the record stands in the frame's place. Refused for
-    /// want of memory alone, which changes nothing.
+    /// Gives away the frame of a record that was prepared of this subcomputation: the record stands in the frame's place. Refused
+    /// only when out of memory, which changes nothing.
     pub fn open(&mut self, opened: Record) -> Result<(), AllocError>
         requires { IsBegun (opened_in opened self.old.content) }
         ensures ok { OnOk result (self.new ≡ opened_sub opened self.old) }
@@ -237,8 +237,8 @@ impl Sub {
     }
 
     /// Closes a record without an outcome, beside this subcomputation: its frame is ready again, under its old number. None
-    /// where there is no record of the grant; refused for want of memory alone.
-    pub fn redo(&self, alloc: Global, grant: GrantId) -> Result<Option<Again>, AllocError>
+    /// where there is no record of the grant; refused only when out of memory.
+    pub fn redo(&self, alloc: Global, grant: GrantId) -> Result<Option<SubRedo>, AllocError>
         ensures again { IfOk result (λ o. o ≡ again_by self.now (done_again self.now.content (record_in grant self.now.content.records))) }
         ensures ready { IfOk result (λ o. IfSome o (λ a. TellsReady self.now.content a.after.content (a.ready ∷ []))) }
         ensures records { IfOk result (λ o. IfSome o (λ a. HasNoOthers self.now.content.records a.after.content.records)) }
@@ -251,18 +251,18 @@ impl Sub {
     }
 
     /// The same of a subcomputation that isn't kept, with no copy of it.
-    pub fn redone(self, alloc: Global, grant: GrantId) -> Result<Option<Again>, AllocError>
+    pub fn redone(self, alloc: Global, grant: GrantId) -> Result<Option<SubRedo>, AllocError>
         ensures again { IfOk result (λ o. o ≡ again_by self (done_again self.content (record_in grant self.content.records))) }
         ensures ready { IfOk result (λ o. IfSome o (λ a. TellsReady self.content a.after.content (a.ready ∷ []))) }
         ensures records { IfOk result (λ o. IfSome o (λ a. HasNoOthers self.content.records a.after.content.records)) }
         ensures fits { (p : Program) → Fits p self.content → IfOk result (λ o. IfSome o (λ a. Fits p a.after.content)) }
     {
-        sub_rules::frames_done_again_are_told();
-        self.content.frames.stand_in_order();
-        self.content.records.stand_in_order();
+        sub_rules::law_frames_done_again_are_told();
+        self.content.frames.law_stand_in_order();
+        self.content.records.law_stand_in_order();
         let (name, hop) = (self.grant, self.hop);
         match sub_rules::redo(alloc, self.content, grant)? {
-            Some(again) => Ok(Some(Again {
+            Some(again) => Ok(Some(SubRedo {
                 after: Sub::of(name, hop, again.after),
                 ready: again.ready,
             })),
@@ -283,7 +283,7 @@ impl Sub {
         ensures { self.new ≡ with_content self.old (with_thief grant holder self.old.content) }
     {
         sub_rules::renaming_keeps_sound();
-        self.content.records.stand_in_order();
+        self.content.records.law_stand_in_order();
         self.content.records.rename_holder(grant, holder);
     }
 

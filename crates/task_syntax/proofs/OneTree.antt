@@ -14,7 +14,7 @@ use Rattle.task_tree.specs.declared.tree.Block.{Block}
 use Rattle.task_tree.specs.declared.tree.Thread.{Thread}
 use Rattle.task_tree.specs.declared.tree.Program.{Program}
 use Rattle.task_syntax.specs.Grammar.{BeginsAt, IsMark, IsName, IsExpr, Many, none, more, Further, further, IsLet, bound, IsArgument, hole, value, IsSend, send, IsSpawn, spawn, IsUse, sent, spawned, IsNext, next}
-use Rattle.task_syntax.specs.Grammar.{IsBlock, ends_in_if, ends_in_send, ends_in_next, IsThread, thread, Reads}
+use Rattle.task_syntax.specs.Grammar.{IsBlock, ends_in_if, ends_in_send, ends_in_next, IsThread, thread, ReadsAsProgram}
 use Rattle.task_syntax.specs.Refusals.{Stands, stands, Stops}
 use Rattle.task_syntax.specs.Meeting.{UseStands}
 use Rattle.task_tree.specs.Shapes.{EachSame}
@@ -215,7 +215,7 @@ one_thread (thread w t o k ns d b) (thread w2 u o2 l ms d2 b2) e =
 no_thread : {at : ℕ} {from to : List Token} → BeginsAt kind.End at from to → Stands (kind.Keyword word.Thread) from → ⊥
 no_thread b t = apart (stands (begins_at b)) t (λ k. cc) refl
 
-pub one_program : (text : List ℕ) (p q : Program) → Reads text p → Reads text q → EqualProgram p q
+pub one_program : (text : List ℕ) (p q : Program) → ReadsAsProgram text p → ReadsAsProgram text q → EqualProgram p q
 one_program text p q r s =
     let a = r.program in
     let b = s.program in

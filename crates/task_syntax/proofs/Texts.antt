@@ -6,7 +6,7 @@ use Rattle.std.proofs.lemmas.List.Elements.{All-get_or}
 use Rattle.task_tree.specs.declared.tree.Program.{Program}
 use Rattle.task_syntax.specs.declared.error.ParseError.{ParseError}
 use Rattle.task_syntax.specs.declared.error.ParseError.TheVariants.{NotAscii}
-use Rattle.task_syntax.specs.Grammar.{Reads}
+use Rattle.task_syntax.specs.Grammar.{ReadsAsProgram}
 use Rattle.task_syntax.specs.Meeting.{MeetsText, too_long, not_ascii, in_program}
 use Rattle.task_syntax.proofs.Exactness.{program_exact}
 use Rattle.task_syntax.proofs.Readings.{program_reads}
@@ -41,7 +41,7 @@ one_refusal text e f (in_program s a m) (too_long h) = absurd (omega (arith, h, 
 one_refusal text e f (in_program s a m) (not_ascii t k c d) = absurd (below_128 text _ k a d)
 one_refusal text e f (in_program s a m) (in_program t c n) = program_exact.one_error _ _ _ m n
 
-pub not_both : (text : List ℕ) (p : Program) (e : ParseError) → Reads text p → MeetsText text e → ⊥
+pub not_both : (text : List ℕ) (p : Program) (e : ParseError) → ReadsAsProgram text p → MeetsText text e → ⊥
 not_both text p e r (too_long h) = omega (arith, r.short, h)
 not_both text p e r (not_ascii s l a b) = below_128 text _ l r.ascii b
 not_both text p e r (in_program s a m) = program_exact.not_both _ _ _ (program_reads r.program) m

@@ -131,7 +131,7 @@ pub record IsProgram (from : List Token) (p : Program) : Type 0 where
   pub end : BeginsAt kind.End p.length ends []
 
 -- the text is the program: at most 65,536 bytes of ASCII, whose tokens are a sentence of the grammar
-pub record Reads (text : List ℕ) (p : Program) : Type 0 where
+pub record ReadsAsProgram (text : List ℕ) (p : Program) : Type 0 where
   pub short : length text ≤ 65536
   pub ascii : All (λ b. b < 128) text
   pub program : IsProgram (tokens 0 0 text) p

@@ -1,5 +1,5 @@
 ghost use Rattle.std.specs.Prelude.{◌≡◌, ◌≢◌, ℕ, List, ◌<◌, ◌≤◌, length, take, slice_index, All, IfOk, IfErr, MatchOption};
-ghost use Rattle.task_syntax.specs.Grammar.{Reads};
+ghost use Rattle.task_syntax.specs.Grammar.{ReadsAsProgram};
 ghost use Rattle.task_syntax.specs.declared.error.ParseError.{ParseError};
 ghost use Rattle.task_tree.specs.declared.tree.Program.{Program};
 ghost use Rattle.task_syntax.specs.Meeting.{MeetsText};
@@ -17,7 +17,7 @@ pub const LONGEST_TEXT: usize = 65536;
 /// Reads a program's text. A text over 65,536 bytes is refused first, then a byte over 7F, then the first fault that a
 /// reader from left to right meets.
 pub fn parse(alloc: Global, text: &[u8]) -> Result<Program, ParseError>
-    ensures reading { IfOk result (λ p. Reads text.now p) }
+    ensures reading { IfOk result (λ p. ReadsAsProgram text.now p) }
     ensures refused { IfErr result (λ e. e ≢ ParseError.Memory → MeetsText text.now e) }
 {
     if text.len() > LONGEST_TEXT {
@@ -37,10 +37,10 @@ fn beyond_ascii(text: &[u8]) -> Option<usize>
     text.iter().position(|b| *b >= 128)
 }
 
-/// That the answer of `parse` is the only one, but for want of memory: a text reads as at most one program, but for
+/// That the answer of `parse` is the only one, unless memory runs out: a text reads as at most one program, aside from
 /// where its parts lie in memory; a text meets at most one refusal; a text that is read meets none. Does nothing.
 pub fn answers_are_exact()
     ensures one_refusal { (text : List ℕ) (e f : ParseError) → MeetsText text e → MeetsText text f → e ≡ f }
-    ensures not_both { (text : List ℕ) (p : Program) (e : ParseError) → Reads text p → MeetsText text e → ⊥ }
-    ensures one_program { (text : List ℕ) (p q : Program) → Reads text p → Reads text q → EqualProgram p q }
+    ensures not_both { (text : List ℕ) (p : Program) (e : ParseError) → ReadsAsProgram text p → MeetsText text e → ⊥ }
+    ensures one_program { (text : List ℕ) (p q : Program) → ReadsAsProgram text p → ReadsAsProgram text q → EqualProgram p q }
 {}

@@ -17,7 +17,7 @@ use task_tree::{Argument, Block, End, Expr, Given, Let, Name, Program, Thread, U
 /// A program's text in one form: each thread on a line that ends with LF, one blank between any two tokens, in
 /// parentheses each operand that is itself an operation and nothing else, numbers in decimal without leading zeros. An
 /// empty program is the empty text. `TooLong` comes exactly where that text is over 65,536 bytes, LFs among them, and
-/// memory suffices; `Memory` only for want of memory. What no text has, as a number below 0, is written as it stands.
+/// memory suffices; `Memory` only when out of memory. What no text has, as a number below 0, is written as it stands.
 /// A program that was read is printed as a text that is read as the same program but for offsets.
 pub fn print(alloc: Global, program: &Program) -> Result<Vec<u8>, PrintError>
     ensures written { IfOk result (λ v. v.items ≡ printed program.now) }

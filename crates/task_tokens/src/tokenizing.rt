@@ -7,7 +7,7 @@ use ids::Listed;
 use std::alloc::{AllocError, Global};
 
 /// The tokens of a text, each the longest, with a last one at the text's end. Blanks and comments separate tokens and
-/// are none. Refused for want of memory alone: what no program can hold has a kind too.
+/// are none. Refused only when out of memory: what no program can hold has a kind too.
 pub fn tokenize(alloc: Global, text: &[u8]) -> Result<Listed<Token>, AllocError>
     requires { length text.now < 2 ^ 32 }
     ensures { IfOk result (λ ts. ts ≡ tokens 0 0 text.now) }

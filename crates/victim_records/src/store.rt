@@ -3,7 +3,7 @@ ghost use Rattle.ids.specs.Naming.{name_of_grant, name_of_record};
 ghost use Rattle.ids.specs.Ordered.{AreInOrder};
 ghost use Rattle.victim_records.specs.Records.{record_in, put_record, without_record, renamed, with_holder, grants_of};
 
-use ids::{Change, GrantId, Incarnation, Listed, Record, Store, Values};
+use ids::{GrantId, Incarnation, ItemChange, Listed, Record, SortedMap, Values};
 use std::alloc::{AllocError, Global};
 use std::marker::Model;
 
@@ -11,7 +11,7 @@ use std::marker::Model;
 #[derive(Drop)]
 pub struct Records {
     alloc: Global,
-    records: Store<Record>,
+    records: SortedMap<Record>,
 }
 
 impl Model for Records {
@@ -30,7 +30,7 @@ impl Records {
     {
         Records {
             alloc,
-            records: Store::new(alloc),
+            records: SortedMap::new(alloc),
         }
     }
 
@@ -49,10 +49,10 @@ impl Records {
     }
 
     /// The records stand by rising grant, each grant once. Does nothing.
-    pub fn stand_in_order(&self)
+    pub fn law_stand_in_order(&self)
         ensures { AreInOrder name_of_record self.now }
     {
-        self.records.stand_in_order();
+        self.records.law_stand_in_order();
     }
 
     /// The record of a grant, if there is one.
@@ -62,7 +62,7 @@ impl Records {
         self.records.get(name(grant))
     }
 
-    /// Puts a record under its grant, in the place of one that is there; refused for want of memory alone, which changes
+    /// Puts a record under its grant, in the place of one that is there; refused only when out of memory, which changes
     /// nothing.
     pub fn open(&mut self, opened: Record) -> Result<(), AllocError>
         ensures ok { OnOk result (self.new ≡ put_record opened self.old) }
@@ -119,7 +119,7 @@ struct Rename {
     holder: Incarnation,
 }
 
-impl Change<Record> for Rename {
+impl ItemChange<Record> for Rename {
     ghost fits = { λ rename kept. Unit {0} };
 
     ghost changed = { λ rename kept. with_holder rename.holder kept };

@@ -10,10 +10,10 @@ use Rattle.safe_runs.proofs.Events.{first_tied}
 use Rattle.safe_runs.proofs.Finding.{openings_find}
 use Rattle.safe_runs.proofs.Sound.{all_safe, each_safe}
 use Rattle.world_steps.specs.Answers.{StepResult}
-use Rattle.world_steps.specs.Calls.{StarvesBehind, WorldOn}
+use Rattle.world_steps.specs.Calls.{LacksMemoryBehind, WorldOn}
 use Rattle.world_steps.specs.Runs.{last_of}
 use Rattle.world_steps.specs.Safe.{SafeWorld}
-use Rattle.world_steps.specs.Steps.{Starves}
+use Rattle.world_steps.specs.Steps.{LacksMemory}
 use Rattle.world_steps.specs.World.{Holder, HouseAt, IsUp, WorldOf, first_over}
 use Rattle.world_steps.specs.declared.parts.NoMemory.{NoMemory}
 use Rattle.world_steps.proofs.Meeting.{can_begin}
@@ -38,15 +38,15 @@ module _ (job : JobOf) where
   }
 
   -- an event that finds no memory
-  starved_safe : (e : Event) (w : WorldOf) (o : StepResult) → SafeWorld job w → Starves job e w o → SafeWorld job o.world
-  starved_safe (Start a word) w o s (can, is) = rw is s
-  starved_safe (AtNode a e) w o s (there, is) = rw is s
-  starved_safe (AtHouse e) w o s (applies, is) = rw is (stopped_safe w _ s)
-  starved_safe (Cut c) w o s (can, starves) = rw (starves.1) (stopped_safe w _ s)
-  starved_safe (Crash a) w o s never = absurd never
-  starved_safe HouseCrash w o s never = absurd never
+  out_of_memory_safe : (e : Event) (w : WorldOf) (o : StepResult) → SafeWorld job w → LacksMemory job e w o → SafeWorld job o.world
+  out_of_memory_safe (Start a word) w o s (can, is) = rw is s
+  out_of_memory_safe (AtNode a e) w o s (there, is) = rw is s
+  out_of_memory_safe (AtHouse e) w o s (applies, is) = rw is (stopped_safe w _ s)
+  out_of_memory_safe (Cut c) w o s (can, lacks_memory) = rw (lacks_memory.1) (stopped_safe w _ s)
+  out_of_memory_safe (Crash a) w o s never = absurd never
+  out_of_memory_safe HouseCrash w o s never = absurd never
 
-  behind_safe : (e : Event) (w : WorldOf) (o : StepResult) → SafeWorld job w → StarvesBehind e w o → SafeWorld job o.world
+  behind_safe : (e : Event) (w : WorldOf) (o : StepResult) → SafeWorld job w → LacksMemoryBehind e w o → SafeWorld job o.world
   behind_safe (Start a word) w o s never = absurd never
   behind_safe (AtNode a e) w o s (up, there, is) = rw is s
   behind_safe (AtHouse e) w o s never = absurd never
@@ -56,8 +56,8 @@ module _ (job : JobOf) where
 
   -- where a run stops
   pub stop_safe : (e : Event) (last : WorldOf) (v : WorldOn) → SafeWorld job last → StopsIn job e last v → SafeWorld job v.world
-  stop_safe e last v s (o, inl starves, is) = rw is (starved_safe e last o s starves)
-  stop_safe e last v s (o, inr starves, is) = rw is (behind_safe e last o s starves.1)
+  stop_safe e last v s (o, inl lacks_memory, is) = rw is (out_of_memory_safe e last o s lacks_memory)
+  stop_safe e last v s (o, inr lacks_memory, is) = rw is (behind_safe e last o s lacks_memory.1)
 
   pub reading_safe : (e : Event) (last : WorldOf) (v : WorldOn) → SafeWorld job last → StopsReading job e last v → SafeWorld job v.world
   reading_safe e last v s (inl stops) = stop_safe e last v s stops

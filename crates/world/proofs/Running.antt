@@ -11,7 +11,7 @@ use Rattle.event_script.proofs.Lefts.{length_parts}
 use Rattle.disk.specs.Device.{Device}
 use Rattle.serial_meaning.specs.Job.{JobOf}
 use Rattle.world_steps.specs.Answers.{StepResult}
-use Rattle.world_steps.specs.Calls.{IsStarved, WorldOn}
+use Rattle.world_steps.specs.Calls.{IsOutOfMemory, WorldOn}
 use Rattle.world_steps.specs.Runs.{Entry, IsFormattedFor, Runs, ends, goes, last_of}
 use Rattle.world_steps.specs.Steps.{Step}
 use Rattle.world_steps.specs.World.{WorldOf, first_over}
@@ -56,23 +56,23 @@ run_stops Stops job events past done lacks e w v u front next stops =
 
 -- it finds no memory, as a step tells it
 
-pub starved_stops : (job : JobOf) (e : Event) (on : WorldOn) (o : StepResult) (v : WorldOn) → on.job ≡ job → IsStarved e on v.is_placed o → v.world ≡ o.world → StopsIn job e on.world v
-starved_stops job e on o v same (inl s) is = (o, inl (rw (← same) s), is)
-starved_stops job e on o v same (inr s) is = (o, inr (s.1, s.2), is)
+pub out_of_memory_stops : (job : JobOf) (e : Event) (on : WorldOn) (o : StepResult) (v : WorldOn) → on.job ≡ job → IsOutOfMemory e on v.is_placed o → v.world ≡ o.world → StopsIn job e on.world v
+out_of_memory_stops job e on o v same (inl s) is = (o, inl (rw (← same) s), is)
+out_of_memory_stops job e on o v same (inr s) is = (o, inr (s.1, s.2), is)
 
-pub one_starved : (job : JobOf) (events past : List Event) (done : ℕ) (lacks : NoMemory) (e : Event) (on : WorldOn) (o : StepResult) (v : WorldOn)
-    → on.job ≡ job → IsUnderWay job past on.world → past ≡ take done events → slice_get events done ≡ Some e → IsStarved e on v.is_placed o → v.world ≡ o.world → IsRunTo (StopsIn job) job events done (Some lacks) v
-one_starved job events past done lacks e on o v same u front next s is = run_stops (StopsIn job) job events past done lacks e on.world v u front next (starved_stops job e on o v same s is)
+pub one_out_of_memory : (job : JobOf) (events past : List Event) (done : ℕ) (lacks : NoMemory) (e : Event) (on : WorldOn) (o : StepResult) (v : WorldOn)
+    → on.job ≡ job → IsUnderWay job past on.world → past ≡ take done events → slice_get events done ≡ Some e → IsOutOfMemory e on v.is_placed o → v.world ≡ o.world → IsRunTo (StopsIn job) job events done (Some lacks) v
+one_out_of_memory job events past done lacks e on o v same u front next s is = run_stops (StopsIn job) job events past done lacks e on.world v u front next (out_of_memory_stops job e on o v same s is)
 
 -- so it is of a replay
-pub script_starved : (job : JobOf) (events past : List Event) (done : ℕ) (lacks : NoMemory) (e : Event) (on : WorldOn) (o : StepResult) (v : WorldOn)
-    → on.job ≡ job → IsUnderWay job past on.world → past ≡ take done events → slice_get events done ≡ Some e → IsStarved e on v.is_placed o → v.world ≡ o.world → IsRunTo (StopsReading job) job events done (Some lacks) v
-script_starved job events past done lacks e on o v same u front next s is = run_stops (StopsReading job) job events past done lacks e on.world v u front next (inl (starved_stops job e on o v same s is))
+pub script_out_of_memory : (job : JobOf) (events past : List Event) (done : ℕ) (lacks : NoMemory) (e : Event) (on : WorldOn) (o : StepResult) (v : WorldOn)
+    → on.job ≡ job → IsUnderWay job past on.world → past ≡ take done events → slice_get events done ≡ Some e → IsOutOfMemory e on v.is_placed o → v.world ≡ o.world → IsRunTo (StopsReading job) job events done (Some lacks) v
+script_out_of_memory job events past done lacks e on o v same u front next s is = run_stops (StopsReading job) job events past done lacks e on.world v u front next (inl (out_of_memory_stops job e on o v same s is))
 
--- the bytes of a Cut find none
-pub bytes_starved : (job : JobOf) (events past : List Event) (done : ℕ) (lacks : NoMemory) (e : Event) (w : WorldOn)
+-- a Cut finds none
+pub bytes_out_of_memory : (job : JobOf) (events past : List Event) (done : ℕ) (lacks : NoMemory) (e : Event) (w : WorldOn)
     → IsUnderWay job past w.world → past ≡ take done events → slice_get events done ≡ Some e → is_cut e ≡ true → IsRunTo (StopsReading job) job events done (Some lacks) w
-bytes_starved job events past done lacks e w u front next cut = run_stops (StopsReading job) job events past done lacks e w.world w u front next (inr (cut, refl))
+bytes_out_of_memory job events past done lacks e w u front next cut = run_stops (StopsReading job) job events past done lacks e w.world w u front next (inr (cut, refl))
 
 pub next_under_way : (job : JobOf) (past : List Event) (own : JobOf) (v w : WorldOf) (e : Event) (o : StepResult)
     → own ≡ job → IsUnderWay job past v → Step own e v o → w ≡ o.world → IsUnderWay job (past ++ e ∷ []) w

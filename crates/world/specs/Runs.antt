@@ -7,10 +7,10 @@ use Rattle.event_script.specs.Left.{is_cut}
 use Rattle.event_script.specs.declared.event.Event.{Event}
 use Rattle.world_steps.specs.Answers.{StepResult}
 use Rattle.world_steps.specs.Runs.{Entry, IsFormattedFor, Runs, last_of}
-use Rattle.world_steps.specs.Steps.{Starves}
+use Rattle.world_steps.specs.Steps.{LacksMemory}
 use Rattle.world_steps.specs.World.{WorldOf, first_over}
 use Rattle.world_steps.specs.declared.parts.NoMemory.{NoMemory}
-use Rattle.world_steps.specs.Calls.{StarvesBehind, WorldOn}
+use Rattle.world_steps.specs.Calls.{LacksMemoryBehind, WorldOn}
 use Rattle.world_steps.specs.Safe.{SafeWorld}
 use Rattle.safe_runs.specs.Openings.{OpeningFinds}
 use Rattle.safe_runs.specs.Promises.{AllSafe}
@@ -18,9 +18,9 @@ use Rattle.safe_runs.specs.Promises.{AllSafe}
 -- an event of a run finds no memory: the world is as it was, but a clearinghouse that was to answer is stopped. An event that takes
 -- none by itself does so only for what was sent and put into slots before, and then not all of that has its place in the end
 abbrev pub StopsIn : JobOf → Event → (last : WorldOf) → (on : WorldOn) → Type 0
-StopsIn job e last on = (o : StepResult) × (Starves job e last o ⊎ ((on.is_placed ≡ false) × StarvesBehind e last o)) × (on.world ≡ o.world)
+StopsIn job e last on = (o : StepResult) × (LacksMemory job e last o ⊎ ((on.is_placed ≡ false) × LacksMemoryBehind e last o)) × (on.world ≡ o.world)
 
--- in a replay the bytes of a Cut may find none too, before the Cut is an event of the world: then nothing changes
+-- in a replay a Cut may find none too, before the Cut is an event of the world: then nothing changes
 abbrev pub StopsReading : JobOf → Event → (last : WorldOf) → (on : WorldOn) → Type 0
 StopsReading job e last on = StopsIn job e last on ⊎ (IsTrue (is_cut e) × (on.world ≡ last))
 

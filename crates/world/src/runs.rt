@@ -4,7 +4,7 @@ ghost use Rattle.disk.specs.Device.{Device};
 ghost use Rattle.event_script.specs.Scripts.{script};
 ghost use Rattle.event_script.specs.declared.event.Event.{Event as EventOf};
 ghost use Rattle.world_steps.specs.Answers.{StepResult};
-ghost use Rattle.world_steps.specs.Calls.{IsStarved};
+ghost use Rattle.world_steps.specs.Calls.{IsOutOfMemory};
 ghost use Rattle.world_steps.specs.Runs.{IsFormattedFor};
 ghost use Rattle.world_steps.specs.Steps.{Step as StepOf};
 ghost use Rattle.world_steps.specs.World.{first_over};
@@ -53,7 +53,7 @@ pub fn run<'a>(alloc: Global, job: &'a Job, events: &[Event]) -> Result<RunEnd<'
 
 /// The events of a script are carried out one after another, as `run` does. Refused by the first line that isn't of the form of
 /// `Script::new`, and no event is carried out then; and, of a script whose lines are all events', where there is no memory for the first
-/// world (E9). E9 may stop it at a Cut too, for whose bytes there is no memory; then nothing changes.
+/// world (E9). E9 may stop it at a Cut too, for which there is no memory; then nothing changes.
 pub fn replay<'a>(alloc: Global, job: &'a Job, text: &[u8]) -> Result<RunEnd<'a>, ReplayError>
     ensures job { IfOk result (λ r. r.world.job ≡ job.now) }
     ensures run { IfOk result (λ r. (events : List EventOf) × (script text.now ≡ Ok events) × IsReplay job.now events r.done r.stopped r.world) }
@@ -147,7 +147,7 @@ impl<'a> RunEnd<'a> {
         requires { self.old.done + 1 < 2 ^ 64 }
         ensures job { self.new.world.job ≡ self.old.world.job }
         ensures carried { result ≡ true → (o : StepResult) × StepOf self.old.world.job event.now self.old.world.world o × (self.new.world.world ≡ o.world) × (self.new.done ≡ self.old.done + 1) × (self.new.stopped ≡ self.old.stopped) }
-        ensures starved { result ≡ false → (o : StepResult) × IsStarved event.now self.old.world self.new.world.is_placed o × (self.new.world.world ≡ o.world) × (self.new.done ≡ self.old.done) × (lacks : NoMemoryOf) × (self.new.stopped ≡ Some lacks) }
+        ensures out_of_memory { result ≡ false → (o : StepResult) × IsOutOfMemory event.now self.old.world self.new.world.is_placed o × (self.new.world.world ≡ o.world) × (self.new.done ≡ self.old.done) × (lacks : NoMemoryOf) × (self.new.stopped ≡ Some lacks) }
     {
         match self.world.step(alloc, event, None) {
             Ok(told) => {

@@ -5,11 +5,11 @@ use Rattle.std.proofs.lemmas.List.{length-append, length-drop, length-take-le}
 use Rattle.std.specs.Prelude.{unwrap_or}
 use Rattle.disk.specs.declared.cells.Cell.{Cell}
 use Rattle.disk.specs.Device.{Arming, Unarmed, Armed, Device, Failed, armed, armed_bytes, called, crashed, passed, rearmed, stop_after}
-use Rattle.disk.specs.File.{bytes_of, is_synced, over, settled, synced, synced_cell, written}
-use Rattle.checkpoint.specs.Calls.{Call, Lacks, Write, Passed, Stopped, after, changed}
+use Rattle.disk.specs.File.{bytes_of, is_synced, over, settled_file, synced, synced_cell, written_file}
+use Rattle.checkpoint.specs.Calls.{DeviceCall, Lacks, Write, Passed, Stopped, after, changed}
 use Rattle.checkpoint.specs.Commit.{IsCommit, closing, opening, publishing}
 use Rattle.checkpoint.specs.Pair.{is_open, place, slot}
-use Rattle.checkpoint.specs.declared.record.Record.{Record}
+use Rattle.checkpoint.specs.declared.record.CheckpointRecord.{CheckpointRecord}
 use Rattle.world_steps.specs.Houses.{halted, made}
 use Rattle.world_steps.specs.Steps.{settled_by}
 
@@ -18,28 +18,28 @@ pub synced-synced : (file : List Cell) → synced (synced file) ≡ synced file
 synced-synced [] = refl
 synced-synced (cell ∷ file) = ap (λ (l : List Cell). synced_cell cell.byte ∷ l) (synced-synced file)
 
-pub settled-synced : (file : List Cell) (bytes : List ℕ) → settled (synced file) bytes ≡ synced file
+pub settled-synced : (file : List Cell) (bytes : List ℕ) → settled_file (synced file) bytes ≡ synced file
 settled-synced [] bytes = refl
 settled-synced (cell ∷ file) [] = ap (λ (l : List Cell). synced_cell cell.byte ∷ l) (settled-synced file [])
 settled-synced (cell ∷ file) (b ∷ bytes) = ap (λ (l : List Cell). synced_cell cell.byte ∷ l) (settled-synced file (b ∷ bytes))
 
-pub synced-settled : (file : List Cell) (bytes : List ℕ) → synced (settled file bytes) ≡ settled file bytes
+pub synced-settled : (file : List Cell) (bytes : List ℕ) → synced (settled_file file bytes) ≡ settled_file file bytes
 synced-settled [] bytes = refl
 synced-settled (cell ∷ file) [] = ap (λ (l : List Cell). synced_cell cell.byte ∷ l) (synced-settled file [])
 synced-settled (cell ∷ file) (b ∷ bytes) =
     elim (is_synced cell.mark) as (λ v.
-    let next = cond v (synced_cell cell.byte ∷ settled file (b ∷ bytes)) (synced_cell b ∷ settled file bytes) in
+    let next = cond v (synced_cell cell.byte ∷ settled_file file (b ∷ bytes)) (synced_cell b ∷ settled_file file bytes) in
     synced next ≡ next) [
       | true ↦ ap (λ (l : List Cell). synced_cell cell.byte ∷ l) (synced-settled file (b ∷ bytes))
       | false ↦ ap (λ (l : List Cell). synced_cell b ∷ l) (synced-settled file bytes)
     ]
 
 -- a file that is on the disk for good
-pub still-settled : (file : List Cell) (bytes : List ℕ) → synced file ≡ file → settled file bytes ≡ file
-still-settled file bytes still = ap (λ f. settled f bytes) (sym still) ∙ settled-synced file bytes ∙ still
+pub still-settled : (file : List Cell) (bytes : List ℕ) → synced file ≡ file → settled_file file bytes ≡ file
+still-settled file bytes still = ap (λ f. settled_file f bytes) (sym still) ∙ settled-synced file bytes ∙ still
 
-pub settled-settled : (file : List Cell) (bytes more : List ℕ) → settled (settled file bytes) more ≡ settled file bytes
-settled-settled file bytes more = still-settled (settled file bytes) more (synced-settled file bytes)
+pub settled-settled : (file : List Cell) (bytes more : List ℕ) → settled_file (settled_file file bytes) more ≡ settled_file file bytes
+settled-settled file bytes more = still-settled (settled_file file bytes) more (synced-settled file bytes)
 
 -- a device, by its parts
 pub device_is : (d e : Device) → d.file ≡ e.file → d.arming ≡ e.arming → d.failures ≡ e.failures → d.can_cut ≡ e.can_cut → d ≡ e
@@ -50,29 +50,29 @@ device_is d e file arming failures can =
     ∙ ap (λ c. record { file = e.file; arming = e.arming; failures = e.failures; can_cut = c }) can
 
 -- what calls leave as it was
-pub after-failures : (d : Device) (calls : List Call) → (after d calls).failures ≡ d.failures
+pub after-failures : (d : Device) (calls : List DeviceCall) → (after d calls).failures ≡ d.failures
 unfolding after
 after-failures d [] = refl
 after-failures d (call ∷ calls) = after-failures (passed d (changed d.file call)) calls
 
-pub after-can_cut : (d : Device) (calls : List Call) → (after d calls).can_cut ≡ d.can_cut
+pub after-can_cut : (d : Device) (calls : List DeviceCall) → (after d calls).can_cut ≡ d.can_cut
 unfolding after
 after-can_cut d [] = refl
 after-can_cut d (call ∷ calls) = after-can_cut (passed d (changed d.file call)) calls
 
-pub after-unarmed : (d : Device) (calls : List Call) → d.arming ≡ Unarmed → (after d calls).arming ≡ Unarmed
+pub after-unarmed : (d : Device) (calls : List DeviceCall) → d.arming ≡ Unarmed → (after d calls).arming ≡ Unarmed
 unfolding after
 after-unarmed d [] unarmed = unarmed
 after-unarmed d (call ∷ calls) unarmed = after-unarmed (passed d (changed d.file call)) calls (ap called unarmed)
 
 -- what they make of a file hangs on the file alone
-pub after-file : (d e : Device) (calls : List Call) → d.file ≡ e.file → (after d calls).file ≡ (after e calls).file
+pub after-file : (d e : Device) (calls : List DeviceCall) → d.file ≡ e.file → (after d calls).file ≡ (after e calls).file
 unfolding after
 after-file d e [] same = same
 after-file d e (call ∷ calls) same = after-file (passed d (changed d.file call)) (passed e (changed e.file call)) calls (ap (λ f. changed f call) same)
 
 -- up to the call that is to fail, the bytes that were given stay
-pub after-armed : (d : Device) (calls : List Call) (k : ℕ) (bytes : List ℕ) → d.arming ≡ Armed k bytes → length calls ≤ k → armed_bytes (after d calls).arming ≡ bytes
+pub after-armed : (d : Device) (calls : List DeviceCall) (k : ℕ) (bytes : List ℕ) → d.arming ≡ Armed k bytes → length calls ≤ k → armed_bytes (after d calls).arming ≡ bytes
 unfolding after
 after-armed d [] k bytes is few = ap armed_bytes is
 after-armed d (call ∷ calls) zero bytes is few = absurd (omega arith)
@@ -97,13 +97,13 @@ no_later k n bytes none = by_order (cases_lt k n)
     by_order (inr above) = above
 
 -- a call of a list may lack memory, or goes past the end of the file that those before it leave
-abbrev pub LacksAt : List Call → ℕ → List Cell → Type 0
+abbrev pub LacksAt : List DeviceCall → ℕ → List Cell → Type 0
 LacksAt [] i file = ⊥
 LacksAt (call ∷ calls) zero file = Lacks call file
 LacksAt (call ∷ calls) (suc i) file = LacksAt calls i (changed file call)
 
 -- where a call failed, and those before it passed
-pub record StoppedAt (calls : List Call) (plan : ℕ → Option (List ℕ)) (d new : Device) : Type 0 where
+pub record StoppedAt (calls : List DeviceCall) (plan : ℕ → Option (List ℕ)) (d new : Device) : Type 0 where
   pub at : ℕ
   pub below : at < length calls
   pub before : (i : ℕ) → i < at → plan i ≡ None
@@ -114,7 +114,7 @@ before_suc : (plan : ℕ → Option (List ℕ)) (at i : ℕ) → plan 0 ≡ None
 before_suc plan at zero first later below = first
 before_suc plan at (suc i) first later below = later i (omega arith)
 
-pub stopped_at : (calls : List Call) (plan : ℕ → Option (List ℕ)) (d new : Device) → Stopped calls plan d new → StoppedAt calls plan d new
+pub stopped_at : (calls : List DeviceCall) (plan : ℕ → Option (List ℕ)) (d new : Device) → Stopped calls plan d new → StoppedAt calls plan d new
 unfolding Stopped after
 stopped_at [] plan d new stop = absurd stop
 stopped_at (call ∷ calls) plan d new (inl fails) = record { at = 0; below = omega arith; before = λ i h. absurd (omega arith); failed = fails.failed; cause = fails.cause }
@@ -123,21 +123,21 @@ stopped_at (call ∷ calls) plan d new (inr rest) =
     record { at = suc s.at; below = omega (arith, s.below); before = λ i h. before_suc plan s.at i rest.0 s.before h; failed = s.failed; cause = s.cause }
 
 -- an unarmed device: calls that passed
-pub made_unarmed : (d : Device) (calls : List Call) → d.arming ≡ Unarmed → after d calls ≡ made d calls
+pub made_unarmed : (d : Device) (calls : List DeviceCall) → d.arming ≡ Unarmed → after d calls ≡ made d calls
 made_unarmed d calls unarmed = ap (λ a. record (after d calls) { arming = a }) (after-unarmed d calls unarmed ∙ sym unarmed)
 
 -- a call failed that nothing was planned for
 pub none_planned : (arming : Arming) (i : ℕ) → arming ≡ Unarmed → stop_after arming i ≡ None
 none_planned arming i is = ap (λ a. stop_after a i) is
 
-pub halted_unarmed : (d new : Device) (calls : List Call) → d.arming ≡ Unarmed → IsTrue d.can_cut → (s : StoppedAt calls (stop_after d.arming) d new) → new ≡ halted d calls s.at []
+pub halted_unarmed : (d new : Device) (calls : List DeviceCall) → d.arming ≡ Unarmed → IsTrue d.can_cut → (s : StoppedAt calls (stop_after d.arming) d new) → new ≡ halted d calls s.at []
 halted_unarmed d new calls unarmed can s =
     let before : Device = after d (take s.at calls) in
     let here = after-unarmed d (take s.at calls) unarmed in
     let by : unwrap_or (stop_after d.arming s.at) (armed_bytes before.arming) ≡ [] =
     ap (λ p. unwrap_or p (armed_bytes before.arming)) (none_planned d.arming s.at unarmed) ∙ ap armed_bytes here in
     device_is new (halted d calls s.at [])
-    (s.failed.settles (after-can_cut d (take s.at calls) ∙ can) ∙ ap (settled before.file) by)
+    (s.failed.settles (after-can_cut d (take s.at calls) ∙ can) ∙ ap (settled_file before.file) by)
     (s.failed.one_call ∙ ap called here ∙ sym unarmed)
     (s.failed.counted ∙ ap (λ n. (n + 1) % 2 ^ 64) (after-failures d (take s.at calls)))
     (s.failed.same ∙ after-can_cut d (take s.at calls))
@@ -150,22 +150,22 @@ module _ (d : Device) (k : ℕ) (bytes : List ℕ) (unarmed : d.arming ≡ Unarm
   is_armed : there.arming ≡ Armed k bytes
   is_armed = ap (λ a. rearmed a k bytes) unarmed
 
-  pub few_passed : (calls : List Call) (new : Device) → Passed calls (stop_after there.arming) there new → length calls ≤ k
+  pub few_passed : (calls : List DeviceCall) (new : Device) → Passed calls (stop_after there.arming) there new → length calls ≤ k
   few_passed calls new passed = no_later k (length calls) bytes (λ i h. ap (λ a. stop_after a i) (sym is_armed) ∙ passed.unplanned i h)
 
-  pub made_armed : (calls : List Call) (new : Device) → synced (after d calls).file ≡ (after d calls).file → Passed calls (stop_after there.arming) there new → crashed new ≡ made d calls
+  pub made_armed : (calls : List DeviceCall) (new : Device) → synced (after d calls).file ≡ (after d calls).file → Passed calls (stop_after there.arming) there new → crashed new ≡ made d calls
   made_armed calls new still passed =
       let file : new.file ≡ (after d calls).file = ap (λ (x : Device). x.file) passed.made ∙ after-file there d calls refl in
       device_is (crashed new) (made d calls)
-      (ap (λ f. settled f (armed_bytes new.arming)) file ∙ still-settled (after d calls).file (armed_bytes new.arming) still)
+      (ap (λ f. settled_file f (armed_bytes new.arming)) file ∙ still-settled (after d calls).file (armed_bytes new.arming) still)
       (sym unarmed)
       (ap (λ (x : Device). x.failures) passed.made ∙ after-failures there calls ∙ sym (after-failures d calls))
       (ap (λ (x : Device). x.can_cut) passed.made ∙ after-can_cut there calls ∙ sym (after-can_cut d calls))
 
-  pub few_stopped : (calls : List Call) (new : Device) → (s : StoppedAt calls (stop_after there.arming) there new) → s.at ≤ k
+  pub few_stopped : (calls : List DeviceCall) (new : Device) → (s : StoppedAt calls (stop_after there.arming) there new) → s.at ≤ k
   few_stopped calls new s = no_later k s.at bytes (λ i h. ap (λ a. stop_after a i) (sym is_armed) ∙ s.before i h)
 
-  pub halted_armed : (calls : List Call) (new : Device) → IsTrue d.can_cut → (s : StoppedAt calls (stop_after there.arming) there new) → crashed new ≡ halted d calls s.at bytes
+  pub halted_armed : (calls : List DeviceCall) (new : Device) → IsTrue d.can_cut → (s : StoppedAt calls (stop_after there.arming) there new) → crashed new ≡ halted d calls s.at bytes
   halted_armed calls new can s =
       let few = few_stopped calls new s in
       let before : Device = after there (take s.at calls) in
@@ -173,10 +173,10 @@ module _ (d : Device) (k : ℕ) (bytes : List ℕ) (unarmed : d.arming ≡ Unarm
       let given = after-armed there (take s.at calls) k bytes is_armed size in
       let by : unwrap_or (stop_after there.arming s.at) (armed_bytes before.arming) ≡ bytes =
       ap (λ a. unwrap_or (stop_after a s.at) (armed_bytes before.arming)) is_armed ∙ ap (unwrap_or (stop_after (Armed k bytes) s.at)) given ∙ planned_bytes k s.at bytes few in
-      let file : new.file ≡ settled (after d (take s.at calls)).file bytes =
-      s.failed.settles (after-can_cut there (take s.at calls) ∙ can) ∙ ap (settled before.file) by ∙ ap (λ f. settled f bytes) (after-file there d (take s.at calls) refl) in
+      let file : new.file ≡ settled_file (after d (take s.at calls)).file bytes =
+      s.failed.settles (after-can_cut there (take s.at calls) ∙ can) ∙ ap (settled_file before.file) by ∙ ap (λ f. settled_file f bytes) (after-file there d (take s.at calls) refl) in
       device_is (crashed new) (halted d calls s.at bytes)
-      (ap (λ f. settled f (armed_bytes new.arming)) file ∙ settled-settled (after d (take s.at calls)).file bytes (armed_bytes new.arming))
+      (ap (λ f. settled_file f (armed_bytes new.arming)) file ∙ settled-settled (after d (take s.at calls)).file bytes (armed_bytes new.arming))
       (sym unarmed)
       (s.failed.counted ∙ ap (λ n. (n + 1) % 2 ^ 64) (after-failures there (take s.at calls)))
       (s.failed.same ∙ after-can_cut there (take s.at calls))
@@ -197,7 +197,7 @@ length-over (cell ∷ file) (b ∷ bytes) within =
     let same = length-over file bytes shorter in
     omega (arith, same)
 
-length-written : (file : List Cell) (at : ℕ) (bytes : List ℕ) → at + length bytes ≤ length file → length (written file at bytes) ≡ length file
+length-written : (file : List Cell) (at : ℕ) (bytes : List ℕ) → at + length bytes ≤ length file → length (written_file file at bytes) ≡ length file
 length-written file at bytes within =
     let rest : length (drop at file) ≡ length file - at = length-drop at file in
     let fits : length bytes ≤ length (drop at file) = omega (arith, rest) in
@@ -228,16 +228,16 @@ closing_short false = omega arith
 put_lacks : (file : List Cell) (at : ℕ) (bytes : List ℕ) → length file ≡ 136 → at + length bytes ≤ 136 → Lacks (Write at bytes) file → ⊥
 put_lacks file at bytes size within lacks = absurd (omega arith)
 
-put_size : (file : List Cell) (at : ℕ) (bytes : List ℕ) → length file ≡ 136 → at + length bytes ≤ 136 → length (synced (written file at bytes)) ≡ 136
+put_size : (file : List Cell) (at : ℕ) (bytes : List ℕ) → length file ≡ 136 → at + length bytes ≤ 136 → length (synced (written_file file at bytes)) ≡ 136
 put_size file at bytes size within =
-    length-synced (written file at bytes) ∙ length-written file at bytes (omega arith) ∙ size
+    length-synced (written_file file at bytes) ∙ length-written file at bytes (omega arith) ∙ size
 
 module _ (file : List Cell) (at : ℕ) (gate : Bool) (bytes : List ℕ) (size : length file ≡ 136) (here : at ≤ 72) (body : length bytes ≡ 63) where
   abbrev closed : List Cell
-  closed = synced (written file at (closing gate))
+  closed = synced (written_file file at (closing gate))
 
   abbrev written_in : List Cell
-  written_in = synced (written closed (at + 1) bytes)
+  written_in = synced (written_file closed (at + 1) bytes)
 
   first_within : at + length (closing gate) ≤ 136
   first_within = omega (arith, closing_short gate)
@@ -257,18 +257,18 @@ module _ (file : List Cell) (at : ℕ) (gate : Bool) (bytes : List ℕ) (size : 
   publishing_lacks (suc (suc (suc (suc (suc zero))))) lacks = lacks
   publishing_lacks (suc (suc (suc (suc (suc (suc i)))))) lacks = lacks
 
-pub commit_lacks : (file : List Cell) (n : ℕ) (before next : Record) (calls : List Call) (i : ℕ) → IsCommit (bytes_of file) n before next calls → LacksAt calls i file → ⊥
+pub commit_lacks : (file : List Cell) (n : ℕ) (before next : CheckpointRecord) (calls : List DeviceCall) (i : ℕ) → IsCommit (bytes_of file) n before next calls → LacksAt calls i file → ⊥
 commit_lacks file n before next calls i commit lacks =
     let size : length file ≡ 136 = sym (length-bytes file) ∙ commit.current.size in
     publishing_lacks file (place 8 63 (not commit.second)) (is_open (slot 8 63 (not commit.second) (bytes_of file))) commit.bytes size (place_within (not commit.second)) commit.body.size i
-    (subst (λ (l : List Call). LacksAt l i file) commit.same lacks)
+    (subst (λ (l : List DeviceCall). LacksAt l i file) commit.same lacks)
 
 -- of an opening only the read does
 pub opening_lacks : (file : List Cell) (i : ℕ) → LacksAt opening i file → i ≡ 0
 opening_lacks file zero lacks = refl
 opening_lacks file (suc i) lacks = absurd lacks
 
-pub opened_lacks : (file : List Cell) (n : ℕ) (before next : Record) (calls : List Call) (i : ℕ) → IsCommit (bytes_of file) n before next calls → LacksAt (opening ++ calls) i file → i ≡ 0
+pub opened_lacks : (file : List Cell) (n : ℕ) (before next : CheckpointRecord) (calls : List DeviceCall) (i : ℕ) → IsCommit (bytes_of file) n before next calls → LacksAt (opening ++ calls) i file → i ≡ 0
 opened_lacks file n before next calls zero commit lacks = refl
 opened_lacks file n before next calls (suc i) commit lacks = absurd (commit_lacks file n before next calls i commit lacks)
 

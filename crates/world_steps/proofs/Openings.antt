@@ -5,10 +5,10 @@ use Rattle.disk.specs.Device.{Device}
 use Rattle.disk.specs.File.{bytes_of}
 use Rattle.disk.specs.Memory.{device_of}
 use Rattle.disk.specs.declared.memory.MemDisk.{MemDisk}
-use Rattle.checkpoint.specs.Calls.{Call, Passed}
+use Rattle.checkpoint.specs.Calls.{DeviceCall, Passed}
 use Rattle.checkpoint.specs.Commit.{IsCommit, opening}
-use Rattle.checkpoint.specs.Store.{Reads}
-use Rattle.checkpoint.specs.declared.record.Record.{Record}
+use Rattle.checkpoint.specs.Store.{ReadsAsStore}
+use Rattle.checkpoint.specs.declared.record.CheckpointRecord.{CheckpointRecord}
 use Rattle.checkpoint.specs.declared.record.StoreError.TheVariants as store
 use Rattle.serial_meaning.specs.Job.{JobOf}
 use Rattle.clearinghouse.specs.Calls.{can_begin, next_epoch}
@@ -21,16 +21,16 @@ use Rattle.event_script.specs.declared.event.HouseEvent.{HouseEvent}
 use Rattle.event_script.specs.declared.event.HouseEvent.TheVariants.{Restart}
 use Rattle.world_steps.specs.Coming.{AnsweredIf, Comes, HasCome, IfAnswered, Lacks, RestartComes, answer_to, applies_at, closed_at, is_answered, is_open_at, replying, seat_of, unopened_at}
 use Rattle.world_steps.specs.Houses.{IsRefusedAs, Opens}
-use Rattle.world_steps.specs.Seats.{IsOf, SeatOf, disk_of, house_at}
+use Rattle.world_steps.specs.Seats.{IsOf, HouseSlotOf, disk_of, house_at}
 use Rattle.world_steps.specs.World.{Down, HouseAt, IsUp}
 use Rattle.world_steps.specs.declared.parts.NoMemory.{NoMemory}
-use Rattle.world_steps.specs.declared.seat.HouseReply.{HouseReply}
-use Rattle.world_steps.specs.declared.seat.Stand.{Stand}
-use Rattle.world_steps.specs.declared.seat.Stand.TheVariants as stand
+use Rattle.world_steps.specs.declared.house_slot.HouseReply.{HouseReply}
+use Rattle.world_steps.specs.declared.house_slot.HouseState.{HouseState}
+use Rattle.world_steps.specs.declared.house_slot.HouseState.TheVariants as stand
 use Rattle.world_steps.proofs.Answering.{planned}
 
 -- a place with the job, the clearinghouse and the disk of one that is up
-abbrev at_place : JobOf → State → MemDisk → SeatOf
+abbrev at_place : JobOf → State → MemDisk → HouseSlotOf
 at_place job s d = record { job = job; house = IsUp s; disk = device_of d }
 
 -- it is open
@@ -59,21 +59,21 @@ module _ (e : HouseEvent) (p : Option PacketOf) (r : Result HouseReply NoMemory)
   came_up job (Open h) is own holds all = came_open job h own is (all h is)
   came_up job (Stopped b) is own holds all = absurd (let no : ⊥ = cc in no)
 
-pub up_comes : (e : HouseEvent) (p : Option PacketOf) (r : Result HouseReply NoMemory) (old new : HouseOn MemDisk) (job : JobOf) (s : Stand) → s ≡ stand.Up old → IsOf job s → is_open_at (house_at s) ≡ true → ((h : HouseOf) → old.state ≡ Open h → AnsweredIf h (answer_to old.job e p h) r old new) → HasCome job e p r s (stand.Up new)
+pub up_comes : (e : HouseEvent) (p : Option PacketOf) (r : Result HouseReply NoMemory) (old new : HouseOn MemDisk) (job : JobOf) (s : HouseState) → s ≡ stand.Up old → IsOf job s → is_open_at (house_at s) ≡ true → ((h : HouseOf) → old.state ≡ Open h → AnsweredIf h (answer_to old.job e p h) r old new) → HasCome job e p r s (stand.Up new)
 up_comes e p r old new job s is own holds all =
     let its : IsOf job (stand.Up old) = subst (IsOf job) is own in
     subst (λ x. HasCome job e p r x (stand.Up new)) (sym is)
     (came_up e p r old new job old.state refl its.0 (subst (λ x. is_open_at (house_at x) ≡ true) is holds) all)
 
-abbrev seat_over : JobOf → HouseAt → Device → SeatOf
+abbrev seat_over : JobOf → HouseAt → Device → HouseSlotOf
 seat_over job house d = record { job = job; house = house; disk = d }
 
 -- it is opened
 module _ (job : JobOf) (disk : MemDisk) where
-  abbrev way_of : (n : ℕ) (r : Record) (calls : List Call) → Reads (bytes_of (device_of disk).file) n r → r.job ≡ job.number → can_begin (kept_in n r) ≡ true → IsCommit (bytes_of (device_of disk).file) n r (record_of job (next_epoch (kept_in n r))) calls → Opens job (device_of disk)
+  abbrev way_of : (n : ℕ) (r : CheckpointRecord) (calls : List DeviceCall) → ReadsAsStore (bytes_of (device_of disk).file) n r → r.job ≡ job.number → can_begin (kept_in n r) ≡ true → IsCommit (bytes_of (device_of disk).file) n r (record_of job (next_epoch (kept_in n r))) calls → Opens job (device_of disk)
   way_of n r calls reads own begins commit = record { sequence = n; found = r; reads = reads; own = own; begins = begins; calls = calls; commit = commit }
 
-  opens : (from : HouseAt) (house : HouseOn MemDisk) (reply : HouseReply) (n : ℕ) (r : Record) → reply ≡ replying None [] → IsOpened device_of planned job 500 disk n r house → RestartComes reply (seat_over job from (device_of disk)) (seat_of job (stand.Up house))
+  opens : (from : HouseAt) (house : HouseOn MemDisk) (reply : HouseReply) (n : ℕ) (r : CheckpointRecord) → reply ≡ replying None [] → IsOpened device_of planned job 500 disk n r house → RestartComes reply (seat_over job from (device_of disk)) (seat_of job (stand.Up house))
   opens from house reply n r told is =
       inl (way_of n r is.calls.0 is.found is.own is.begins is.calls.1, (told, ap (λ (x : HouseOn MemDisk). seat_over job (IsUp x.state) (device_of house.store.disk)) is.house, is.calls.2))
 
@@ -94,12 +94,12 @@ module _ (job : JobOf) (disk : MemDisk) where
   refuses stop left reply error.RosterFull told why = absurd why
   refuses stop left reply error.Memory told why = absurd why
 
-  pub opens_at : (s : Stand) (house : HouseOn MemDisk) (reply : HouseReply) → device_of disk ≡ disk_of s → reply ≡ replying None [] → ((n : ℕ) × (r : Record) × IsOpened device_of planned job 500 disk n r house) → RestartComes reply (seat_of job s) (seat_of job (stand.Up house))
+  pub opens_at : (s : HouseState) (house : HouseOn MemDisk) (reply : HouseReply) → device_of disk ≡ disk_of s → reply ≡ replying None [] → ((n : ℕ) × (r : CheckpointRecord) × IsOpened device_of planned job 500 disk n r house) → RestartComes reply (seat_of job s) (seat_of job (stand.Up house))
   opens_at s house reply same told is =
       subst (λ d. RestartComes reply (seat_over job (house_at s) d) (seat_of job (stand.Up house))) same
       (opens (house_at s) house reply is.0 is.1 told is.2)
 
-  pub refuses_at : (s new : Stand) (stop : Option Stop) (left : MemDisk) (reply : HouseReply) (e : HouseError) → device_of disk ≡ disk_of s → house_at s ≡ closed_at stop → reply ≡ replying (Some e) [] → house_at new ≡ unopened_at e stop → disk_of new ≡ device_of left → IsRefusedOver device_of planned e job disk left → RestartComes reply (seat_of job s) (seat_of job new)
+  pub refuses_at : (s new : HouseState) (stop : Option Stop) (left : MemDisk) (reply : HouseReply) (e : HouseError) → device_of disk ≡ disk_of s → house_at s ≡ closed_at stop → reply ≡ replying (Some e) [] → house_at new ≡ unopened_at e stop → disk_of new ≡ device_of left → IsRefusedOver device_of planned e job disk left → RestartComes reply (seat_of job s) (seat_of job new)
   refuses_at s new stop left reply e same closed told house left_at why =
       subst (λ x. RestartComes reply (seat_of job s) (seat_over job x (disk_of new))) (sym house)
       (subst (λ d. RestartComes reply (seat_of job s) (seat_over job (unopened_at e stop) d)) (sym left_at)
@@ -108,7 +108,7 @@ module _ (job : JobOf) (disk : MemDisk) where
       (refuses stop left reply e told why))))
 
 -- a restart of one that isn't open
-pub restart_comes : (job : JobOf) (p : Option PacketOf) (reply : HouseReply) (s new : Stand) → is_open_at (house_at s) ≡ false → RestartComes reply (seat_of job s) (seat_of job new) → IsOf job new → HasCome job Restart p (Ok reply) s new
+pub restart_comes : (job : JobOf) (p : Option PacketOf) (reply : HouseReply) (s new : HouseState) → is_open_at (house_at s) ≡ false → RestartComes reply (seat_of job s) (seat_of job new) → IsOf job new → HasCome job Restart p (Ok reply) s new
 restart_comes job p reply s new closed comes own = record { comes = by_place (house_at s) closed; lacks = tt; applies = tt; own = own }
   where
     by_place : (house : HouseAt) → is_open_at house ≡ false → Comes Restart p house reply (seat_of job s) (seat_of job new)

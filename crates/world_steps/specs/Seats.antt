@@ -2,7 +2,7 @@
 use Rattle.std.specs.Prelude.{◌≡◌, ◌++◌, ◌⊎◌, IsTrue, [], Option, slice_get}
 use Rattle.codec.specs.Table.{PacketOf}
 use Rattle.disk.specs.Device.{Device, Unarmed}
-use Rattle.disk.specs.File.{settled, synced}
+use Rattle.disk.specs.File.{settled_file, synced}
 use Rattle.disk.specs.Memory.{device_of}
 use Rattle.serial_meaning.specs.Job.{JobOf}
 use Rattle.clearinghouse.specs.House.{Stopped}
@@ -14,21 +14,21 @@ use Rattle.event_script.specs.declared.event.HouseEvent.TheVariants.{Deliver, Ti
 use Rattle.world_steps.specs.Answers.{House, StepResult}
 use Rattle.world_steps.specs.Steps.{DeviceFails, HouseEnds, IsCut}
 use Rattle.world_steps.specs.World.{Down, HouseAt, IsUp, WorldOf, recorded_at}
-use Rattle.world_steps.specs.declared.seat.HouseReply.{HouseReply}
-use Rattle.world_steps.specs.declared.seat.Stand.{Stand}
-use Rattle.world_steps.specs.declared.seat.Stand.TheVariants as stand
+use Rattle.world_steps.specs.declared.house_slot.HouseReply.{HouseReply}
+use Rattle.world_steps.specs.declared.house_slot.HouseState.{HouseState}
+use Rattle.world_steps.specs.declared.house_slot.HouseState.TheVariants as stand
 
-pub record SeatOf : Type 0 where
+pub record HouseSlotOf : Type 0 where
   pub job : JobOf
   pub house : HouseAt
   pub disk : Device
 
-abbrev pub house_at : Stand → HouseAt
+abbrev pub house_at : HouseState → HouseAt
 house_at (stand.Fallen d) = Down
 house_at (stand.Halted s d) = IsUp (Stopped s)
 house_at (stand.Up h) = IsUp h.state
 
-abbrev pub disk_of : Stand → Device
+abbrev pub disk_of : HouseState → Device
 disk_of (stand.Fallen d) = device_of d
 disk_of (stand.Halted s d) = device_of d
 disk_of (stand.Up h) = device_of h.store.disk
@@ -40,28 +40,28 @@ pub record IsStill (d : Device) : Type 0 where
   pub settled : synced d.file ≡ d.file
 
 -- a clearinghouse that is up is one of the job, and its checkpoint keeps what it holds
-abbrev pub IsOf : JobOf → Stand → Type 0
+abbrev pub IsOf : JobOf → HouseState → Type 0
 IsOf job (stand.Fallen d) = Unit {0}
 IsOf job (stand.Halted s d) = Unit {0}
 IsOf job (stand.Up h) = (h.job ≡ job) × IsHouseOn h h.state
 
-pub record IsSeat (job : JobOf) (s : Stand) : Type 0 where
+pub record IsSeat (job : JobOf) (s : HouseState) : Type 0 where
   pub own : IsOf job s
   pub still : IsStill (disk_of s)
 
 -- a world with this clearinghouse and this disk
-pub record Seats (s : SeatOf) (w : WorldOf) : Type 0 where
+pub record Seats (s : HouseSlotOf) (w : WorldOf) : Type 0 where
   pub house : w.house ≡ s.house
   pub disk : w.disk ≡ s.disk
 
 -- the packet that an event delivers is this one, if it is there
-abbrev pub IsFound : HouseEvent → Option PacketOf → WorldOf → Type 0
-IsFound (Deliver i) p w = slice_get w.net i ≡ p
-IsFound (Tick now) p w = Unit {0}
-IsFound Restart p w = Unit {0}
+abbrev pub DeliversPacket : HouseEvent → Option PacketOf → WorldOf → Type 0
+DeliversPacket (Deliver i) p w = slice_get w.net i ≡ p
+DeliversPacket (Tick now) p w = Unit {0}
+DeliversPacket Restart p w = Unit {0}
 
 -- the world after a reply, and what is told of it
-abbrev pub replied : HouseReply → SeatOf → WorldOf → StepResult
+abbrev pub replied : HouseReply → HouseSlotOf → WorldOf → StepResult
 replied r s w = record {
   world = record w { house = s.house; disk = s.disk; net = w.net ++ r.sent };
   answer = House r.refused r.sent (recorded_at s.house);
@@ -73,13 +73,13 @@ module _ (job : JobOf) where
   Happens e w o = HouseEnds job e w.house w o ⊎ DeviceFails job (AtHouse e) w o
 
   -- the same of a Cut
-  abbrev pub IsCutOff : CutOf → WorldOf → StepResult → Type 0
-  IsCutOff c w o = IsCut job c w o ⊎ DeviceFails job (Cut c) w o
+  abbrev pub CutHappens : CutOf → WorldOf → StepResult → Type 0
+  CutHappens c w o = IsCut job c w o ⊎ DeviceFails job (Cut c) w o
 
 -- a clearinghouse that is up loses its memory: what isn't synced stays as it was written last
-abbrev fallen_by : SeatOf → HouseAt → SeatOf
+abbrev fallen_by : HouseSlotOf → HouseAt → HouseSlotOf
 fallen_by s Down = s
-fallen_by s (IsUp state) = record s { house = Down; disk = record s.disk { file = settled s.disk.file [] } }
+fallen_by s (IsUp state) = record s { house = Down; disk = record s.disk { file = settled_file s.disk.file [] } }
 
-abbrev pub fallen : SeatOf → SeatOf
+abbrev pub fallen : HouseSlotOf → HouseSlotOf
 fallen s = fallen_by s s.house

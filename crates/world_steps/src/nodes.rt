@@ -20,11 +20,11 @@ pub fn carry_out(
     requires there { IsThere event (option_copied packet) }
     requires own { IsOfJob node.old.job (option_copied turn) }
     ensures answer { Carries event (option_copied packet.entry) result node.old node.new }
-    ensures starved { IsErrOf result Memory → MayLack event node.old }
+    ensures out_of_memory { IsErrOf result Memory → MayLack event node.old }
 {
     match event {
         NodeEvent::Deliver(_) => {
-            node.may_choose();
+            node.law_may_choose();
             match packet {
                 Some(datagram) => node.on_bytes(alloc, datagram.as_bytes()),
                 None => unreachable!(),

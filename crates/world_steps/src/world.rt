@@ -1,30 +1,28 @@
 //! The world, and its steps.
 ghost use Rattle.std.specs.Prelude.{◌≡◌, ◌++◌, ◌&&◌, [], true, false, if◌then◌else◌, is_some, length, IfOk, Option, OnErr, OnOk, Some, None, option_copied, replicate, slice_get};
 ghost use Rattle.disk.specs.Device.{Device};
-ghost use Rattle.world_steps.specs.Answers.{StepResult};
-ghost use Rattle.node_core.specs.Cases.{Choice};
-ghost use Rattle.node_core.specs.Choosing.{MayChoose};
+ghost use Rattle.node_core.specs.Cases.{Candidate};
+ghost use Rattle.node_core.specs.Choosing.{IsCandidate};
 ghost use Rattle.node_core.specs.declared.error.NodeError.TheVariants.{Memory};
 ghost use Rattle.node_state.specs.Node.{NodeOf};
-ghost use Rattle.world_steps.specs.Calls.{Came, IsOfJob, IsStarved, delivered_in, is_there, told_of};
+ghost use Rattle.world_steps.specs.Calls.{Came, IsOfJob, RanOutOfMemory, StepsTo, delivered_in, is_there};
 ghost use Rattle.world_steps.specs.Nodes.{can_start};
 ghost use Rattle.world_steps.specs.Places.{node_there};
-ghost use Rattle.world_steps.specs.Seats.{IsFound};
+ghost use Rattle.world_steps.specs.Seats.{DeliversPacket};
 ghost use Rattle.world_steps.specs.Runs.{IsFormattedFor};
-ghost use Rattle.world_steps.specs.Steps.{Step as StepOf};
 ghost use Rattle.world_steps.specs.World.{WorldOf, first_over, node_in, put_node, recorded, with_used, without_node};
 ghost use Rattle.world_steps.specs.declared.parts.EventAnswer.TheVariants as told;
 ghost use Rattle.event_script.specs.declared.event.Event.TheVariants as events;
 
 use crate::counts::{Before, RunCounts};
+use crate::house_slot::{HouseReply, HouseSlot};
 use crate::kept::Kept;
 use crate::nodes::carry_out;
 use crate::parts::{EventAnswer, NoMemory, Word};
-use crate::seat::{HouseReply, Seat};
 use body_eval::Done;
 use codec::Datagram;
 use event_script::{Cut, Event, HouseEvent, NodeEvent, NodePlace};
-use ids::{Incarnation, Outcome, Store};
+use ids::{Incarnation, Outcome, SortedMap};
 use node_core::{Fill, Node, NodeError, Step, Work};
 use serial_meaning::Job;
 use std::alloc::Global;
@@ -41,10 +39,10 @@ const PLACES: usize = 64;
 pub struct World<'a> {
     job: &'a Job,
     nodes: Vec<Option<Node<'a>>>,
-    seat: Seat<'a>,
+    seat: HouseSlot<'a>,
     net: Kept<Datagram>,
     fills: Kept<Fill>,
-    used: Store<Word>,
+    used: SortedMap<Word>,
     counts: Box<RunCounts>,
 }
 
@@ -76,10 +74,10 @@ impl<'a> World<'a> {
         Ok(World {
             job,
             nodes: no_nodes(alloc)?,
-            seat: Seat::new(alloc, job)?,
+            seat: HouseSlot::new(alloc, job)?,
             net: Kept::new(alloc),
             fills: Kept::new(alloc),
-            used: Store::new(alloc),
+            used: SortedMap::new(alloc),
             counts: RunCounts::boxed(alloc)?,
         })
     }
@@ -163,8 +161,8 @@ impl<'a> World<'a> {
     ) -> Result<EventAnswer, NoMemory>
         requires { IsOfJob self.old.job (option_copied turn) }
         ensures job { self.new.job ≡ self.old.job }
-        ensures step { IfOk result (λ t. (o : StepResult) × StepOf self.old.job event.now self.old.world o × (self.new.world ≡ o.world) × (t ≡ told_of o.answer)) }
-        ensures starved { OnErr result ((o : StepResult) × IsStarved event.now self.old self.new.is_placed o × (self.new.world ≡ o.world)) }
+        ensures step { IfOk result (λ t. StepsTo self.old.job event.now self.old.world self.new.world t) }
+        ensures out_of_memory { OnErr result (RanOutOfMemory event.now self.old self.new) }
     {
         let before = Before::of(event, self.nodes.as_slice());
         let told = self.carry_out(alloc, event, turn)?;
@@ -194,8 +192,8 @@ impl<'a> World<'a> {
     ) -> Result<EventAnswer, NoMemory>
         requires { IsOfJob self.old.job (option_copied turn) }
         ensures job { self.new.job ≡ self.old.job }
-        ensures step { IfOk result (λ t. (o : StepResult) × StepOf self.old.job event.now self.old.world o × (self.new.world ≡ o.world) × (t ≡ told_of o.answer)) }
-        ensures starved { OnErr result ((o : StepResult) × IsStarved event.now self.old self.new.is_placed o × (self.new.world ≡ o.world)) }
+        ensures step { IfOk result (λ t. StepsTo self.old.job event.now self.old.world self.new.world t) }
+        ensures out_of_memory { OnErr result (RanOutOfMemory event.now self.old self.new) }
     {
         match event {
             Event::Start(place, word) => self.start(alloc, *place, *word),
@@ -206,7 +204,7 @@ impl<'a> World<'a> {
                 self.seat.fall(alloc);
                 Ok(self.unheard())
             }
-            Event::Cut(cut) => self.cut(alloc, cut),
+            Event::Cut(cut) => self.cut(alloc, cut.as_ref()),
         }
     }
 
@@ -286,8 +284,8 @@ impl<'a> World<'a> {
     /// A node starts at a place with a start word, if it can.
     fn start(&mut self, alloc: Global, place: NodePlace, word: u64) -> Result<EventAnswer, NoMemory>
         ensures job { self.new.job ≡ self.old.job }
-        ensures step { IfOk result (λ t. (o : StepResult) × StepOf self.old.job (events.Start place word) self.old.world o × (self.new.world ≡ o.world) × (t ≡ told_of o.answer)) }
-        ensures starved { OnErr result ((o : StepResult) × IsStarved (events.Start place word) self.old self.new.is_placed o × (self.new.world ≡ o.world)) }
+        ensures step { IfOk result (λ t. StepsTo self.old.job (events.Start place word) self.old.world self.new.world t) }
+        ensures out_of_memory { OnErr result (RanOutOfMemory (events.Start place word) self.old self.new) }
     {
         let Some(incarnation) = self.starts(place, word) else {
             return Ok(EventAnswer::Unfit);
@@ -310,10 +308,10 @@ impl<'a> World<'a> {
     ) -> Result<EventAnswer, NoMemory>
         requires { IsOfJob self.old.job (option_copied turn) }
         ensures job { self.new.job ≡ self.old.job }
-        ensures step { IfOk result (λ t. (o : StepResult) × StepOf self.old.job (events.AtNode place event) self.old.world o × (self.new.world ≡ o.world) × (t ≡ told_of o.answer)) }
-        ensures starved { OnErr result ((o : StepResult) × IsStarved (events.AtNode place event) self.old self.new.is_placed o × (self.new.world ≡ o.world)) }
+        ensures step { IfOk result (λ t. StepsTo self.old.job (events.AtNode place event) self.old.world self.new.world t) }
+        ensures out_of_memory { OnErr result (RanOutOfMemory (events.AtNode place event) self.old self.new) }
     {
-        self.may_choose(place);
+        self.law_may_choose(place);
         if !self.fits(place, event) {
             return Ok(EventAnswer::Unfit);
         }
@@ -362,18 +360,18 @@ impl<'a> World<'a> {
     }
 
     /// A node that is up may be asked to choose a frame. Does nothing.
-    fn may_choose(&self, place: NodePlace)
-        ensures { (n : NodeOf) → node_in place self.now.world.nodes ≡ Some n → (choice : Option Choice) × MayChoose n choice }
+    fn law_may_choose(&self, place: NodePlace)
+        ensures { (n : NodeOf) → node_in place self.now.world.nodes ≡ Some n → (choice : Option Candidate) × IsCandidate n choice }
     {
         if let Some(node) = &self.nodes[usize::from(place.index())] {
-            node.may_choose();
+            node.law_may_choose();
         }
     }
 
     /// The node of a place loses its memory, if one is up there.
     fn crash(&mut self, place: NodePlace) -> EventAnswer
         ensures job { self.new.job ≡ self.old.job }
-        ensures step { (o : StepResult) × StepOf self.old.job (events.Crash place) self.old.world o × (self.new.world ≡ o.world) × (result ≡ told_of o.answer) }
+        ensures step { StepsTo self.old.job (events.Crash place) self.old.world self.new.world result }
     {
         if !self.is_up(place) {
             return EventAnswer::Unfit;
@@ -398,14 +396,14 @@ impl<'a> World<'a> {
     /// Something comes to the clearinghouse, if it applies.
     fn at_house(&mut self, alloc: Global, event: HouseEvent) -> Result<EventAnswer, NoMemory>
         ensures job { self.new.job ≡ self.old.job }
-        ensures step { IfOk result (λ t. (o : StepResult) × StepOf self.old.job (events.AtHouse event) self.old.world o × (self.new.world ≡ o.world) × (t ≡ told_of o.answer)) }
-        ensures starved { OnErr result ((o : StepResult) × IsStarved (events.AtHouse event) self.old self.new.is_placed o × (self.new.world ≡ o.world)) }
+        ensures step { IfOk result (λ t. StepsTo self.old.job (events.AtHouse event) self.old.world self.new.world t) }
+        ensures out_of_memory { OnErr result (RanOutOfMemory (events.AtHouse event) self.old self.new) }
     {
         if !self.seat.applies(event, delivered(&self.net, event)) {
             return Ok(self.unheard());
         }
         if self.place().is_err() {
-            self.seat.starve(alloc);
+            self.seat.lack_memory(alloc);
             return Err(NoMemory);
         }
         let reply = self.seat.meet(alloc, event, delivered(&self.net, event))?;
@@ -415,10 +413,10 @@ impl<'a> World<'a> {
     /// An event of the clearinghouse is cut off, if it applies.
     fn cut(&mut self, alloc: Global, cut: &Cut) -> Result<EventAnswer, NoMemory>
         ensures job { self.new.job ≡ self.old.job }
-        ensures step { IfOk result (λ t. (o : StepResult) × StepOf self.old.job (events.Cut cut.now) self.old.world o × (self.new.world ≡ o.world) × (t ≡ told_of o.answer)) }
-        ensures starved { OnErr result ((o : StepResult) × IsStarved (events.Cut cut.now) self.old self.new.is_placed o × (self.new.world ≡ o.world)) }
+        ensures step { IfOk result (λ t. StepsTo self.old.job (events.Cut cut.now) self.old.world self.new.world t) }
+        ensures out_of_memory { OnErr result (RanOutOfMemory (events.Cut cut.now) self.old self.new) }
     {
-        self.seat.can_cut();
+        self.seat.law_can_cut();
         if !self
             .seat
             .applies(cut.event, delivered(&self.net, cut.event))
@@ -426,11 +424,11 @@ impl<'a> World<'a> {
             return Ok(self.unheard());
         }
         let Ok(bytes) = Vec::from_slice(alloc, cut.bytes.as_slice()) else {
-            self.seat.starve(alloc);
+            self.seat.lack_memory(alloc);
             return Err(NoMemory);
         };
         if self.place().is_err() {
-            self.seat.starve(alloc);
+            self.seat.lack_memory(alloc);
             return Err(NoMemory);
         }
         let packet = delivered(&self.net, cut.event);
@@ -483,7 +481,7 @@ fn handed(net: &Kept<Datagram>, event: NodeEvent) -> Option<&Datagram>
 
 /// The packet that an event of the clearinghouse delivers, if it is there.
 fn delivered(net: &Kept<Datagram>, event: HouseEvent) -> Option<&Datagram>
-    ensures { (w : WorldOf) → w.net ≡ net.now.all → IsFound event (option_copied result) w }
+    ensures { (w : WorldOf) → w.net ≡ net.now.all → DeliversPacket event (option_copied result) w }
 {
     match event {
         HouseEvent::Deliver(index) => net.get(index),

@@ -5,7 +5,7 @@ ghost use Rattle.ids.specs.Naming.{name_of_member};
 ghost use Rattle.ids.specs.Ordered.{AreInOrder};
 ghost use Rattle.heirs.specs.Chains.{name_of_chain, chain_of, reach_in, reach, then_on, gone_on, goes_on, end_of, first_of};
 
-use ids::{Actor, Exact, Incarnation, Listed, Member, Named, Status, Store, item_of};
+use ids::{Actor, Exact, Incarnation, Listed, Member, Named, SortedMap, Status, item_of};
 use std::alloc::{AllocError, Global};
 use std::marker::Model;
 
@@ -62,10 +62,10 @@ impl Named for Chain {
 }
 
 /// The chains of a roster after their first step; of a worker that is listed twice, the first counts.
-pub fn first_step(alloc: Global, members: &[Member]) -> Result<Store<Chain>, AllocError>
+pub fn first_step(alloc: Global, members: &[Member]) -> Result<SortedMap<Chain>, AllocError>
     ensures { IfOk result (λ table. (n : Name) → item_in name_of_chain n table ≡ option_map chain_of (item_in name_of_member n members.now)) }
 {
-    let mut table = Store::new(alloc);
+    let mut table = SortedMap::new(alloc);
     for member in members {
         if table.get(member.name()).is_none() {
             table.put(Chain {
@@ -142,7 +142,7 @@ impl Chains {
 }
 
 /// The chains of a table, by rising worker.
-pub fn listed(alloc: Global, table: &Store<Chain>) -> Result<Listed<Chain>, AllocError>
+pub fn listed(alloc: Global, table: &SortedMap<Chain>) -> Result<Listed<Chain>, AllocError>
     ensures { IfOk result (λ chains. chains ≡ table.now) }
 {
     let mut chains = Listed::new(alloc);

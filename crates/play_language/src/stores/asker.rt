@@ -3,12 +3,12 @@
 use super::words::{actor_at, count_at, status};
 use ids::Status;
 use play_packets::grant;
-use play_words::{Ended, Line, Played};
+use play_words::{CommandLine, Ended, Played};
 use std::io::{self, Write};
 use steal_protocol::Asker;
 
 /// What is said of a victim; none inside where nothing is.
-fn said(line: &Line<'_>) -> Option<Option<Status>> {
+fn said(line: &CommandLine<'_>) -> Option<Option<Status>> {
     match line.word(2)? {
         "nothing" => Some(None),
         word => Some(Some(status(word, 0)?)),
@@ -29,7 +29,7 @@ fn write_state<O: Write>(out: &mut O, asker: &Asker) -> io::Result<()> {
 
 /// Plays a command on requests.
 pub fn play_asker<O: Write>(
-    line: &Line<'_>,
+    line: &CommandLine<'_>,
     asker: &mut Asker,
     out: &mut O,
 ) -> Result<Played, Ended> {

@@ -4,7 +4,7 @@ use super::words::{ends, status};
 use heirs::Bearers;
 use ids::{Actor, Incarnation, Listed, Member};
 use play_packets::Unread;
-use play_words::{Ended, Line, Played};
+use play_words::{CommandLine, Ended, Played};
 use std::alloc::Global;
 use std::io::{self, Write};
 
@@ -102,7 +102,11 @@ fn members(alloc: Global, text: &str) -> Result<Listed<Member>, Unread> {
 }
 
 /// Plays a command on heirs.
-pub fn play_heirs<O: Write>(alloc: Global, line: &Line<'_>, out: &mut O) -> Result<Played, Ended> {
+pub fn play_heirs<O: Write>(
+    alloc: Global,
+    line: &CommandLine<'_>,
+    out: &mut O,
+) -> Result<Played, Ended> {
     let (Some(text), Some((first, last))) = (line.word(1), line.word(2).and_then(ends)) else {
         return Ok(Played::Malformed);
     };

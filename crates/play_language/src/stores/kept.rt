@@ -4,7 +4,7 @@ use super::words::range;
 use frames::{Filled, Frames};
 use ids::{Frame, FrameNo, Listed};
 use play_packets::{Unread, add_frames, write_frame};
-use play_words::{Ended, Line, Played};
+use play_words::{CommandLine, Ended, Played};
 use std::alloc::Global;
 use std::io::Write;
 
@@ -32,7 +32,7 @@ fn fill(frames: &mut Frames, number: FrameNo, slot: u8, value: i64, tally: &mut 
 
 /// Fills a slot of frames.
 fn write_fill<O: Write>(
-    line: &Line<'_>,
+    line: &CommandLine<'_>,
     frames: &mut Frames,
     out: &mut O,
 ) -> Result<Played, Ended> {
@@ -67,7 +67,7 @@ fn write_fill<O: Write>(
 }
 
 /// Puts the frames that a word spells.
-fn put(alloc: Global, line: &Line<'_>, frames: &mut Frames) -> Result<(), Unread> {
+fn put(alloc: Global, line: &CommandLine<'_>, frames: &mut Frames) -> Result<(), Unread> {
     let mut list = Listed::new(alloc);
     add_frames(alloc, &mut list, line.word(2).ok_or(Unread::Malformed)?)?;
     for frame in list.into_vec() {
@@ -78,7 +78,7 @@ fn put(alloc: Global, line: &Line<'_>, frames: &mut Frames) -> Result<(), Unread
 
 fn write_put<O: Write>(
     alloc: Global,
-    line: &Line<'_>,
+    line: &CommandLine<'_>,
     frames: &mut Frames,
     out: &mut O,
 ) -> Result<Played, Ended> {
@@ -110,7 +110,7 @@ fn write_found<O: Write>(out: &mut O, found: Option<&Frame>) -> Result<(), Ended
 
 /// Takes ready frames, and writes the last one and how many are left.
 fn write_taken<O: Write>(
-    line: &Line<'_>,
+    line: &CommandLine<'_>,
     frames: &mut Frames,
     out: &mut O,
 ) -> Result<Played, Ended> {
@@ -146,7 +146,7 @@ fn write_all<O: Write>(out: &mut O, frames: &Frames) -> Result<Played, Ended> {
 /// Plays a command on frames.
 pub fn play_frames<O: Write>(
     alloc: Global,
-    line: &Line<'_>,
+    line: &CommandLine<'_>,
     frames: &mut Frames,
     out: &mut O,
 ) -> Result<Played, Ended> {

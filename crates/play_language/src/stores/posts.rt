@@ -4,7 +4,7 @@ use super::words::{frame_at, range};
 use ids::{FrameNo, GrantId};
 use level_deques::{Post, PostTest, Posts};
 use play_packets::{grant, write_grant};
-use play_words::{Ended, Line, Played};
+use play_words::{CommandLine, Ended, Played};
 use std::io::{self, Write};
 
 /// Keeps the posts from a level on.
@@ -33,7 +33,7 @@ fn write_post<O: Write>(out: &mut O, post: Option<Post>) -> io::Result<()> {
 }
 
 /// The level that a word is.
-fn level(line: &Line<'_>) -> Option<u16> {
+fn level(line: &CommandLine<'_>) -> Option<u16> {
     u16::try_from(line.number(2)?).ok()
 }
 
@@ -61,7 +61,7 @@ fn post<O: Write>(
 
 /// Posts frames of a grant at a level.
 fn write_posted<O: Write>(
-    line: &Line<'_>,
+    line: &CommandLine<'_>,
     posts: &mut Posts,
     out: &mut O,
 ) -> Result<Played, Ended> {
@@ -81,7 +81,7 @@ fn write_posted<O: Write>(
 
 /// Takes so many posts from an end, and writes the last one and how many are left.
 fn write_taken<O: Write>(
-    line: &Line<'_>,
+    line: &CommandLine<'_>,
     posts: &mut Posts,
     is_shallow: bool,
     out: &mut O,
@@ -131,7 +131,7 @@ fn write_all<O: Write>(out: &mut O, posts: &Posts) -> io::Result<()> {
 
 /// Plays a command on posts.
 pub fn play_posts<O: Write>(
-    line: &Line<'_>,
+    line: &CommandLine<'_>,
     posts: &mut Posts,
     out: &mut O,
 ) -> Result<Played, Ended> {

@@ -4,7 +4,7 @@ use super::words::{range, worker_at};
 use codec::Body;
 use ids::{Actor, GrantId, Incarnation, Record};
 use play_packets::{grant, read_packet, write_grant};
-use play_words::{Ended, Line, Played};
+use play_words::{CommandLine, Ended, Played};
 use std::alloc::{AllocError, Global};
 use std::io::{self, Write};
 use victim_records::Records;
@@ -20,7 +20,7 @@ fn open(records: &mut Records, opened: &[Record]) -> Result<(), AllocError> {
 /// Opens the records of an Offer.
 fn write_opened<O: Write>(
     alloc: Global,
-    line: &Line<'_>,
+    line: &CommandLine<'_>,
     records: &mut Records,
     out: &mut O,
 ) -> Result<Played, Ended> {
@@ -93,7 +93,7 @@ fn write_copy<O: Write>(grant: GrantId, records: &Records, out: &mut O) -> Resul
 
 /// Closes so many records of one minter, the grants by their numbers; writes the last one.
 fn write_closed<O: Write>(
-    line: &Line<'_>,
+    line: &CommandLine<'_>,
     records: &mut Records,
     out: &mut O,
 ) -> Result<Played, Ended> {
@@ -116,7 +116,7 @@ fn write_closed<O: Write>(
 /// Plays a command on records.
 pub fn play_records<O: Write>(
     alloc: Global,
-    line: &Line<'_>,
+    line: &CommandLine<'_>,
     records: &mut Records,
     out: &mut O,
 ) -> Result<Played, Ended> {

@@ -3,7 +3,7 @@
 use super::words::{count_at, worker_at};
 use ids::{Count, Incarnation};
 use play_packets::{read_packet, write_packet};
-use play_words::{Ended, Line, Played};
+use play_words::{CommandLine, Ended, Played};
 use std::alloc::Global;
 use std::io::{self, Write};
 use steal_protocol::{Heard, Replies, Reply};
@@ -11,7 +11,7 @@ use steal_protocol::{Heard, Replies, Reply};
 /// Keeps a packet as an answer.
 fn write_kept<O: Write>(
     alloc: Global,
-    line: &Line<'_>,
+    line: &CommandLine<'_>,
     thief: Incarnation,
     seq: Count,
     replies: &mut Replies,
@@ -48,7 +48,7 @@ fn write_heard<O: Write>(out: &mut O, heard: Heard<'_>) -> io::Result<()> {
 /// Plays a command on answers.
 pub fn play_replies<O: Write>(
     alloc: Global,
-    line: &Line<'_>,
+    line: &CommandLine<'_>,
     replies: &mut Replies,
     out: &mut O,
 ) -> Result<Played, Ended> {

@@ -1,6 +1,6 @@
 use ids::{Actor, Count, FrameNo, Incarnation, Status};
 use play_packets::{actor, word64};
-use play_words::Line;
+use play_words::CommandLine;
 
 /// The first and the last number of `FIRST..LAST`, which may be one number.
 pub fn ends(text: &str) -> Option<(u64, u64)> {
@@ -12,25 +12,25 @@ pub fn ends(text: &str) -> Option<(u64, u64)> {
 }
 
 /// The same of the word at an index, as numbers of frames.
-pub fn range(line: &Line<'_>, index: usize) -> Option<(u32, u32)> {
+pub fn range(line: &CommandLine<'_>, index: usize) -> Option<(u32, u32)> {
     let (first, last) = ends(line.word(index)?)?;
     Some((u32::try_from(first).ok()?, u32::try_from(last).ok()?))
 }
 
-pub fn frame_at(line: &Line<'_>, index: usize) -> Option<FrameNo> {
+pub fn frame_at(line: &CommandLine<'_>, index: usize) -> Option<FrameNo> {
     Some(FrameNo::of(u32::try_from(line.number(index)?).ok()?))
 }
 
-pub fn worker_at(line: &Line<'_>, index: usize) -> Option<Incarnation> {
+pub fn worker_at(line: &CommandLine<'_>, index: usize) -> Option<Incarnation> {
     Incarnation::worker(line.number(index)?)
 }
 
-pub fn count_at(line: &Line<'_>, index: usize) -> Option<Count> {
+pub fn count_at(line: &CommandLine<'_>, index: usize) -> Option<Count> {
     Count::of(line.number(index)?)
 }
 
 /// An actor by its word, or a clearinghouse by its epoch.
-pub fn actor_at(line: &Line<'_>, index: usize) -> Option<Actor> {
+pub fn actor_at(line: &CommandLine<'_>, index: usize) -> Option<Actor> {
     let word = line.word(index)?;
     match word64(word) {
         Some(word) => Actor::of(word),

@@ -5,7 +5,7 @@ use codec::{
     Steal, TaskResult,
 };
 use ids::{Frame, FrameNo, GrantId, Listed, Record, Task};
-use play_words::Line;
+use play_words::CommandLine;
 use std::alloc::{AllocError, Global};
 
 /// The words of a packet that are still to be read; none behind the last one.
@@ -59,7 +59,7 @@ fn read<T>(value: Option<T>) -> Result<T, Unread> {
 /// The packet that the words from an index on spell; none where they are no packet's.
 pub fn read_packet(
     alloc: Global,
-    line: &Line<'_>,
+    line: &CommandLine<'_>,
     from: usize,
 ) -> Result<Option<Packet>, AllocError> {
     match packet_in(alloc, line, from) {
@@ -71,7 +71,11 @@ pub fn read_packet(
 
 /// The same, where words that are no packet's in form are malformed; none where they have a field that no packet can hold, or
 /// an address that doesn't suit the kind.
-pub fn packet_in(alloc: Global, line: &Line<'_>, from: usize) -> Result<Option<Packet>, Unread> {
+pub fn packet_in(
+    alloc: Global,
+    line: &CommandLine<'_>,
+    from: usize,
+) -> Result<Option<Packet>, Unread> {
     let mut words = Words {
         rest: Some(line.rest(from)),
     };

@@ -1,6 +1,6 @@
 use Rattle.std.proofs.Common.{◌≡◌, Some, Err, refl, ap, subst, ◌∙◌}
 use Rattle.checkpoint.specs.Commit.{next_of}
-use Rattle.checkpoint.specs.declared.record.Record.{Record as Stored}
+use Rattle.checkpoint.specs.declared.record.CheckpointRecord.{CheckpointRecord as Stored}
 use Rattle.clearinghouse.specs.House.{HouseOf}
 use Rattle.clearinghouse.specs.Meeting.{Committed, Halted}
 use Rattle.clearinghouse.proofs.Committing.{halted, same_epoch}

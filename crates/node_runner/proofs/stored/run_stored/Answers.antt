@@ -1,7 +1,7 @@
 use Rattle.std.proofs.Common.{◌≡◌, ◌∙◌, Option, None, Some, Ok, IfSome, inr, refl, sym, ap, rules}
 use Rattle.ids.specs.declared.outcome.Outcome.{Outcome}
 use Rattle.checkpoint.specs.Store.{Opened}
-use Rattle.checkpoint.specs.declared.record.Record.{Record}
+use Rattle.checkpoint.specs.declared.record.CheckpointRecord.{CheckpointRecord}
 use Rattle.serial_meaning.specs.Job.{meaning_of}
 use Rattle.job_store.specs.Kept.{begun, finished}
 use Rattle.node_runner.proofs.Storing.{leaves_either, none_before}
@@ -39,7 +39,7 @@ returns-in-Ok-clause-left g c keeps meant =
     let committed = (c.in-Ok-None.ensures.begins none).1 in
     let mid = c.begin_run.new.store in
     let same : mid.«record» ≡ begun c.args.store.now.«record» = ap (λ s. s.«record») committed in
-    let own = ap (λ (r : Record). r.job) same in
+    let own = ap (λ (r : CheckpointRecord). r.job) same in
     let was : IfSome mid.«record».outcome (λ o. o ≡ meaning_of c.args.job.now) = rw same tt in
     leaves_either (g.D.Disk.device c.keep_outcome.new.store.disk).file mid.sequence mid.«record» (finished c.in_ok-ran.ran.outcome mid.«record») c.args.store.now.«record».job (λ o. o ≡ meaning_of c.args.job.now) (c.keep_outcome.ensures.either (c.in-Ok-None.ensures.kept keeps)) own own was c.in_ok-ran.ensures.meant
 
@@ -50,6 +50,6 @@ returns-in-Err-keep_outcome-clause-left g c keeps meant =
     let committed = (c.in-Ok-None.ensures.begins none).1 in
     let mid = c.begin_run.new.store in
     let same : mid.«record» ≡ begun c.args.store.now.«record» = ap (λ s. s.«record») committed in
-    let own = ap (λ (r : Record). r.job) same in
+    let own = ap (λ (r : CheckpointRecord). r.job) same in
     let was : IfSome mid.«record».outcome (λ o. o ≡ meaning_of c.args.job.now) = rw same tt in
     leaves_either (g.D.Disk.device c.keep_outcome.new.store.disk).file mid.sequence mid.«record» (finished c.in_ok-ran.ran.outcome mid.«record») c.args.store.now.«record».job (λ o. o ≡ meaning_of c.args.job.now) (c.keep_outcome.ensures.either (c.in-Ok-None.ensures.kept keeps)) own own was c.in_ok-ran.ensures.meant

@@ -1,6 +1,6 @@
 -- Each turn that was taken leads to the run after one more, and the run that goes on has a next turn.
 use Rattle.std.proofs.Common.{◌≡◌, ◌+◌, arith}
-use Rattle.one_node.specs.Outcomes.{IsEnd}
+use Rattle.one_node.specs.Outcomes.{IsRunEnd}
 use Rattle.one_node.specs.Runs.{run_of}
 use Rattle.one_node.proofs.Keeping.{has_turn, reached_next}
 use Rattle.one_node.proofs.run.evaluate_counted.Goals as goal
@@ -8,7 +8,7 @@ use Rattle.one_node.proofs.run.evaluate_counted.Goals as goal
 pub returns-in-Finished : goal.returns-in-Finished
 returns-in-Finished g c =
     let follows = c.in_ok-run-2.ensures.follows in
-    let end : IsEnd c.args.job.now c.args.turns c.in-Finished.outcome = record {
+    let end : IsRunEnd c.args.job.now c.args.turns c.in-Finished.outcome = record {
       n = c.loop-taken.taken + 1;
       within = omega arith;
       run = run_of c.in_ok-run-2.run';

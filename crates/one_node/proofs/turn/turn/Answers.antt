@@ -2,7 +2,7 @@
 use Rattle.std.proofs.Common.{◌≡◌, Some, ap, ◌∙◌, rules}
 use Rattle.std.proofs.lemmas.Result.{err_from_is_err_and}
 use Rattle.level_deques.specs.Posts.{deepest, without_post}
-use Rattle.one_node.specs.Runs.{posted_all, run_of}
+use Rattle.one_node.specs.Runs.{posted_readied, run_of}
 use Rattle.one_node.proofs.Turning.{next_frame}
 use Rattle.one_node.proofs.Keeping.{turn_fails, turn_follows, turn_taken}
 use Rattle.one_node.proofs.Taking.{taken_is}
@@ -30,13 +30,13 @@ returns-in_err-after-clause-fails g c =
 pub returns-clause-next : goal.returns-clause-next
 returns-clause-next g c =
     let first : deepest c.args.run.posts ≡ Some c.unwrap-newest.result = cc (c.deepest.ensures, c.unwrap-newest.ensures) in
-    let taken : c.post_all.new.posts ≡ posted_all c.in_ok-after.field-0.ready (without_post c.unwrap-newest.result c.args.run.posts) = search rules in
-    let posts = taken ∙ ap (posted_all c.in_ok-after.field-0.ready) (taken_is c.args.run.content.frames c.args.run.posts c.unwrap-newest.result c.requires.order c.requires.posted first) in
+    let taken : c.post_all.new.posts ≡ posted_readied c.in_ok-after.field-0.ready (without_post c.unwrap-newest.result c.args.run.posts) = search rules in
+    let posts = taken ∙ ap (posted_readied c.in_ok-after.field-0.ready) (taken_is c.args.run.content.frames c.args.run.posts c.unwrap-newest.result c.requires.order c.requires.posted first) in
     rw posts (turn_taken c.args.job.now (run_of c.args.run) c.unwrap-newest.result c.in_ok-done.done c.in_ok-done.ensures.turn c.in_ok-after.field-0 first c.in_ok-done.ensures.program c.in_ok-after.ensures.answer)
 
 pub returns-clause-follows : goal.returns-clause-follows
 returns-clause-follows g c =
     let first : deepest c.args.run.posts ≡ Some c.unwrap-newest.result = cc (c.deepest.ensures, c.unwrap-newest.ensures) in
-    let taken : c.post_all.new.posts ≡ posted_all c.in_ok-after.field-0.ready (without_post c.unwrap-newest.result c.args.run.posts) = search rules in
-    let posts = taken ∙ ap (posted_all c.in_ok-after.field-0.ready) (taken_is c.args.run.content.frames c.args.run.posts c.unwrap-newest.result c.requires.order c.requires.posted first) in
-    rw posts (turn_follows c.args.job.now (run_of c.args.run) c.unwrap-newest.result c.in_ok-done.done c.in_ok-done.ensures.turn c.in_ok-after.field-0 (c.turn_keeps_agreement.ensures.content c.args.job.now) c.requires c.in_ok-done.ensures.program c.in_ok-after.ensures.answer c.in_ok-after.ensures.sound c.stand_in_order-2.ensures)
+    let taken : c.post_all.new.posts ≡ posted_readied c.in_ok-after.field-0.ready (without_post c.unwrap-newest.result c.args.run.posts) = search rules in
+    let posts = taken ∙ ap (posted_readied c.in_ok-after.field-0.ready) (taken_is c.args.run.content.frames c.args.run.posts c.unwrap-newest.result c.requires.order c.requires.posted first) in
+    rw posts (turn_follows c.args.job.now (run_of c.args.run) c.unwrap-newest.result c.in_ok-done.done c.in_ok-done.ensures.turn c.in_ok-after.field-0 (c.turn_keeps_agreement.ensures.content c.args.job.now) c.requires c.in_ok-done.ensures.program c.in_ok-after.ensures.answer c.in_ok-after.ensures.sound c.law_stand_in_order-2.ensures)

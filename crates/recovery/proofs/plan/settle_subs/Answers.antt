@@ -9,7 +9,7 @@ use Rattle.recovery.proofs.plan.settle_subs.Goals as goal
 pub loop-sub-init : goal.loop-sub-init
 loop-sub-init c =
     settling_none c.args.roster.now.members.now c.args.subs.now c.into_iter-sub-iterator.result (record { settled = c.new.result; stopped = c.new-2.result; again = c.new-3.result })
-    (c.into_iter-sub-iterator.ensures.into_iter_gives ∙ c.values-sub-items.ensures) c.stand_in_order.ensures c.new.ensures c.new-2.ensures c.new-3.ensures
+    (c.into_iter-sub-iterator.ensures.into_iter_gives ∙ c.values-sub-items.ensures) c.law_stand_in_order.ensures c.new.ensures c.new-2.ensures c.new-3.ensures
 
 pub loop-sub-preserved-in-Continue-1 : goal.loop-sub-preserved-in-Continue-1
 loop-sub-preserved-in-Continue-1 c =

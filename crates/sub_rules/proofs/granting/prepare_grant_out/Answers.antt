@@ -13,4 +13,4 @@ returns-clause-sound c none =
     let there : Some frame ≡ frame_in c.args.number c.args.content.now.frames = search rules in
     let full : Some numbers ≡ numbers_in frame.slots = search rules in
     let task : c.in_ok-clone-2.field-0 ≡ task_of (record { frame = frame; numbers = numbers }) = search rules in
-    rw task (opening_sound c.args.content.now c.args.grant c.args.thief c.args.number frame numbers c.requires.sound c.stand_in_order.ensures there full none)
+    rw task (opening_sound c.args.content.now c.args.grant c.args.thief c.args.number frame numbers c.requires.sound c.law_stand_in_order.ensures there full none)

@@ -1,5 +1,5 @@
 use Rattle.std.proofs.Common.{◌++◌, [], refl, sym, ◌∙◌, arith}
-use Rattle.world.proofs.Running.{bytes_starved, cut_left, first_under_way, get_left, room_left, script_goes_on, script_starved, take_past}
+use Rattle.world.proofs.Running.{bytes_out_of_memory, cut_left, first_under_way, get_left, room_left, script_goes_on, script_out_of_memory, take_past}
 use Rattle.world.proofs.runs.script_carried_out.Goals as goal
 
 pub loop-event-init : goal.loop-event-init
@@ -19,13 +19,13 @@ pub returns-then-not-carry_on-clause-run : goal.returns-then-not-carry_on-clause
 returns-then-not-carry_on-clause-run g c =
     let at = c.loop-event.invariant in
     let next = rw c.in-Ok-Some.field-0-is at c.in-Ok-Some.ensures.next in
-    let s = c.if-not-carry_on.ensures.starved refl in
+    let s = c.if-not-carry_on.ensures.out_of_memory refl in
     let events = at.2 ++ c.loop-event.script in
     let get = get_left at.2 c.loop-event.script c.next.new.self c.in-Ok-Some.event c.loop-event.run.done at.4 next in (
       events,
       at.3,
       rw (s.3, s.5)
-          (script_starved c.args.job.now events at.2 c.loop-event.run.done s.4 c.in-Ok-Some.event c.loop-event.run.world s.0 c.carry_on.new.self.world at.0 at.5 (take_past at.2 c.loop-event.script c.loop-event.run.done at.4) get s.1 s.2),
+          (script_out_of_memory c.args.job.now events at.2 c.loop-event.run.done s.4 c.in-Ok-Some.event c.loop-event.run.world s.0 c.carry_on.new.self.world at.0 at.5 (take_past at.2 c.loop-event.script c.loop-event.run.done at.4) get s.1 s.2),
     )
 
 pub loop-event-preserved-else-not-carry_on : goal.loop-event-preserved-else-not-carry_on
@@ -50,4 +50,4 @@ returns-in-Err-next-clause-run g c =
     let events = at.2 ++ c.loop-event.script in
     let left = cut_left c.loop-event.script c.in-Err-next.ensures.cut in
     let get = get_left at.2 c.loop-event.script left.1 left.0 c.loop-event.run.done at.4 left.2 in
-    (events, at.3, bytes_starved c.args.job.now events at.2 c.loop-event.run.done _ left.0 c.loop-event.run.world at.5 (take_past at.2 c.loop-event.script c.loop-event.run.done at.4) get left.3)
+    (events, at.3, bytes_out_of_memory c.args.job.now events at.2 c.loop-event.run.done _ left.0 c.loop-event.run.world at.5 (take_past at.2 c.loop-event.script c.loop-event.run.done at.4) get left.3)

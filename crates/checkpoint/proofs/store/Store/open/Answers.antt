@@ -3,7 +3,7 @@ use Rattle.disk.specs.Device.{Device}
 use Rattle.disk.specs.File.{bytes_of}
 use Rattle.checkpoint.specs.Calls.{Read}
 use Rattle.checkpoint.specs.Format.{IsStore}
-use Rattle.checkpoint.specs.Store.{IsHeld, Keeps}
+use Rattle.checkpoint.specs.Store.{IsHeld, KeepsRecord}
 use Rattle.checkpoint.specs.declared.record.StoreError.TheVariants.{JobMismatch}
 use Rattle.checkpoint.proofs.Chains.{fails_alone, passes_alone}
 use Rattle.checkpoint.proofs.Opened.{device_alone, held_read, kept_read, not_by_device, refused_read}
@@ -43,7 +43,7 @@ returns-in-Ok-2-clause-kept g c n r keeps =
     let found = c.in-Ok-look.found in
     let held = held_read (bytes_of file) c.deref.result.now found.second found.sequence found.«record» found.gate (c.deref.ensures.value ∙ c.in-Ok.ensures.bytes) c.in-Ok-look.ensures.ok in
     let kept = kept_read file found.second found.sequence n found.«record» r held.store keeps in
-    (subst (λ (d : Device). Keeps d.file found.sequence found.«record») (sym c.in-Ok.ensures.ok) kept.0, kept.1)
+    (subst (λ (d : Device). KeepsRecord d.file found.sequence found.«record») (sym c.in-Ok.ensures.ok) kept.0, kept.1)
 
 pub returns-clause-refused : goal.returns-clause-refused
 returns-clause-refused g c _ =

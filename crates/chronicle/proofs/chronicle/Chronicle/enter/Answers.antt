@@ -8,7 +8,7 @@ take-kept-requires g c = record { seat = free_seat c.self.inside.lock c.seat.ins
 
 pub put-requires-clause-grown : goal.put-requires-clause-grown
 put-requires-clause-grown g c =
-    grows c.enter-answer.result c.args.event c.seat-2.inside.seat.actor c.take-kept.result.entries c.enter-answer.new.self.entries c.seat-2.inside.seat.taken (search rules) (search rules) c.enter-answer.ensures.history (first_of (c.enter-answer.new.self.entries ≡ c.take-kept.result.entries) (c.enter-answer.new.self.starved ≡ true) c.enter-answer.result c.enter-answer.ensures.starved)
+    grows c.enter-answer.result c.args.event c.seat-2.inside.seat.actor c.take-kept.result.entries c.enter-answer.new.self.entries c.seat-2.inside.seat.taken (search rules) (search rules) c.enter-answer.ensures.history (first_of (c.enter-answer.new.self.entries ≡ c.take-kept.result.entries) (c.enter-answer.new.self.out_of_memory ≡ true) c.enter-answer.result c.enter-answer.ensures.out_of_memory)
 
 pub returns-clause-entry : goal.returns-clause-entry
 returns-clause-entry g c =

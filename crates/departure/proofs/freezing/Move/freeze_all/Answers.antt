@@ -1,6 +1,6 @@
 use Rattle.std.proofs.Common.{Err, ap, sym, ◌∙◌}
 use Rattle.departure.proofs.OfferingLists.{movable}
-use Rattle.departure.proofs.OfferingRefusals.{has_no_heir, is_big, is_pending, is_spent, may_go, may_starve}
+use Rattle.departure.proofs.OfferingRefusals.{has_no_heir, is_big, is_pending, is_spent, may_go, may_lack_memory}
 use Rattle.departure.proofs.freezing.Move.freeze_all.Goals as goal
 
 pub returns-then-is_pending-clause-answer : goal.returns-then-is_pending-clause-answer
@@ -26,4 +26,4 @@ returns-in-Err-TooBig-clause-answer c =
 
 pub returns-in-Err-Memory-clause-answer : goal.returns-in-Err-Memory-clause-answer
 returns-in-Err-Memory-clause-answer c =
-    may_starve c.args.self.now c.args.members.now c.args.subs.now c.args.is_pending c.if-is_pending.false (sym c.lacks_heir.ensures ∙ c.if-lacks_heir.false) (sym c.has_last_hop.ensures ∙ c.if-has_last_hop.false)
+    may_lack_memory c.args.self.now c.args.members.now c.args.subs.now c.args.is_pending c.if-is_pending.false (sym c.lacks_heir.ensures ∙ c.if-lacks_heir.false) (sym c.has_last_hop.ensures ∙ c.if-has_last_hop.false)

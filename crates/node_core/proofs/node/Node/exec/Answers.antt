@@ -2,7 +2,7 @@ use Rattle.std.proofs.Common.{◌≡◌, [], Some, Ok, rules}
 use Rattle.kind_check.specs.Total.{TurnFits}
 use Rattle.subcomputation.specs.Subs.{sub_in}
 use Rattle.subcomputation.specs.Told.{carried_out, changed_of}
-use Rattle.sub_rules.specs.Carrying.{exec}
+use Rattle.sub_rules.specs.Carrying.{exec_content}
 use Rattle.node_state.specs.Parts.{HasNoNewRecord, IsMember}
 use Rattle.node_core.specs.Meeting.{IsNode, MeetsBehind, changes_of}
 use Rattle.node_core.proofs.Carrying.{exec_known, meets_alone}
@@ -28,6 +28,6 @@ returns c =
     let changed = changed_of sub c.in_ok-prepared.prepared in
     let member : IsMember c.args.self.now.node.state = search rules in
     let there : sub_in c.args.grant c.args.self.now.node.subs ≡ Some sub = search rules in
-    let is : carried_out sub (exec c.args.done.now c.args.frame sub.content) ≡ Ok changed = search rules in
+    let is : carried_out sub (exec_content c.args.done.now c.args.frame sub.content) ≡ Ok changed = search rules in
     let behind : MeetsBehind [] (changes_of c.args.self.now.job changed c.args.self.now.node) c.change.result c.args.self.now c.change.new.self = rw c.new.ensures at (c.change.ensures sub there) in
-    rw (exec_known c.args.self.now.job c.args.done.now c.args.grant c.args.frame c.args.self.now.node sub changed member there is) (record { answer = meets_alone (changes_of c.args.self.now.job changed c.args.self.now.node) c.change.result c.args.self.now c.change.new.self behind; starved = λ memory. tt })
+    rw (exec_known c.args.self.now.job c.args.done.now c.args.grant c.args.frame c.args.self.now.node sub changed member there is) (record { answer = meets_alone (changes_of c.args.self.now.job changed c.args.self.now.node) c.change.result c.args.self.now c.change.new.self behind; out_of_memory = λ memory. tt })

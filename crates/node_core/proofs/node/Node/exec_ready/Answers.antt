@@ -5,17 +5,17 @@ use Rattle.subcomputation.specs.Subs.{sub_in}
 use Rattle.node_state.specs.Parts.{IsMember}
 use Rattle.node_core.specs.Meeting.{IsNode}
 use Rattle.node_core.specs.Views.{work_in}
-use Rattle.node_core.proofs.Evaluating.{ready_starves, work_takes}
+use Rattle.node_core.proofs.Evaluating.{ready_lacks_memory, work_takes}
 use Rattle.node_core.proofs.node.Node.exec_ready.Goals as goal
 
-pub returns-in_err-work-clause-starved : goal.returns-in_err-work-clause-starved
-returns-in_err-work-clause-starved c =
+pub returns-in_err-work-clause-out_of_memory : goal.returns-in_err-work-clause-out_of_memory
+returns-in_err-work-clause-out_of_memory c =
     let member : IsMember c.args.self.now.node.state = search rules in
     let there : sub_in c.args.grant c.args.self.now.node.subs ≡ Some c.in-Some.sub.now = search rules in
     let is : IsNode c.args.self.now = rw (← c.self.view_is) c.self.invariant in
     let total : IsTotal c.args.self.now.job.program = search rules in
     let some : is_some (ready_in c.args.frame c.in-Some.sub.now.content) ≡ true = search rules in
-    λ _. ready_starves c.args.self.now.job c.args.grant c.args.frame c.args.self.now.node c.in-Some.sub.now member there total (is.fits c.args.grant c.in-Some.sub.now there) some
+    λ _. ready_lacks_memory c.args.self.now.job c.args.grant c.args.frame c.args.self.now.node c.in-Some.sub.now member there total (is.fits c.args.grant c.in-Some.sub.now there) some
 
 pub of-requires : goal.of-requires
 of-requires c =
@@ -26,11 +26,11 @@ of-requires c =
     let numbers : c.into_vec.result.items ≡ c.in-Some-2.work.numbers = search rules in
     work_takes c.args.self.now.job.program c.checked-checked.result.now c.args.grant c.args.frame c.in-Some.sub.now.content c.in-Some-2.work c.into_vec.result.items (is.fits c.args.grant c.in-Some.sub.now there) told program numbers
 
-pub returns-in_err-done-clause-starved : goal.returns-in_err-done-clause-starved
-returns-in_err-done-clause-starved c =
+pub returns-in_err-done-clause-out_of_memory : goal.returns-in_err-done-clause-out_of_memory
+returns-in_err-done-clause-out_of_memory c =
     let member : IsMember c.args.self.now.node.state = search rules in
     let there : sub_in c.args.grant c.args.self.now.node.subs ≡ Some c.in-Some.sub.now = search rules in
     let is : IsNode c.args.self.now = rw (← c.self.view_is) c.self.invariant in
     let total : IsTotal c.args.self.now.job.program = search rules in
     let some : is_some (ready_in c.args.frame c.in-Some.sub.now.content) ≡ true = search rules in
-    λ _. ready_starves c.args.self.now.job c.args.grant c.args.frame c.args.self.now.node c.in-Some.sub.now member there total (is.fits c.args.grant c.in-Some.sub.now there) some
+    λ _. ready_lacks_memory c.args.self.now.job c.args.grant c.args.frame c.args.self.now.node c.in-Some.sub.now member there total (is.fits c.args.grant c.in-Some.sub.now there) some

@@ -4,7 +4,7 @@ use Rattle.subcomputation.specs.Subs.{sub_in, without_sub}
 use Rattle.node_state.specs.Node.{NodeOf, put_confirmed}
 use Rattle.node_state.specs.declared.parts.State.TheVariants.{Leaving}
 use Rattle.node_core.specs.Cases.{confirms, is_released}
-use Rattle.node_core.specs.Choosing.{own_choice}
+use Rattle.node_core.specs.Choosing.{own_candidate}
 use Rattle.node_core.specs.Moves.{awaited, leave, leaves}
 use Rattle.node_core.proofs.Keeping.{gone, kept, same_leaving}
 use Rattle.node_core.proofs.Offering.{behind_view, confirmed, released}
@@ -21,7 +21,7 @@ returns-then-is_released c =
     let sent : c.in_ok-sent.sent ≡ leave c.args.self.now.job c.args.self.now.node.incarnation c.in-Leaving.roster c.in-Leaving.heir ∷ [] = search rules in
     let made : c.in_ok-sent.sent ≡ leave c.self.inside.job.now c.self.inside.parts.node.incarnation c.in-Leaving.roster c.in-Leaving.heir ∷ [] = rw (← c.self.view_is) at sent in
     let told : c.left_behind.result ≡ record { sent = leaves c.self.inside.job.now c.in-Leaving.roster c.in-Leaving.heir c.remove.new.self.node; fills = []; ignored = false } = c.left_behind.ensures c.in-Leaving.roster c.in-Leaving.heir (rw c.remove.ensures here) (rw c.remove.ensures made) in
-    rw (released c.args.self.now.job (own_choice c.args.self.now.posts) c.args.ack c.args.self.now.node c.in-Leaving.roster c.in-Leaving.heir at is)
+    rw (released c.args.self.now.job (own_candidate c.args.self.now.posts) c.args.ack c.args.self.now.node c.in-Leaving.roster c.in-Leaving.heir at is)
     (behind_view _ c.args.self.now c.remove.new.self (λ n. record n { subs = without_sub c.args.ack.grant n.subs }) c.in-Leaving.roster c.in-Leaving.heir c.left_behind.result c.self.view_is c.remove.ensures told)
 
 pub invariant_of-self-then-is_confirmed : goal.invariant_of-self-then-is_confirmed
@@ -39,5 +39,5 @@ returns-then-is_confirmed c =
     let sent : c.in_ok-sent.sent ≡ leave c.args.self.now.job c.args.self.now.node.incarnation c.in-Leaving.roster c.in-Leaving.heir ∷ [] = search rules in
     let made : c.in_ok-sent.sent ≡ leave c.self.inside.job.now c.self.inside.parts.node.incarnation c.in-Leaving.roster c.in-Leaving.heir ∷ [] = rw (← c.self.view_is) at sent in
     let told : c.left_behind-then-is_confirmed.result ≡ record { sent = leaves c.self.inside.job.now c.in-Leaving.roster c.in-Leaving.heir c.confirm.new.self.node; fills = []; ignored = false } = c.left_behind-then-is_confirmed.ensures c.in-Leaving.roster c.in-Leaving.heir (rw c.in_ok-confirm.ensures.ok here) (rw c.in_ok-confirm.ensures.ok made) in
-    rw (confirmed c.args.self.now.job (own_choice c.args.self.now.posts) c.args.ack c.args.self.now.node c.in-Leaving.roster c.in-Leaving.heir at not_so is)
+    rw (confirmed c.args.self.now.job (own_candidate c.args.self.now.posts) c.args.ack c.args.self.now.node c.in-Leaving.roster c.in-Leaving.heir at not_so is)
     (behind_view _ c.args.self.now c.confirm.new.self (λ n. record n { confirmed = put_confirmed (record { thief = c.args.ack.from; grant = c.args.ack.grant }) n.confirmed }) c.in-Leaving.roster c.in-Leaving.heir c.left_behind-then-is_confirmed.result c.self.view_is c.in_ok-confirm.ensures.ok told)

@@ -3,7 +3,7 @@ use Rattle.departure.specs.Offers.{accepted, offered}
 use Rattle.subcomputation.specs.Subs.{sub_in}
 use Rattle.node_state.specs.Node.{hop_in}
 use Rattle.node_core.specs.Cases.{is_above}
-use Rattle.node_core.specs.Choosing.{own_choice}
+use Rattle.node_core.specs.Choosing.{own_candidate}
 use Rattle.node_core.specs.Meeting.{MeetsBehind, comes}
 use Rattle.node_core.specs.Moves.{acknowledges}
 use Rattle.node_core.proofs.Arriving.{fits_here, offer_taken, taken_by}
@@ -32,5 +32,5 @@ returns-in-Some c =
     let absent : sub_in c.args.offer.grant c.args.self.now.node.subs ≡ None = search rules in
     let sent : c.in_ok-sent.sent ≡ acknowledges c.args.self.now.job c.args.offer c.args.self.now.node ∷ [] = search rules in
     let told : MeetsBehind (acknowledges c.args.self.now.job c.args.offer c.args.self.now.node ∷ []) (comes c.args.self.now.job has.roster c.in-Some.sub c.args.self.now.node) c.accept.result c.args.self.now c.accept.new.self = rw sent at (c.accept.ensures has.roster has.is) in
-    rw (offer_taken c.args.self.now.job (own_choice c.args.self.now.posts) c.args.offer c.args.self.now.node has.roster has.is above absent taken.fits)
+    rw (offer_taken c.args.self.now.job (own_candidate c.args.self.now.posts) c.args.offer c.args.self.now.node has.roster has.is above absent taken.fits)
     (meets_behind (acknowledges c.args.self.now.job c.args.offer c.args.self.now.node) (comes c.args.self.now.job has.roster (offered c.args.offer) c.args.self.now.node) c.accept.result c.args.self.now c.accept.new.self (rw taken.same at told))

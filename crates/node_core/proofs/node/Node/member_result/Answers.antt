@@ -5,7 +5,7 @@ use Rattle.victim_records.specs.Records.{record_in}
 use Rattle.subcomputation.specs.Subs.{host_in, sub_in}
 use Rattle.subcomputation.specs.Told.{changed_by, changed_of, changed_of_some}
 use Rattle.node_state.specs.Parts.{HasNoNewRecord}
-use Rattle.node_core.specs.Choosing.{own_choice}
+use Rattle.node_core.specs.Choosing.{own_candidate}
 use Rattle.node_core.specs.Meeting.{IsNode, MeetsBehind, changes_of}
 use Rattle.node_core.proofs.Changing.{may_change}
 use Rattle.node_core.proofs.Returning.{ack_of, meets_behind, result_known}
@@ -32,4 +32,4 @@ returns c =
     let is : Some changed ≡ changed_by sub (closed_in c.args.outcome.outcome sub.content (record_in c.args.outcome.grant sub.content.records)) = ap (changed_of_some sub) (sym c.in-Some-2.is) ∙ c.in_ok-prepared.ensures.change in
     let sent : c.in_ok-sent.sent ≡ ack_of c.args.self.now.job c.args.outcome ∷ [] = search rules in
     let behind : MeetsBehind (ack_of c.args.self.now.job c.args.outcome ∷ []) (changes_of c.args.self.now.job changed c.args.self.now.node) c.change.result c.args.self.now c.change.new.self = rw sent at (c.change.ensures sub there) in
-    rw (result_known c.args.self.now.job (own_choice c.args.self.now.posts) c.args.outcome c.args.self.now.node sub changed c.requires host is) (meets_behind (ack_of c.args.self.now.job c.args.outcome) (changes_of c.args.self.now.job changed c.args.self.now.node) c.change.result c.args.self.now c.change.new.self behind)
+    rw (result_known c.args.self.now.job (own_candidate c.args.self.now.posts) c.args.outcome c.args.self.now.node sub changed c.requires host is) (meets_behind (ack_of c.args.self.now.job c.args.outcome) (changes_of c.args.self.now.job changed c.args.self.now.node) c.change.result c.args.self.now c.change.new.self behind)

@@ -5,7 +5,7 @@ use Rattle.ids.specs.Names.{Grant}
 use Rattle.sub_rules.specs.Content.{ready_in}
 use Rattle.sub_rules.specs.Updates.{opened_in}
 use Rattle.subcomputation.specs.Subs.{sub_in}
-use Rattle.subcomputation.specs.Told.{given_of}
+use Rattle.subcomputation.specs.Told.{sub_grant_of}
 use Rattle.node_state.specs.Parts.{HasNoNewRecord}
 use Rattle.node_core.specs.Meeting.{IsNode}
 use Rattle.node_core.proofs.Returning.{fresh_after}
@@ -73,4 +73,4 @@ returns-in-Some-2 c =
     let there : sub_in c.in-Some.post.grant c.args.self.now.node.subs ≡ Some sub = search rules in
     let more : nat_lt (c.args.self.now.node.minted + 1) (2 ^ 64) ≡ true = search rules in
     let named : c.in-Some-next_grant.name ≡ record { minter = c.args.self.now.node.incarnation; number = c.args.self.now.node.minted + 1 } = search rules in
-    rw (given c.args.self.now.job c.args.steal c.args.self.now.node c.args.self.now.posts c.in-Some.post c.requires first sub c.in-Some-next_grant.name (given_of sub c.in-Some-2.opening) there more named (rw c.in-Some-2.is at c.in_ok-opening.ensures.given)) (c.give.ensures sub there)
+    rw (given c.args.self.now.job c.args.steal c.args.self.now.node c.args.self.now.posts c.in-Some.post c.requires first sub c.in-Some-next_grant.name (sub_grant_of sub c.in-Some-2.opening) there more named (rw c.in-Some-2.is at c.in_ok-opening.ensures.given)) (c.give.ensures sub there)

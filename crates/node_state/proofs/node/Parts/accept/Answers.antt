@@ -19,7 +19,7 @@ invariant_of-self-2 c =
     let posted : c.in_ok-posts.posts ≡ posted_all (ready_of c.args.grant c.args.ready.now) c.self.inside.posts = search rules in
     let kept : c.withdraw_stale.new.posts ≡ filter (λ (p : Post). is_some (ready_of_sub p.frame (sub_in p.grant c.note.new.subs))) c.in_ok-posts.posts = search rules in
     let put_now : c.note.new.subs ≡ put_some c.args.after c.args.self.now.node.subs = put ∙ ap (λ (v : PartsOf). put_some c.args.after v.node.subs) c.self.view_is in
-    let order : (s : SubOf) → sub_in c.args.grant (put_some c.args.after c.args.self.now.node.subs) ≡ Some s → AreInOrder name_of_frame s.content.frames = λ s there. c.frames_stand_in_order.ensures s (ap (sub_in c.args.grant) put_now ∙ there) in
+    let order : (s : SubOf) → sub_in c.args.grant (put_some c.args.after c.args.self.now.node.subs) ≡ Some s → AreInOrder name_of_frame s.content.frames = λ s there. c.law_frames_stand_in_order.ensures s (ap (sub_in c.args.grant) put_now ∙ there) in
     let are : AreParts c.args.self.now = rw (← c.self.view_is) c.self.invariant in
     by_view _ _ (accepted_view _ c.args.self.now c.args.grant c.args.hop c.args.ready.now c.args.after c.note.new.subs c.note.new.seen c.in_ok-posts.posts c.withdraw_stale.new.posts c.self.view_is c.requires.member put seen posted kept)
     (accepted_parts c.args.self.now.node c.args.grant c.args.hop c.args.ready.now c.args.self.now.posts are c.requires.member c.requires.absent c.args.after c.requires.comes order)

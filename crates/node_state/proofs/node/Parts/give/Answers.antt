@@ -40,10 +40,10 @@ invariant_of-self-2 c =
     let replies : c.open_and_answer.new.replies ≡ put_reply c.args.reply c.args.self.now.node.replies = c.in_ok-open_and_answer.ensures.replies ∙ ap (λ (v : PartsOf). put_reply c.args.reply v.node.replies) c.self.view_is in
     let kept : c.withdraw.new.posts ≡ filter (λ (p : Post). is_some (ready_of_sub p.frame (sub_in p.grant c.open_and_answer.new.subs))) c.self.inside.posts = search rules in
     let found : sub_in c.args.grant c.open_and_answer.new.subs ≡ Some after = ap (λ (subs : List SubOf). sub_in c.args.grant subs) put ∙ ap (λ (g : Grant). sub_in g (put_sub after c.self.inside.subs)) (sym c.requires.named) ∙ put_is_found name_of_sub after c.self.inside.subs in
-    let order : AreInOrder name_of_frame after.content.frames = c.frames_stand_in_order-2.ensures after found in
+    let order : AreInOrder name_of_frame after.content.frames = c.law_frames_stand_in_order-2.ensures after found in
     let before = c.requires.next.before in
     let held : sub_in c.args.grant c.self.inside.subs ≡ Some before = ap (λ (p : PartsOf). sub_in c.args.grant p.node.subs) c.self.view_is ∙ ap (λ (g : Grant). sub_in g c.args.self.now.node.subs) (sym c.requires.named) ∙ c.requires.next.there in
-    let order_before : AreInOrder name_of_frame before.content.frames = c.frames_stand_in_order.ensures before held in
+    let order_before : AreInOrder name_of_frame before.content.frames = c.law_frames_stand_in_order.ensures before held in
     let are : AreParts c.args.self.now = rw (← c.self.view_is) c.self.invariant in
     by_view _ _ (give_view _ c.args.self.now after (c.self.inside.minted + 1) c.open_and_answer.new.replies (put_reply c.args.reply c.args.self.now.node.replies) c.open_and_answer.new.subs c.withdraw.new.posts c.self.view_is c.requires.next.member refl replies put kept)
     (changed_parts c.args.self.now.node _ after [] c.args.self.now.posts are c.requires.next order order_before c.requires.next.member refl refl (λ h is. more_minted c.args.self.now.node h is.0 is.1) c.requires.records)

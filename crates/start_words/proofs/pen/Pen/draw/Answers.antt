@@ -1,5 +1,5 @@
 use Rattle.std.proofs.Common.{rules, ap, arith, ◌+◌}
-use Rattle.start_words.specs.Numbers.{times}
+use Rattle.start_words.specs.Numbers.{times_drawn}
 use Rattle.start_words.specs.Words.{PenOf}
 use Rattle.start_words.proofs.Counts.{found_times}
 use Rattle.start_words.proofs.Moves.{draws}
@@ -13,5 +13,5 @@ returns-clause-once c = λ has.
     let number = c.fetch_add-before.result + 1 in
     let some = found_times _ has.0 number has.1 has.2 in
     let never = c.fetch_add-before.ensures.2.2 in
-    let same = ap (λ (p : PenOf). times number p.drawn) c.self.view_is in
+    let same = ap (λ (p : PenOf). times_drawn number p.drawn) c.self.view_is in
     omega arith

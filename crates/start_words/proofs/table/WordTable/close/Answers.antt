@@ -1,6 +1,6 @@
 use Rattle.std.proofs.Common.{rules, arith, ap, ◌≡◌, [], List}
 use Rattle.std.proofs.lemmas.List.Elements.{All-pop}
-use Rattle.start_words.specs.Numbers.{times}
+use Rattle.start_words.specs.Numbers.{times_drawn}
 use Rattle.start_words.specs.Hands.{hand}
 use Rattle.start_words.specs.Words.{PenOf, drawn_by}
 use Rattle.start_words.proofs.Counts.{times-append, times-drawn_by, times_of_no_pens}
@@ -17,9 +17,9 @@ loop-pen-preserved c = record {
   own = (All-pop (λ (p : PenOf). p.table ≡ c.self.inside.table.shared.table_id) _ _ _ c.pop.ensures.items c.loop-pen.invariant.own).0;
   drawn = λ x.
       let was = c.loop-pen.invariant.drawn x in
-      let all = ap (times x) c.gather.ensures.drawn in
+      let all = ap (times_drawn x) c.gather.ensures.drawn in
       let both = times-append x c.loop-pen.all.me.0.drawn c.in-Some.pen.drawn in
-      let pens = ap (λ (l : List PenOf). times x (drawn_by l)) c.in-Some.ensures.items in
+      let pens = ap (λ (l : List PenOf). times_drawn x (drawn_by l)) c.in-Some.ensures.items in
       let one = times-drawn_by x c.pop.new.self.items c.in-Some.pen in
       omega arith;
 }

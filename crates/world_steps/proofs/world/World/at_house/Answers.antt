@@ -12,17 +12,17 @@ returns-then-not-applies-clause-step c =
     let found = c.delivered.ensures w (ap (λ v. v.net) (sym same)) in
     (house_same None w, unfit_step c.args.event seat (c.applies.ensures.no c.if-not-applies.true w (seats seat) found), refl, c.unheard.ensures)
 
-pub returns-then-is_err-clause-starved : goal.returns-then-is_err-clause-starved
-returns-then-is_err-clause-starved c =
+pub returns-then-is_err-clause-out_of_memory : goal.returns-then-is_err-clause-out_of_memory
+returns-then-is_err-clause-out_of_memory c =
     let w = c.args.self.now.world in
     let same = ap (λ v. v.world) c.self.view_is in
     let seat = shown c.self.inside.seat (ap (λ v. v.job) c.self.view_is) same c.self.invariant.seat refl refl in
     let found = c.delivered.ensures w (ap (λ v. v.net) (sym same)) in
     let fits = applies c.args.event seat (c.applies.ensures.yes c.if-not-applies.false w (seats seat) found) in
-    (_, inl (fits, refl), stopped_world c.self-2.inside.seat (ap (λ v. v.world) c.self-2.view_is ∙ c.place.ensures.same) refl c.starve.ensures)
+    (_, inl (fits, refl), stopped_world c.self-2.inside.seat (ap (λ v. v.world) c.self-2.view_is ∙ c.place.ensures.same) refl c.lack_memory.ensures)
 
-pub returns-in_err-reply-clause-starved : goal.returns-in_err-reply-clause-starved
-returns-in_err-reply-clause-starved c =
+pub returns-in_err-reply-clause-out_of_memory : goal.returns-in_err-reply-clause-out_of_memory
+returns-in_err-reply-clause-out_of_memory c =
     let w = c.args.self.now.world in
     let same = ap (λ v. v.world) c.self.view_is in
     let seat = shown c.self.inside.seat (ap (λ v. v.job) c.self.view_is) same c.self.invariant.seat refl refl in

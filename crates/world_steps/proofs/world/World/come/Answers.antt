@@ -14,4 +14,4 @@ unreachable-requires c =
 pub returns-clause-came : goal.returns-clause-came
 returns-clause-came c =
     rw (← c.self.view_is)
-    (came _ c.self.inside.nodes.items c.args.place c.from-at.result c.in-Some.node c.carry_out.new.node c.index_mut.result.now c.args.event _ c.carry_out.result c.self.invariant.many c.index.ensures.within (c.from-at.ensures ∙ c.index.ensures.same) refl c.self.invariant.nodes c.in-Some.is c.index_mut.ensures.value c.handed.ensures c.carry_out.ensures.answer c.carry_out.ensures.starved)
+    (came _ c.self.inside.nodes.items c.args.place c.from-at.result c.in-Some.node c.carry_out.new.node c.index_mut.result.now c.args.event _ c.carry_out.result c.self.invariant.many c.index.ensures.within (c.from-at.ensures ∙ c.index.ensures.same) refl c.self.invariant.nodes c.in-Some.is c.index_mut.ensures.value c.handed.ensures c.carry_out.ensures.answer c.carry_out.ensures.out_of_memory)

@@ -12,32 +12,32 @@ returns-then-not-applies-clause-step c =
     let found = c.delivered.ensures w (ap (λ v. v.net) (sym same)) in
     (house_same None w, unfit_cut c.args.cut.now seat (c.applies.ensures.no c.if-not-applies.true w (seats seat) found), refl, c.unheard.ensures)
 
-pub returns-in_default-clause-starved : goal.returns-in_default-clause-starved
-returns-in_default-clause-starved c =
+pub returns-in_default-clause-out_of_memory : goal.returns-in_default-clause-out_of_memory
+returns-in_default-clause-out_of_memory c =
     let w = c.args.self.now.world in
     let same = ap (λ v. v.world) c.self.view_is in
     let seat = shown c.self.inside.seat (ap (λ v. v.job) c.self.view_is) same c.self.invariant.seat refl refl in
     let found = c.delivered.ensures w (ap (λ v. v.net) (sym same)) in
     let fits = applies c.args.cut.now.event seat (c.applies.ensures.yes c.if-not-applies.false w (seats seat) found) in
-    (_, inl (can_be_cut seat c.can_cut.ensures, (fits, refl)), stopped_world c.self.inside.seat same refl c.starve.ensures)
+    (_, inl (can_be_cut seat c.law_can_cut.ensures, (fits, refl)), stopped_world c.self.inside.seat same refl c.lack_memory.ensures)
 
-pub returns-then-is_err-clause-starved : goal.returns-then-is_err-clause-starved
-returns-then-is_err-clause-starved c =
+pub returns-then-is_err-clause-out_of_memory : goal.returns-then-is_err-clause-out_of_memory
+returns-then-is_err-clause-out_of_memory c =
     let w = c.args.self.now.world in
     let same = ap (λ v. v.world) c.self.view_is in
     let seat = shown c.self.inside.seat (ap (λ v. v.job) c.self.view_is) same c.self.invariant.seat refl refl in
     let found = c.delivered.ensures w (ap (λ v. v.net) (sym same)) in
     let fits = applies c.args.cut.now.event seat (c.applies.ensures.yes c.if-not-applies.false w (seats seat) found) in
-    (_, inl (can_be_cut seat c.can_cut.ensures, (fits, refl)), stopped_world c.self-2.inside.seat (ap (λ v. v.world) c.self-2.view_is ∙ c.place.ensures.same) refl c.starve-then-is_err.ensures)
+    (_, inl (can_be_cut seat c.law_can_cut.ensures, (fits, refl)), stopped_world c.self-2.inside.seat (ap (λ v. v.world) c.self-2.view_is ∙ c.place.ensures.same) refl c.lack_memory-then-is_err.ensures)
 
-pub returns-in_err-reply-clause-starved : goal.returns-in_err-reply-clause-starved
-returns-in_err-reply-clause-starved c =
+pub returns-in_err-reply-clause-out_of_memory : goal.returns-in_err-reply-clause-out_of_memory
+returns-in_err-reply-clause-out_of_memory c =
     let w = c.args.self.now.world in
     let same = ap (λ v. v.world) c.self.view_is in
     let seat = shown c.self.inside.seat (ap (λ v. v.job) c.self.view_is) same c.self.invariant.seat refl refl in
     let found = c.delivered.ensures w (ap (λ v. v.net) (sym same)) in
     let fits = applies c.args.cut.now.event seat (c.applies.ensures.yes c.if-not-applies.false w (seats seat) found) in
-    err_holds c.from_residual.result (_, inl (can_be_cut seat c.can_cut.ensures, (fits, refl)), stopped_world c.self-2.inside.seat (ap (λ v. v.world) c.self-2.view_is ∙ c.place.ensures.same) refl c.in_err-reply.ensures.stopped)
+    err_holds c.from_residual.result (_, inl (can_be_cut seat c.law_can_cut.ensures, (fits, refl)), stopped_world c.self-2.inside.seat (ap (λ v. v.world) c.self-2.view_is ∙ c.place.ensures.same) refl c.in_err-reply.ensures.stopped)
 
 pub returns-clause-step : goal.returns-clause-step
 returns-clause-step c =

@@ -13,16 +13,16 @@ pub returns-in_default-clause-step : goal.returns-in_default-clause-step
 returns-in_default-clause-step c =
     (_, start_unfit c.args.self.now.job c.args.place c.args.word c.args.self.now.world (cond_none _ _ (sym c.in_default.is ∙ c.starts.ensures)), refl, refl)
 
-pub returns-in_err-place-clause-starved : goal.returns-in_err-place-clause-starved
-returns-in_err-place-clause-starved c =
+pub returns-in_err-place-clause-out_of_memory : goal.returns-in_err-place-clause-out_of_memory
+returns-in_err-place-clause-out_of_memory c =
     on_err c.from_residual.result _ (_, inl (is_true _ (cond_some _ _ _ (sym c.in-Some.is ∙ c.starts.ensures)).0, refl), c.place.ensures.same)
 
-pub returns-in_default-start-clause-starved : goal.returns-in_default-start-clause-starved
-returns-in_default-start-clause-starved c =
+pub returns-in_default-start-clause-out_of_memory : goal.returns-in_default-start-clause-out_of_memory
+returns-in_default-start-clause-out_of_memory c =
     (_, inl (is_true _ (cond_some _ _ _ (sym c.in-Some.is ∙ c.starts.ensures)).0, refl), c.place.ensures.same)
 
-pub returns-in_err-enter-clause-starved : goal.returns-in_err-enter-clause-starved
-returns-in_err-enter-clause-starved c =
+pub returns-in_err-enter-clause-out_of_memory : goal.returns-in_err-enter-clause-out_of_memory
+returns-in_err-enter-clause-out_of_memory c =
     on_err c.from_residual-in_err-enter.result _ (_, inl (is_true _ (cond_some _ _ _ (sym c.in-Some.is ∙ c.starts.ensures)).0, refl), c.in_err-enter.ensures.err ∙ c.place.ensures.same)
 
 pub returns-clause-step : goal.returns-clause-step
