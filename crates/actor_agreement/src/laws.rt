@@ -1,4 +1,4 @@
-ghost use Rattle.std.specs.Prelude.{◌≡◌, ℕ, Option, Some};
+ghost use Rattle.std.specs.Prelude.{ℕ, Option};
 ghost use Rattle.ids.specs.Names.{Grant};
 ghost use Rattle.codec.specs.Table.{PacketOf};
 ghost use Rattle.serial_meaning.specs.Job.{JobOf, IsJob};
@@ -9,7 +9,7 @@ ghost use Rattle.node_core.specs.declared.parts.Victim.{Victim};
 ghost use Rattle.clearinghouse.specs.Calls as house_calls;
 ghost use Rattle.clearinghouse.specs.Cases as house_cases;
 ghost use Rattle.clearinghouse.specs.House.{HouseOf};
-ghost use Rattle.actor_agreement.specs.Values.{AnswerIsRight, BodyIsRight, HouseAnswerIsRight, HouseStepIsRight, NextGrantIsFresh, BodyMayCome, NodeIsRight, RepliesAreRight, StepIsRight};
+ghost use Rattle.actor_agreement.specs.Values.{AnswerIsRight, HouseAnswerIsRight, HouseStepIsRight, NextGrantIsFresh, BodyMayCome, NodeIsRight, RepliesAreRight, StepIsRight};
 
 /// A node that agrees does so after each packet that agrees, of whatever kind and wherever it stands, where nothing that it holds has a
 /// record of the next grant that it mints; and after its own calls; and so does what it sends and puts into slots, and a node that
@@ -24,9 +24,11 @@ pub fn what_a_node_does_agrees()
         → IsJob job
         → NodeIsRight job n
         → AnswerIsRight job (calls.exec_ready job g f n) }
-    ensures ask { (job : JobOf) (n : NodeOf) (victim : Victim) → NodeIsRight job n → AnswerIsRight job (calls.ask job victim n) }
+    ensures ask { (job : JobOf) (n : NodeOf) (victim : Victim) → NodeIsRight job n
+        → AnswerIsRight job (calls.ask job victim n) }
     ensures resend { (job : JobOf) (n : NodeOf) → NodeIsRight job n → AnswerIsRight job (calls.resend job n) }
-    ensures depart { (job : JobOf) (n : NodeOf) (heir : ℕ) → NodeIsRight job n → AnswerIsRight job (calls.depart job heir n) }
+    ensures depart { (job : JobOf) (n : NodeOf) (heir : ℕ) → NodeIsRight job n
+        → AnswerIsRight job (calls.depart job heir n) }
     ensures start { (job : JobOf) (word : ℕ) → StepIsRight job (calls.start job word) }
 {}
 

@@ -1,7 +1,6 @@
-ghost use Rattle.std.specs.Prelude.{◌≡◌, ◌⊎◌, ℕ, List, Some, None};
+ghost use Rattle.std.specs.Prelude.{◌≡◌, ℕ, List, Some, None};
 ghost use Rattle.ids.specs.Members.{resolve};
 ghost use Rattle.ids.specs.declared.member.Member.{Member};
-ghost use Rattle.run_tables.specs.Tables.{◌∈◌};
 ghost use Rattle.run_tables.specs.View.{Dead, Roster, House, Works, View};
 ghost use Rattle.run_tables.specs.Facts.{Resolves};
 ghost use Rattle.run_tables.specs.Heirs.{AllEnd};

@@ -1,4 +1,4 @@
-ghost use Rattle.std.specs.Prelude.{◌≡◌, ℕ, ℤ, List, [], Option, Some};
+ghost use Rattle.std.specs.Prelude.{◌≡◌, ℕ, ℤ, List, [], Some};
 ghost use Rattle.ids.specs.Names.{Grant};
 ghost use Rattle.ids.specs.Naming.{name_of_frame};
 ghost use Rattle.ids.specs.Ordered.{AreInOrder};

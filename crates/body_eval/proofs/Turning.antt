@@ -37,33 +37,34 @@ leaf_reached p t numbers env body l total takes is e =
     let r = total.each t numbers takes in
     record { turn = r.turn; reached = r.reached; fits = r.fits; same = e ∙ is.each numbers r.turn r.reached }
 
+-- an end that is reached has a turn, and that is the thread's
+pub end_known : (p : Program) (t : ℕ) (numbers env : List ℤ) (l : Leaf) → Reached p t numbers env l → IsSome (leaf_turn env l)
+end_known p t numbers env l r = rw r.same refl
+
+pub end_turn : (p : Program) (t : ℕ) (numbers env : List ℤ) (l : Leaf) (turn : Turn) → Reached p t numbers env l → leaf_turn env l ≡ Some turn → turn_of p t numbers ≡ Some turn
+end_turn p t numbers env l turn r e = r.reached ∙ (sym r.same ∙ e)
+
 -- where a number is sent, it has a value, and the end sends that value
-pub sent_known : (p : Program) (t : ℕ) (numbers env : List ℤ) (l : Leaf) (c : Code) → Reached p t numbers env l → l ≡ leaf.Sends c → IsSome (code_value env c)
-sent_known p t numbers env l c r e = at_value (code_value env c) (rw e at r.same)
+pub sent_known : (env : List ℤ) (l : Leaf) (c : Code) → IsSome (leaf_turn env l) → l ≡ leaf.Sends c → IsSome (code_value env c)
+sent_known env l c there e = at_value (code_value env c) (rw e at there)
   where
-    at_value : (o : Option ℤ) → (o >>= λ (v : ℤ). Some (Sends v)) ≡ Some r.turn → IsSome o
-    at_value None h = absurd cc
+    at_value : (o : Option ℤ) → IsSome (o >>= λ (v : ℤ). Some (Sends v)) → IsSome o
+    at_value None h = h
     at_value (Some v) h = refl
 
-pub sent_turn : (p : Program) (t : ℕ) (numbers env : List ℤ) (l : Leaf) (c : Code) (v : ℤ) → Reached p t numbers env l → l ≡ leaf.Sends c → code_value env c ≡ Some v → turn_of p t numbers ≡ Some (Sends v)
-sent_turn p t numbers env l c v r e f =
-    let same : (code_value env c >>= λ (v : ℤ). Some (Sends v)) ≡ Some r.turn = rw e at r.same in
-    let sends : Some (Sends v) ≡ Some r.turn = rw f at same in
-    r.reached ∙ sym sends
+pub sent_turn : (env : List ℤ) (l : Leaf) (c : Code) (v : ℤ) → l ≡ leaf.Sends c → code_value env c ≡ Some v → leaf_turn env l ≡ Some (Sends v)
+sent_turn env l c v e f = rw (e, f) refl
 
 -- where a successor is spawned, its slots are there, and the end joins them
-pub joined_known : (p : Program) (t : ℕ) (numbers env : List ℤ) (l : Leaf) (s : ℕ) (cs : List SlotCode) → Reached p t numbers env l → l ≡ leaf.Joins s cs → IsSome (code_slots env cs)
-joined_known p t numbers env l s cs r e = at_slots (code_slots env cs) (rw e at r.same)
+pub joined_known : (env : List ℤ) (l : Leaf) (s : ℕ) (cs : List SlotCode) → IsSome (leaf_turn env l) → l ≡ leaf.Joins s cs → IsSome (code_slots env cs)
+joined_known env l s cs there e = at_slots (code_slots env cs) (rw e at there)
   where
-    at_slots : (o : Option (List Slot)) → (o >>= λ (slots : List Slot). Some (Joins s slots)) ≡ Some r.turn → IsSome o
-    at_slots None h = absurd cc
+    at_slots : (o : Option (List Slot)) → IsSome (o >>= λ (slots : List Slot). Some (Joins s slots)) → IsSome o
+    at_slots None h = h
     at_slots (Some v) h = refl
 
-pub joined_turn : (p : Program) (t : ℕ) (numbers env : List ℤ) (l : Leaf) (s : ℕ) (cs : List SlotCode) (slots : List Slot) → Reached p t numbers env l → l ≡ leaf.Joins s cs → code_slots env cs ≡ Some slots → turn_of p t numbers ≡ Some (Joins s slots)
-joined_turn p t numbers env l s cs slots r e f =
-    let same : (code_slots env cs >>= λ (slots : List Slot). Some (Joins s slots)) ≡ Some r.turn = rw e at r.same in
-    let joins : Some (Joins s slots) ≡ Some r.turn = rw f at same in
-    r.reached ∙ sym joins
+pub joined_turn : (env : List ℤ) (l : Leaf) (s : ℕ) (cs : List SlotCode) (slots : List Slot) → l ≡ leaf.Joins s cs → code_slots env cs ≡ Some slots → leaf_turn env l ≡ Some (Joins s slots)
+joined_turn env l s cs slots e f = rw (e, f) refl
 
 -- the end that is reached names threads that are there, with as many numbers as they take
 pub turn_fits : (p : Program) (t : ℕ) (numbers env : List ℤ) (l : Leaf) (turn : Turn) → Reached p t numbers env l → turn_of p t numbers ≡ Some turn → TurnFits p turn

@@ -48,7 +48,8 @@ impl Done {
         numbers: Vec<i64>,
     ) -> Result<Done, AllocError>
         requires { Takes checked.now thread (length numbers.items) }
-        ensures same { IfOk result (λ d. (d.program ≡ checked.now) × (d.thread ≡ thread) × (d.numbers ≡ numbers.items)) }
+        ensures same { IfOk result (λ d. (d.program ≡ checked.now) × (d.thread ≡ thread)
+            × (d.numbers ≡ numbers.items)) }
         ensures evaluated { IfOk result IsEvaluated }
     {
         let _program = checked.program();

@@ -5,12 +5,16 @@ use Rattle.disk.specs.Device.{Device}
 use Rattle.disk.specs.File.{CrashLeaves, bytes_of}
 use Rattle.checkpoint.specs.Calls.{DeviceCall, Stopped, after}
 use Rattle.checkpoint.specs.Commit.{IsCommit}
-use Rattle.checkpoint.specs.Store.{KeepsRecord, ReadsAsStore}
+use Rattle.checkpoint.specs.Store.{KeepsRecord, Opened, ReadsAsStore}
 use Rattle.checkpoint.specs.declared.record.CheckpointRecord.{CheckpointRecord}
 
 -- whatever a crash leaves is a store of the record before or of the next one
 abbrev pub KeepsEither : List Cell → ℕ → CheckpointRecord → CheckpointRecord → Type 0
 KeepsEither file sequence before next = (c : List ℕ) → CrashLeaves file c → ReadsAsStore c sequence before ⊎ ReadsAsStore c (sequence + 1) next
+
+-- so it is after a call on an open store: the record of before, or this one
+abbrev pub KeepsOldOr : {D : Type 0} → (D → Device) → CheckpointRecord → (old new : Opened D) → Type 0
+KeepsOldOr device next old new = KeepsEither (device new.disk).file old.sequence old.record next
 
 -- the calls of a commit on a device that keeps the record before
 pub record Moments (d : Device) (sequence : ℕ) (before next : CheckpointRecord) (calls : List DeviceCall) : Type 0 where

@@ -1,5 +1,6 @@
 -- A store as its callers see it.
 use Rattle.std.specs.Prelude.{◌≡◌, ◌≢◌, ◌≤◌, ◌-◌, ◌^◌, ℕ, Bool, false, not, List, length, take, get_or}
+use Rattle.disk.specs.Device.{Device as DeviceOf}
 use Rattle.disk.specs.declared.cells.Cell.{Cell}
 use Rattle.disk.specs.File.{CrashLeaves}
 use Rattle.checkpoint.specs.Format.{IsStore, name}
@@ -23,6 +24,10 @@ ReadsAsStore file sequence r = (second : Bool) × IsStore file second sequence r
 pub record KeepsRecord (file : List Cell) (sequence : ℕ) (r : CheckpointRecord) : Type 0 where
   pub second : Bool
   pub each : (c : List ℕ) → CrashLeaves file c → IsStore c second sequence r
+
+-- so it is of a store that is open on a disk, and its current record
+abbrev pub KeepsItself : {D : Type 0} → (D → DeviceOf) → Opened D → Type 0
+KeepsItself device s = KeepsRecord (device s.disk).file s.sequence s.record
 
 -- the sequence is spent: no record can follow
 abbrev pub IsSpent : {D : Type 0} → Opened D → Type 0

@@ -37,11 +37,13 @@ fn blank(job: u64) -> [u8; SIZE]
 
 /// Makes the store of a job that has just begun, by three device calls. Refused by the device alone, it has to be done again.
 pub fn format<D: Disk>(disk: &mut D, job: u64) -> Result<(), StoreError>
-    ensures calls { OnOk result ((file : List ℕ) × IsFormatted file job × Passed (formatting file) (D.planned disk.old) (D.device disk.old) (D.device disk.new)) }
+    ensures calls { OnOk result ((file : List ℕ) × IsFormatted file job
+        × Passed (formatting file) (D.planned disk.old) (D.device disk.old) (D.device disk.new)) }
     ensures left { OnOk result ((c : List ℕ) → CrashLeaves (D.device disk.new).file c → IsFormatted c job) }
     ensures plan { OnOk result ((i : ℕ) → D.planned disk.new i ≡ D.planned disk.old (i + 3)) }
     ensures refused { OnErr result (IsErrOf result StoreError.Device) }
-    ensures stopped { OnErr result ((file : List ℕ) × IsFormatted file job × Stopped (formatting file) (D.planned disk.old) (D.device disk.old) (D.device disk.new)) }
+    ensures stopped { OnErr result ((file : List ℕ) × IsFormatted file job
+        × Stopped (formatting file) (D.planned disk.old) (D.device disk.old) (D.device disk.new)) }
 {
     let file = blank(job);
     disk.cut(0)?;

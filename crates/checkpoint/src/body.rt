@@ -1,5 +1,5 @@
 //! What stands behind a gate: 63 bytes.
-ghost use Rattle.std.specs.Prelude.{◌≡◌, ◌+◌, ◌≤◌, ◌<◌, ◌^◌, ℕ, ℤ, Option, Some, None, IfSome, IfNone, length};
+ghost use Rattle.std.specs.Prelude.{◌≡◌, ◌+◌, ◌≤◌, ◌<◌, ℕ, Option, Some, None, IfSome, IfNone, length};
 ghost use Rattle.std.specs.List.{splice};
 ghost use Rattle.byteorder.specs.Endian.{big_bytes, big_from};
 ghost use Rattle.checkpoint.specs.Format.{IsSlotBody, SpellsSlot, tag_of, value_of};

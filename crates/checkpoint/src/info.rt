@@ -24,10 +24,14 @@ pub struct Info {
 /// What a store keeps, whatever its job is, by one read; nothing is written. Refused in this order: E72; E71 for a file that doesn't begin
 /// as a store; E73 for another version; E71 for one that is no store.
 pub fn inspect<D: Disk>(alloc: Global, disk: &mut D) -> Result<Info, StoreError>
-    ensures found { IfOk result (λ i. (n : ℕ) × (r : StoredRecord) × ReadsAsStore (bytes_of (D.device disk.old).file) n r × (i ≡ info_of r)) }
+    ensures found { IfOk result (λ i. (n : ℕ) × (r : StoredRecord)
+        × ReadsAsStore (bytes_of (D.device disk.old).file) n r × (i ≡ info_of r)) }
     ensures calls { OnOk result (Passed opening (D.planned disk.old) (D.device disk.old) (D.device disk.new)) }
-    ensures refused { IfErr result (λ e. e ≢ StoreError.Device → ((job : ℕ) → IsRefused e (bytes_of (D.device disk.old).file) job) × Passed opening (D.planned disk.old) (D.device disk.old) (D.device disk.new)) }
-    ensures stopped { IsErrOf result StoreError.Device → Stopped opening (D.planned disk.old) (D.device disk.old) (D.device disk.new) }
+    ensures refused { IfErr result (λ e. e ≢ StoreError.Device
+        → ((job : ℕ) → IsRefused e (bytes_of (D.device disk.old).file) job)
+        × Passed opening (D.planned disk.old) (D.device disk.old) (D.device disk.new)) }
+    ensures stopped { IsErrOf result StoreError.Device → Stopped opening (D.planned disk.old)
+        (D.device disk.old) (D.device disk.new) }
 {
     let bytes = match disk.read(alloc, SIZE + 1) {
         Ok(bytes) => bytes,

@@ -25,7 +25,8 @@ pub const OPEN: u8 = 0xA5;
 fn slot(bytes: &[u8]) -> Result<Option<(u64, CheckpointRecord)>, StoreError>
     requires { length bytes.now ≡ 64 }
     ensures ok { IfOk result (λ found. Holds bytes.now found) }
-    ensures err { IfErr result (λ e. (e ≡ StoreError.Damaged) × IsOpen bytes.now × ((n : ℕ) (r : StoredRecord) → ¬ SpellsSlot (body bytes.now) n r)) }
+    ensures err { IfErr result (λ e. (e ≡ StoreError.Damaged) × IsOpen bytes.now
+        × ((n : ℕ) (r : StoredRecord) → ¬ SpellsSlot (body bytes.now) n r)) }
 {
     if bytes[0] != OPEN {
         return Ok(None);
@@ -51,7 +52,8 @@ fn newest(
     second: Option<(u64, CheckpointRecord)>,
 ) -> Option<Found>
     ensures some { IfSome result (λ f. IsNewest first second f.second f.sequence f.record f.gate) }
-    ensures none { IfNone result ((place gate : Bool) (n : ℕ) (r : StoredRecord) → ¬ IsNewest first second place n r gate) }
+    ensures none { IfNone result ((place gate : Bool) (n : ℕ) (r : StoredRecord)
+        → ¬ IsNewest first second place n r gate) }
 {
     match (first, second) {
         (Some((sequence, record)), None) => Some(Found {

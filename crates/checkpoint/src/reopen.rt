@@ -3,7 +3,7 @@ ghost use Rattle.disk.specs.Crash.{Only};
 ghost use Rattle.disk.specs.Device.{Unarmed};
 ghost use Rattle.disk.specs.File.{CrashLeaves, bytes_of};
 ghost use Rattle.checkpoint.specs.Commit.{next_of};
-ghost use Rattle.checkpoint.specs.Store.{KeepsRecord};
+ghost use Rattle.checkpoint.specs.Store.{KeepsItself};
 
 use crate::{LastEpoch, Store, StoreError};
 use disk::Disk;
@@ -19,16 +19,18 @@ pub fn commit_and_reopen<D: Disk>(
     epoch: LastEpoch,
     outcome: Option<Outcome>,
 ) -> (Result<(), StoreError>, Result<Store<D>, (StoreError, D)>)
-    ensures found { KeepsRecord (D.device store.disk).file store.sequence store.record →
+    ensures found { KeepsItself D.device store →
         IfOk result.1 (λ s. (s.record ≡ store.record) ⊎ (s.record ≡ next_of store.record epoch outcome)) }
-    ensures committed { KeepsRecord (D.device store.disk).file store.sequence store.record → IsOk result.0 →
+    ensures committed { KeepsItself D.device store → IsOk result.0 →
         IfOk result.1 (λ s. s.record ≡ next_of store.record epoch outcome) }
-    ensures kept { KeepsRecord (D.device store.disk).file store.sequence store.record → IsTrue (D.device store.disk).can_cut →
-        IfOk result.1 (λ s. KeepsRecord (D.device s.disk).file s.sequence s.record) }
+    ensures kept { KeepsItself D.device store → IsTrue (D.device store.disk).can_cut
+        → IfOk result.1 (KeepsItself D.device) }
     ensures crashed { IsTrue (D.device store.disk).can_cut →
-        IfOk result.1 (λ s. ((D.device s.disk).arming ≡ Unarmed) × Only (bytes_of (D.device s.disk).file) (CrashLeaves (D.device s.disk).file)) }
-    ensures crashed_back { IsTrue (D.device store.disk).can_cut → IfErr result.1 (λ e. (D.device e.1).arming ≡ Unarmed) }
-    ensures refused { KeepsRecord (D.device store.disk).file store.sequence store.record → IfErr result.1 (λ e. e.0 ≡ StoreError.Device) }
+        IfOk result.1 (λ s. ((D.device s.disk).arming ≡ Unarmed)
+        × Only (bytes_of (D.device s.disk).file) (CrashLeaves (D.device s.disk).file)) }
+    ensures crashed_back { IsTrue (D.device store.disk).can_cut
+        → IfErr result.1 (λ e. (D.device e.1).arming ≡ Unarmed) }
+    ensures refused { KeepsItself D.device store → IfErr result.1 (λ e. e.0 ≡ StoreError.Device) }
 {
     let mut store = store;
     let job = store.record().job;

@@ -3,8 +3,8 @@ ghost use Rattle.disk.specs.Device.{armed};
 ghost use Rattle.disk.specs.File.{bytes_of};
 ghost use Rattle.checkpoint.specs.Calls.{DeviceCall, Passed, Stopped};
 ghost use Rattle.checkpoint.specs.Commit.{IsCommit, next_of, opening};
-ghost use Rattle.checkpoint.specs.Moments.{KeepsEither};
-ghost use Rattle.checkpoint.specs.Store.{IsRefused, IsSpent, KeepsRecord, ReadsAsStore};
+ghost use Rattle.checkpoint.specs.Moments.{KeepsOldOr};
+ghost use Rattle.checkpoint.specs.Store.{IsRefused, IsSpent, KeepsRecord, ReadsAsStore, KeepsItself};
 ghost use Rattle.checkpoint.specs.declared.record.CheckpointRecord.{CheckpointRecord as StoredRecord};
 
 use crate::body::spell;
@@ -33,7 +33,7 @@ pub struct Store<D: Disk> {
 impl<D: Disk> Model for Store<D> {
     ghost use Rattle.std.specs.Prelude.{◌≡◌, false};
     ghost use Rattle.disk.specs.File.{bytes_of};
-    ghost use Rattle.checkpoint.specs.Store.{IsHeld, Opened};
+    ghost use Rattle.checkpoint.specs.Store.{IsHeld, Opened, KeepsItself};
 
     ghost Value = { Opened D };
 
@@ -53,17 +53,24 @@ impl<D: Disk> Store<D> {
     /// Opens the store of a job, by one read. Refused, it gives the disk back, in this order: E72; E71 for a file that doesn't
     /// begin as a store; E73 for another version; E71 for one that is no store; E70 for another job.
     pub fn open(alloc: Global, disk: D, job: u64) -> Result<Store<D>, (StoreError, D)>
-        ensures opened { IfOk result (λ s. (s.ended ≡ false) × ReadsAsStore (bytes_of (D.device s.disk).file) s.sequence s.record × (s.record.job ≡ job)) }
+        ensures opened { IfOk result (λ s. (s.ended ≡ false)
+            × ReadsAsStore (bytes_of (D.device s.disk).file) s.sequence s.record × (s.record.job ≡ job)) }
         ensures calls { IfOk result (λ s. Passed opening (D.planned disk) (D.device disk) (D.device s.disk)) }
         ensures plan { IfOk result (λ s. (i : ℕ) → D.planned s.disk i ≡ D.planned disk (i + length opening)) }
 
         // Where whatever a crash leaves has one current record, that is the store's, and it stays so.
-        ensures kept { IfOk result (λ s. (n : ℕ) (r : StoredRecord) → KeepsRecord (D.device disk).file n r → KeepsRecord (D.device s.disk).file s.sequence s.record × (s.record ≡ r)) }
-        ensures kept_back { IfErr result (λ e. (n : ℕ) (r : StoredRecord) → KeepsRecord (D.device disk).file n r → KeepsRecord (D.device e.1).file n r) }
+        ensures kept { IfOk result (λ s. (n : ℕ) (r : StoredRecord) → KeepsRecord (D.device disk).file n r
+            → KeepsItself D.device s × (s.record ≡ r)) }
+        ensures kept_back { IfErr result (λ e. (n : ℕ) (r : StoredRecord) → KeepsRecord (D.device disk).file n r
+            → KeepsRecord (D.device e.1).file n r) }
         ensures plan_back { IfErr result (λ e. (i : ℕ) → D.planned e.1 i ≡ D.planned disk (i + length opening)) }
-        ensures alone { IfErr result (λ e. (n : ℕ) (r : StoredRecord) → ReadsAsStore (bytes_of (D.device disk).file) n r → r.job ≡ job → e.0 ≡ StoreError.Device) }
-        ensures refused { IfErr result (λ e. e.0 ≢ StoreError.Device → IsRefused e.0 (bytes_of (D.device disk).file) job × Passed opening (D.planned disk) (D.device disk) (D.device e.1)) }
-        ensures stopped { IfErr result (λ e. e.0 ≡ StoreError.Device → Stopped opening (D.planned disk) (D.device disk) (D.device e.1)) }
+        ensures alone { IfErr result (λ e. (n : ℕ) (r : StoredRecord)
+            → ReadsAsStore (bytes_of (D.device disk).file) n r → r.job ≡ job → e.0 ≡ StoreError.Device) }
+        ensures refused { IfErr result (λ e. e.0 ≢ StoreError.Device
+            → IsRefused e.0 (bytes_of (D.device disk).file) job
+            × Passed opening (D.planned disk) (D.device disk) (D.device e.1)) }
+        ensures stopped { IfErr result (λ e. e.0 ≡ StoreError.Device
+            → Stopped opening (D.planned disk) (D.device disk) (D.device e.1)) }
     {
         let mut disk = disk;
         let bytes = match disk.read(alloc, SIZE + 1) {
@@ -87,7 +94,13 @@ impl<D: Disk> Store<D> {
     /// Commits a record of the job, by six device calls. E72 where one of them fails, which ends the store, and in a store that
     /// has ended; E62 where the sequence is spent.
     pub fn commit(&mut self, epoch: LastEpoch, outcome: Option<Outcome>) -> Result<(), StoreError>
-        ensures ok { OnOk result (let next = next_of self.old.record epoch outcome in self.new ≡ record { disk = self.new.disk; «record» = next; sequence = self.old.sequence + 1; ended = false }) }
+        ensures ok { OnOk result (let next = next_of self.old.record epoch outcome in
+            self.new ≡ record {
+              disk = self.new.disk;
+              «record» = next;
+              sequence = self.old.sequence + 1;
+              ended = false;
+            }) }
         ensures calls { OnOk result (let next = next_of self.old.record epoch outcome in (calls : List DeviceCall)
             × IsCommit (bytes_of (D.device self.old.disk).file) self.old.sequence self.old.record next calls
             × Passed calls (D.planned self.old.disk) (D.device self.old.disk) (D.device self.new.disk)) }
@@ -96,16 +109,20 @@ impl<D: Disk> Store<D> {
         ensures spent { IsErrOf result StoreError.Spent ↔ IsSpent self.old }
         ensures unchanged { IsErrOf result StoreError.Spent → self.new ≡ self.old }
         ensures ended { self.old.ended ≡ true → IsErrOf result StoreError.Device × (self.new ≡ self.old) }
-        ensures ends { IsErrOf result StoreError.Device → self.new ≡ record self.old { disk = self.new.disk; ended = true } }
+        ensures ends { IsErrOf result StoreError.Device → self.new ≡ record self.old {
+          disk = self.new.disk;
+          ended = true;
+        } }
         ensures can_cut { (D.device self.new.disk).can_cut ≡ (D.device self.old.disk).can_cut }
-        ensures stopped { IsErrOf result StoreError.Device → self.old.ended ≡ false → (let next = next_of self.old.record epoch outcome in (calls : List DeviceCall)
+        ensures stopped { IsErrOf result StoreError.Device → self.old.ended ≡ false
+            → (let next = next_of self.old.record epoch outcome in (calls : List DeviceCall)
             × IsCommit (bytes_of (D.device self.old.disk).file) self.old.sequence self.old.record next calls
             × Stopped calls (D.planned self.old.disk) (D.device self.old.disk) (D.device self.new.disk)) }
 
         // Where whatever a crash leaves has the current record: then it has the new one, or at any moment that one or the new one.
-        ensures kept { KeepsRecord (D.device self.old.disk).file self.old.sequence self.old.record → OnOk result (KeepsRecord (D.device self.new.disk).file self.new.sequence self.new.record) }
-        ensures either { KeepsRecord (D.device self.old.disk).file self.old.sequence self.old.record
-            → KeepsEither (D.device self.new.disk).file self.old.sequence self.old.record (next_of self.old.record epoch outcome) }
+        ensures kept { KeepsItself D.device self.old → OnOk result (KeepsItself D.device self.new) }
+        ensures either { KeepsItself D.device self.old
+            → KeepsOldOr D.device (next_of self.old.record epoch outcome) self.old self.new }
     {
         if self.ended {
             return Err(StoreError::Device);
@@ -137,7 +154,8 @@ impl<D: Disk> Store<D> {
     /// The current record. Up to the end of the store it is what a read gives.
     pub fn record(&self) -> CheckpointRecord
         ensures same { result ≡ self.now.record }
-        ensures reads { self.now.ended ≡ false → ReadsAsStore (bytes_of (D.device self.now.disk).file) self.now.sequence self.now.record }
+        ensures reads { self.now.ended ≡ false → ReadsAsStore (bytes_of (D.device self.now.disk).file)
+            self.now.sequence self.now.record }
     {
         self.current
     }
@@ -152,7 +170,8 @@ impl<D: Disk> Store<D> {
     /// Arms the disk.
     pub fn arm(&mut self, calls: u64, bytes: Vec<u8>)
         ensures disk { self.new ≡ record self.old { disk = self.new.disk } }
-        ensures armed { IsTrue (D.device self.old.disk).can_cut → D.device self.new.disk ≡ armed (D.device self.old.disk) calls bytes.items }
+        ensures armed { IsTrue (D.device self.old.disk).can_cut
+            → D.device self.new.disk ≡ armed (D.device self.old.disk) calls bytes.items }
         ensures unmoved { (D.device self.old.disk).can_cut ≡ false → self.new ≡ self.old }
     {
         self.disk.arm(calls, bytes);

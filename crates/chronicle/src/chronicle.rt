@@ -51,6 +51,21 @@ pub struct Arrived {
     pub bytes: Vec<u8>,
 }
 
+/// What is told of an event that was committed, and a ready frame that was found right behind it, in the same turn of the lock.
+#[derive(Drop)]
+pub struct Continued {
+    pub committed: Committed,
+    pub next: Option<Work>,
+}
+
+/// Where a ready frame is looked for: at the node of a place, besides these frames.
+#[derive(Clone, Copy)]
+struct Wanted<'f> {
+    alloc: Global,
+    place: NodePlace,
+    besides: &'f [FrameOf],
+}
+
 /// A world under a lock, with the history that led to it. Threads share it by reference, each with the seats of its actors. Contracts see
 /// which chronicle it is, how many actors have a seat, and the job.
 #[derive(Drop)]
@@ -112,56 +127,80 @@ impl<'a> Chronicle<'a> {
         requires owns { actor_number event ≡ seat.old.actor }
         ensures same { IsSeatIn self.now seat.new × (seat.new.actor ≡ seat.old.actor) }
         ensures entry { IfOk result (λ c. seat.new.entries ≡ seat.old.entries ++ entry event c.told ∷ []) }
-        ensures step { IfOk result (λ c. (w : WorldOf) × (o : StepResult) × StepOf self.now.job event w o × (c.told ≡ told_of o.answer)) }
-        ensures outcome { IfOk result (λ c. (o : Outcome) → outcome_told c.told ≡ Some o → o ≡ meaning_of self.now.job) }
+        ensures step { IfOk result (λ c. (w : WorldOf) × (o : StepResult) × StepOf self.now.job event w o
+            × (c.told ≡ told_of o.answer)) }
+        ensures outcome { IfOk result (λ c. (o : Outcome) → outcome_told c.told ≡ Some o
+            → o ≡ meaning_of self.now.job) }
         ensures err { OnErr result (seat.new ≡ seat.old) }
     {
-        self.enter(rt, seat, event, None)
+        let continued = self.enter(rt, seat, event, None, None)?;
+        Ok(continued.committed)
     }
 
     /// As `commit`, with a turn of the job's program that was evaluated before. An Exec uses it where it is the ready frame's own, of
-    /// its thread on its numbers; else it is put aside, and the frame's body is evaluated in the step.
+    /// its thread on its numbers; else it is put aside, and the frame's body is evaluated in the step. Right behind it, in the same turn
+    /// of the lock, a ready frame is looked for as by `ready`.
     pub fn commit_turn<R: Wait>(
         &self,
         rt: &R,
+        alloc: Global,
         seat: &mut ActorSeat<'a>,
         event: Event,
         turn: &Done,
-    ) -> Result<Committed, NoMemory>
+        place: NodePlace,
+        besides: &[FrameOf],
+    ) -> Result<Continued, NoMemory>
         requires seat { IsSeatIn self.now seat.old }
         requires owns { actor_number event ≡ seat.old.actor }
         requires turn { turn.now.program ≡ self.now.job.program }
         ensures same { IsSeatIn self.now seat.new × (seat.new.actor ≡ seat.old.actor) }
-        ensures entry { IfOk result (λ c. seat.new.entries ≡ seat.old.entries ++ entry event c.told ∷ []) }
-        ensures step { IfOk result (λ c. (w : WorldOf) × (o : StepResult) × StepOf self.now.job event w o × (c.told ≡ told_of o.answer)) }
-        ensures outcome { IfOk result (λ c. (o : Outcome) → outcome_told c.told ≡ Some o → o ≡ meaning_of self.now.job) }
+        ensures entry { IfOk result (λ c. seat.new.entries ≡ seat.old.entries ++ entry event c.committed.told ∷ []) }
+        ensures step { IfOk result (λ c. (w : WorldOf) × (o : StepResult) × StepOf self.now.job event w o
+            × (c.committed.told ≡ told_of o.answer)) }
+        ensures outcome { IfOk result (λ c. (o : Outcome) → outcome_told c.committed.told ≡ Some o
+            → o ≡ meaning_of self.now.job) }
+        ensures fits { IfOk result (λ c. IfSome c.next (λ w. Takes self.now.job.program w.thread (length w.numbers))) }
         ensures err { OnErr result (seat.new ≡ seat.old) }
     {
-        self.enter(rt, seat, event, Some(turn))
+        let wanted = Wanted {
+            alloc,
+            place,
+            besides,
+        };
+        self.enter(rt, seat, event, Some(turn), Some(&wanted))
     }
 
-    // An event is carried out under the lock, with the turn that is at hand, if one is.
+    // An event is carried out under the lock, with the turn that is at hand, if one is, and then a ready frame is looked for, if one is wanted.
     fn enter<R: Wait>(
         &self,
         rt: &R,
         seat: &mut ActorSeat<'a>,
         event: Event,
         turn: Option<&Done>,
-    ) -> Result<Committed, NoMemory>
+        wanted: Option<&Wanted<'_>>,
+    ) -> Result<Continued, NoMemory>
         requires seat { IsSeatIn self.now seat.old }
         requires owns { actor_number event ≡ seat.old.actor }
         requires turn { IsOfJob self.now.job (option_copied turn) }
         ensures same { IsSeatIn self.now seat.new × (seat.new.actor ≡ seat.old.actor) }
-        ensures entry { IfOk result (λ c. seat.new.entries ≡ seat.old.entries ++ entry event c.told ∷ []) }
-        ensures step { IfOk result (λ c. (w : WorldOf) × (o : StepResult) × StepOf self.now.job event w o × (c.told ≡ told_of o.answer)) }
-        ensures outcome { IfOk result (λ c. (o : Outcome) → outcome_told c.told ≡ Some o → o ≡ meaning_of self.now.job) }
+        ensures entry { IfOk result (λ c. seat.new.entries ≡ seat.old.entries ++ entry event c.committed.told ∷ []) }
+        ensures step { IfOk result (λ c. (w : WorldOf) × (o : StepResult) × StepOf self.now.job event w o
+            × (c.committed.told ≡ told_of o.answer)) }
+        ensures outcome { IfOk result (λ c. (o : Outcome) → outcome_told c.committed.told ≡ Some o
+            → o ≡ meaning_of self.now.job) }
+        ensures fits { IfOk result (λ c. IfSome c.next (λ w. Takes self.now.job.program w.thread (length w.numbers))) }
         ensures err { OnErr result (seat.new ≡ seat.old) }
     {
         let mut kept = self.lock.take(rt, &mut seat.seat);
         let answer = kept.enter(seat, event, turn);
+        let next = match wanted {
+            Some(wanted) => wanted.work_in(self.job, &kept),
+            None => None,
+        };
         self.sent.store(kept.world().packets() as u64, SeqCst);
         self.lock.put(&mut seat.seat, kept);
-        answer
+        let committed = answer?;
+        Ok(Continued { committed, next })
     }
 
     /// The first ready frame of the node of a place that isn't among these, from the deepest level on and in a level the newest first;
@@ -179,8 +218,13 @@ impl<'a> Chronicle<'a> {
         ensures same { seat.new ≡ seat.old }
         ensures fits { IfSome result (λ w. Takes self.now.job.program w.thread (length w.numbers)) }
     {
+        let wanted = Wanted {
+            alloc,
+            place,
+            besides,
+        };
         let kept = self.lock.take(rt, &mut seat.seat);
-        let work = work_in(alloc, self.job, &kept, place, besides);
+        let work = wanted.work_in(self.job, &kept);
         self.lock.put(&mut seat.seat, kept);
         work
     }
@@ -263,24 +307,20 @@ fn by_place<'a>(
     Ok(seats)
 }
 
-/// The first ready frame of the node of a place that isn't among these, whose thread takes its numbers.
-fn work_in(
-    alloc: Global,
-    job: &Job,
-    kept: &Kept,
-    place: NodePlace,
-    besides: &[FrameOf],
-) -> Option<Work>
-    ensures { IfSome result (λ w. Takes job.now.program w.thread (length w.numbers)) }
-{
-    let world = kept.world();
-    for index in 0..=besides.len() {
-        let work = world.ready(alloc, place, index).ok().flatten()?;
-        if !is_among(besides, frame_of(&work)) {
-            return own_work(job, work);
+impl Wanted<'_> {
+    /// The first ready frame that is wanted, if its thread takes its numbers.
+    fn work_in(&self, job: &Job, kept: &Kept) -> Option<Work>
+        ensures { IfSome result (λ w. Takes job.now.program w.thread (length w.numbers)) }
+    {
+        let world = kept.world();
+        for index in 0..=self.besides.len() {
+            let work = world.ready(self.alloc, self.place, index).ok().flatten()?;
+            if !is_among(self.besides, frame_of(&work)) {
+                return own_work(job, work);
+            }
         }
+        None
     }
-    None
 }
 
 /// A ready frame, if its thread takes its numbers.

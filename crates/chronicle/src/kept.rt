@@ -1,5 +1,4 @@
-ghost use Rattle.std.specs.Prelude.{◌≡◌, ◌++◌, ◌⊎◌, [], ◌∷◌, true, false, IfOk, IsErr, OnErr, Some};
-ghost use Rattle.std.specs.Prelude.{option_copied};
+ghost use Rattle.std.specs.Prelude.{◌≡◌, ◌++◌, ◌⊎◌, [], ◌∷◌, true, false, IfOk, IsErr, OnErr, Some, option_copied};
 ghost use Rattle.disk.specs.Device.{Device};
 ghost use Rattle.ids.specs.declared.outcome.Outcome.{Outcome as OutcomeOf};
 ghost use Rattle.serial_meaning.specs.Job.{meaning_of};
@@ -133,11 +132,15 @@ impl<'a> Kept<'a> {
         ensures seat { seat.new ≡ seat.old }
         ensures own { own actor_of seat.old.actor self.old.entries ≡ seat.old.entries }
         ensures job { self.new.on.job ≡ self.old.on.job }
-        ensures step { IfOk result (λ c. (o : StepResult) × StepOf self.old.on.job event self.old.on.world o × (self.new.on.world ≡ o.world) × (c.told ≡ told_of o.answer)) }
+        ensures step { IfOk result (λ c. (o : StepResult) × StepOf self.old.on.job event self.old.on.world o
+            × (self.new.on.world ≡ o.world) × (c.told ≡ told_of o.answer)) }
         ensures history { IfOk result (λ c. self.new.entries ≡ self.old.entries ++ entry event c.told ∷ []) }
-        ensures outcome { IfOk result (λ c. (o : OutcomeOf) → outcome_told c.told ≡ Some o → o ≡ meaning_of self.old.on.job) }
+        ensures outcome { IfOk result (λ c. (o : OutcomeOf) → outcome_told c.told ≡ Some o
+            → o ≡ meaning_of self.old.on.job) }
         ensures out_of_memory { OnErr result ((self.new.entries ≡ self.old.entries) × (self.new.out_of_memory ≡ true)) }
-        ensures left { OnErr result ((self.new.on.world ≡ self.old.on.world) ⊎ ((o : StepResult) × IsOutOfMemory event self.old.on self.new.on.is_placed o × (self.new.on.world ≡ o.world))) }
+        ensures left { OnErr result ((self.new.on.world ≡ self.old.on.world)
+            ⊎ ((o : StepResult) × IsOutOfMemory event self.old.on self.new.on.is_placed o
+            × (self.new.on.world ≡ o.world))) }
         ensures after { self.old.out_of_memory ≡ true → IsErr result × (self.new ≡ self.old) }
     {
         let _ = seat.actor();

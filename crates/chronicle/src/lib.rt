@@ -16,17 +16,18 @@
 //! one, or on E9 nothing of the seat changes. An outcome that is told is the job's meaning. The trace of `finish` has of each actor just
 //! the entries of its seat, in their order, and no others; it is the history of a run, of which all is promised that `safe_runs`
 //! promises: no slot is filled twice, each value is the serial program's, no grant has two live holders, an outcome stays. The script
-//! of a trace is read again as just its events, so that whoever has it can replay the run. What `ready` hands out fits the program, so
-//! that its turn can be evaluated with no further test.
+//! of a trace is read again as just its events, so that whoever has it can replay the run. What `ready` and `commit_turn` hand out fits
+//! the program, so that its turn can be evaluated with no further test.
 //!
 //! A chronicle may be shared by threads, and a seat may go to another one (`proofs/Crossing`).
 //!
-//! **Shown by runs alone**: that `new` and a commit succeed while there is memory, and that `ready` and `packet_for` find what is there.
+//! **Shown by runs alone**: that `new` and a commit succeed while there is memory, and that `ready`, `commit_turn` and `packet_for`
+//! find what is there.
 //!
 //! **Not promised**: that a commit ever gets its turn, and in which order actors do, beyond each actor's own; of `ready`, `packet_for`
-//! and `sent`, which are hints, that they tell what the world has, by the time that somebody acts on it. That a commit's step is one from
-//! the world that it found under the lock is said by `Kept::enter`, and of the trace as a whole; the clause of `commit` itself can't
-//! name what a lock held.
+//! and `sent`, and of a frame that `commit_turn` hands out, which are hints, that they tell what the world has, by the time that
+//! somebody acts on it. That a commit's step is one from the world that it found under the lock is said by `Kept::enter`, and of the
+//! trace as a whole; the clause of `commit` itself can't name what a lock held.
 #![tactic(auto)]
 
 mod chronicle;
@@ -34,7 +35,7 @@ mod kept;
 mod seat;
 mod trace;
 
-pub use chronicle::{Arrived, Chronicle, Receiver, frame_of, takes_its_numbers};
+pub use chronicle::{Arrived, Chronicle, Continued, Receiver, frame_of, takes_its_numbers};
 pub use kept::{Committed, Entry, Kept};
 pub use seat::ActorSeat;
 pub use trace::Trace;

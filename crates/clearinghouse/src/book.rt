@@ -1,9 +1,9 @@
 //! What an open clearinghouse holds but for its disk, and how it changes.
-ghost use Rattle.std.specs.Prelude.{◌≡◌, ℕ, Option, ◌+◌, ◌<◌, ◌^◌, Some, None, IfOk, IfSome, OnOk, IsTrue, map, length, true, false};
+ghost use Rattle.std.specs.Prelude.{◌≡◌, ℕ, Option, ◌+◌, ◌<◌, Some, None, IfOk, IfSome, OnOk, IsTrue, map, true, false};
 ghost use Rattle.std.specs.List.{list_any};
 ghost use Rattle.ids.specs.Members as members;
 ghost use Rattle.ids.specs.Names.{is_worker};
-ghost use Rattle.clearinghouse.specs.House.{Kept, opened, name_of, members_of, roster_of, is_root};
+ghost use Rattle.clearinghouse.specs.House.{opened, name_of, members_of, roster_of, is_root};
 ghost use Rattle.clearinghouse.specs.Laws.{IsHouse, IsListing};
 ghost use Rattle.clearinghouse.specs.Moves as moves;
 ghost use Rattle.clearinghouse.specs.Links.{bearer_at};
@@ -218,7 +218,8 @@ impl Book {
     /// Where a worker's work is.
     fn link(&self, word: u64) -> Link
         requires { IsTrue (is_worker word) }
-        ensures bearer { (on : ℕ → Option ℕ) → members.bearer on word (members.status_in word (members_of self.now)) ≡ bearer_at on word result }
+        ensures bearer { (on : ℕ → Option ℕ) → members.bearer on word
+            (members.status_in word (members_of self.now)) ≡ bearer_at on word result }
         ensures worker { (heir : ℕ) → result ≡ link.At heir → IsTrue (is_worker heir) }
     {
         let Some(status) = self.status_at(word) else {
@@ -319,7 +320,8 @@ impl Book {
     /// Those that were silent for too long at a moment are dead.
     pub fn declare_dead(&mut self, now: u64)
         requires { IsHouse self.old }
-        ensures { self.new ≡ moves.with_workers (map (moves.declared_dead self.old.limit now) self.old.workers) self.old }
+        ensures { self.new ≡ moves.with_workers (map (moves.declared_dead self.old.limit now) self.old.workers)
+            self.old }
     {
         let version = self.next_version();
         let declare_dead = DeclareDead {

@@ -3,7 +3,7 @@ ghost use Rattle.std.specs.Prelude.{◌≡◌, ◌+◌, ◌<◌, ◌≤◌, ◌^
 ghost use Rattle.ids.specs.Members.{is_live, status_in};
 ghost use Rattle.ids.specs.Names.{house_of};
 ghost use Rattle.ids.specs.declared.work.Task.{Task as TaskOf};
-ghost use Rattle.codec.specs.Table.{is_packet, is_short};
+ghost use Rattle.codec.specs.Table.{is_short};
 ghost use Rattle.codec.specs.declared.body.Body.TheVariants as body;
 ghost use Rattle.steal_protocol.specs.Replies.{put_reply};
 ghost use Rattle.clearinghouse.specs.Calls.{passes};
@@ -142,7 +142,8 @@ impl Book {
     /// A request that is newer than the thief's last one: the root task is granted while it isn't and there is no outcome, and
     /// else it is refused.
     fn serve(&mut self, alloc: Global, job: &Job, steal: Steal) -> Result<Act, HouseError>
-        ensures { Acts (cases.served job.now steal (cases.free_task job.now self.old) self.old) result self.old self.new }
+        ensures { Acts (cases.served job.now steal (cases.free_task job.now self.old) self.old)
+            result self.old self.new }
     {
         if self.root.is_some() || self.outcome.is_some() {
             let refuse = Packet::refuse(job.number(), steal.from, Refuse { seq: steal.seq });
@@ -165,7 +166,8 @@ impl Book {
         grant: GrantId,
     ) -> Result<Act, HouseError>
         requires { grant ≡ record { minter = house_of self.old.epoch; number = self.old.minted + 1 } }
-        ensures { (task : TaskOf) → moves.root_task job.now ≡ Some task → Acts (Does (moves.grants job.now steal task self.old)) result self.old self.new }
+        ensures { (task : TaskOf) → moves.root_task job.now ≡ Some task
+            → Acts (Does (moves.grants job.now steal task self.old)) result self.old self.new }
     {
         let given = Grant {
             seq: steal.seq,
@@ -189,7 +191,10 @@ impl Book {
     ) -> Result<Listed<Datagram>, AllocError>
         requires { IsTrue (is_short packet.body) }
         ensures sent { IfOk result (λ sent. sent ≡ packet ∷ []) }
-        ensures kept { OnOk result (self.new ≡ record self.old { replies = put_reply (record { thief = steal.from; seq = steal.seq; packet = packet }) self.old.replies }) }
+        ensures kept { OnOk result (self.new ≡ record self.old {
+          replies = put_reply
+              (record { thief = steal.from; seq = steal.seq; packet = packet }) self.old.replies;
+        }) }
     {
         let sent = alone(alloc, &packet)?;
         self.replies.keep(Reply {

@@ -6,12 +6,10 @@ ghost use Rattle.checkpoint.specs.Commit.{next_of};
 ghost use Rattle.checkpoint.specs.Moments.{KeepsEither};
 ghost use Rattle.checkpoint.specs.Store.{KeepsRecord, ReadsAsStore};
 ghost use Rattle.checkpoint.specs.declared.record.CheckpointRecord.{CheckpointRecord as Stored};
-ghost use Rattle.ids.specs.declared.outcome.Outcome.{Outcome as OutcomeOf};
 ghost use Rattle.clearinghouse.specs.Calls as calls;
 ghost use Rattle.clearinghouse.specs.Errors.{error_of_stop};
-ghost use Rattle.clearinghouse.specs.House.{HouseOf, Open, Stopped};
-ghost use Rattle.clearinghouse.specs.Meeting.{Committed, Halted, IsOpened, IsRefusedOver, HouseMeets, record_of};
-ghost use Rattle.clearinghouse.specs.Steps.{Does};
+ghost use Rattle.clearinghouse.specs.House.{Stopped};
+ghost use Rattle.clearinghouse.specs.Meeting.{Committed, Halted, IsOpened, IsRefusedOver, HouseMeets};
 ghost use Rattle.clearinghouse.specs.declared.parts.Stop.{Stop as StopOf};
 
 use crate::book::Book;
@@ -82,13 +80,17 @@ impl<'a, D: Disk> House<'a, D> {
         job: &'a Job,
         limit: u64,
     ) -> Result<House<'a, D>, (HouseError, D)>
-        ensures opened { IfOk result (λ h. (n : ℕ) × (r : Stored) × IsOpened D.device D.planned job.now limit disk n r h) }
+        ensures opened { IfOk result (λ h. (n : ℕ) × (r : Stored)
+            × IsOpened D.device D.planned job.now limit disk n r h) }
         ensures refused { IfErr result (λ e. IsRefusedOver D.device D.planned e.0 job.now disk e.1) }
 
         // Where a store of this job is read, it is opened, or the device failed, or no epoch or commit is left.
-        ensures alone { IfErr result (λ e. (n : ℕ) (r : Stored) → ReadsAsStore (bytes_of (D.device disk).file) n r → r.job ≡ job.now.number → (e.0 ≡ HouseError.Device) ⊎ (e.0 ≡ HouseError.Spent)) }
+        ensures alone { IfErr result (λ e. (n : ℕ) (r : Stored)
+            → ReadsAsStore (bytes_of (D.device disk).file) n r → r.job ≡ job.now.number
+            → (e.0 ≡ HouseError.Device) ⊎ (e.0 ≡ HouseError.Spent)) }
         // Where whatever a crash leaves has one current record, it has that one or the one of the new epoch.
-        ensures kept_back { IfErr result (λ e. (n : ℕ) (r : Stored) → KeepsRecord (D.device disk).file n r → KeepsEither (D.device e.1).file n r (next_of r (r.epoch + 1) r.outcome)) }
+        ensures kept_back { IfErr result (λ e. (n : ℕ) (r : Stored) → KeepsRecord (D.device disk).file n r
+            → KeepsEither (D.device e.1).file n r (next_of r (r.epoch + 1) r.outcome)) }
     {
         let mut store = match Store::open(alloc, disk, job.number()) {
             Ok(store) => store,
@@ -115,8 +117,10 @@ impl<'a, D: Disk> House<'a, D> {
     /// listed, E62 where a grant or a commit can't be counted any more; nothing changes then. E72 where a call of the device
     /// failed, and E9 where there is no memory: both stop it, and a stopped one answers each call by what stopped it.
     pub fn on_bytes(&mut self, alloc: Global, bytes: &[u8]) -> Result<HouseStep, HouseError>
-        ensures meets { HouseMeets D.device D.planned (calls.on_bytes self.old.job bytes.now self.old.state) result self.old self.new }
-        ensures stopped { (s : StopOf) → self.old.state ≡ Stopped s → IsErrOf result (error_of_stop s) × (self.new ≡ self.old) }
+        ensures meets { HouseMeets D.device D.planned (calls.on_bytes self.old.job bytes.now self.old.state)
+            result self.old self.new }
+        ensures stopped { (s : StopOf) → self.old.state ≡ Stopped s → IsErrOf result (error_of_stop s)
+            × (self.new ≡ self.old) }
     {
         if let Some(stop) = self.stop {
             return Err(stop.error());
@@ -151,8 +155,10 @@ impl<'a, D: Disk> House<'a, D> {
     /// settled. One that is no later than the last changes nothing. Refused only when out of memory (E9), which stops it, and
     /// where it is stopped.
     pub fn tick(&mut self, alloc: Global, now: u64) -> Result<HouseStep, HouseError>
-        ensures meets { HouseMeets D.device D.planned (calls.tick self.old.job now self.old.state) result self.old self.new }
-        ensures stopped { (s : StopOf) → self.old.state ≡ Stopped s → IsErrOf result (error_of_stop s) × (self.new ≡ self.old) }
+        ensures meets { HouseMeets D.device D.planned (calls.tick self.old.job now self.old.state)
+            result self.old self.new }
+        ensures stopped { (s : StopOf) → self.old.state ≡ Stopped s → IsErrOf result (error_of_stop s)
+            × (self.new ≡ self.old) }
     {
         if let Some(stop) = self.stop {
             return Err(stop.error());
@@ -186,7 +192,8 @@ impl<'a, D: Disk> House<'a, D> {
     /// Arms the disk.
     pub fn arm(&mut self, calls: u64, bytes: Vec<u8>)
         ensures disk { self.new ≡ record self.old { store = record self.old.store { disk = self.new.store.disk } } }
-        ensures armed { IsTrue (D.device self.old.store.disk).can_cut → D.device self.new.store.disk ≡ armed (D.device self.old.store.disk) calls bytes.items }
+        ensures armed { IsTrue (D.device self.old.store.disk).can_cut
+            → D.device self.new.store.disk ≡ armed (D.device self.old.store.disk) calls bytes.items }
         ensures unmoved { (D.device self.old.store.disk).can_cut ≡ false → self.new ≡ self.old }
     {
         self.store.arm(calls, bytes);
@@ -203,9 +210,20 @@ impl<'a, D: Disk> House<'a, D> {
 /// An outcome is committed, and then recorded; whether the device carried the commit out.
 fn commit_outcome<D: Disk>(book: &mut Book, store: &mut Store<D>, outcome: Outcome) -> bool
     requires counted { book.old.sequence + 1 < 2 ^ 64 }
-    requires stored { store.old ≡ record store.old { «record» = record store.old.record { epoch = book.old.epoch }; sequence = book.old.sequence; ended = false } }
-    ensures done { result ≡ true → (book.new ≡ record book.old { outcome = Some outcome; root = None; sequence = book.old.sequence + 1 }) × Committed D.device D.planned (record store.old.record { outcome = Some outcome }) store.old store.new }
-    ensures halted { result ≡ false → (book.new ≡ book.old) × Halted D.device D.planned (record store.old.record { outcome = Some outcome }) store.old store.new }
+    requires stored { store.old
+        ≡ record store.old {
+          «record» = record store.old.record { epoch = book.old.epoch };
+          sequence = book.old.sequence;
+          ended = false;
+        } }
+    ensures done { result ≡ true → (book.new ≡ record book.old {
+      outcome = Some outcome;
+      root = None;
+      sequence = book.old.sequence + 1;
+    }) × Committed D.device D.planned
+        (record store.old.record { outcome = Some outcome }) store.old store.new }
+    ensures halted { result ≡ false → (book.new ≡ book.old)
+        × Halted D.device D.planned (record store.old.record { outcome = Some outcome }) store.old store.new }
 {
     match store.commit(LastEpoch::at(book.epoch), Some(outcome)) {
         Ok(()) => {

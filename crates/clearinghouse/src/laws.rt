@@ -16,7 +16,8 @@ ghost use Rattle.clearinghouse.specs.declared.parts.Stop.{Stop as StopOf};
 /// one that can be told.
 pub fn each_step()
     ensures opened { (limit : ℕ) (k : Kept) → IsHouse (opened limit k) }
-    ensures packet { (job : JobOf) (p : PacketOf) (h : HouseOf) (s : HouseStepOf) → on_packet job p h ≡ Does s → KeepsHouse h s }
+    ensures packet { (job : JobOf) (p : PacketOf) (h : HouseOf) (s : HouseStepOf) → on_packet job p h ≡ Does s
+        → KeepsHouse h s }
     ensures moment { (job : JobOf) (now : ℕ) (h : HouseOf) → KeepsHouse h (passes job now h) }
 {}
 
@@ -33,8 +34,10 @@ pub fn few_versions()
 
 /// A worker that isn't listed is, where fewer than 4,096 are; else it is refused by E80.
 pub fn full_roster()
-    ensures room { (job : JobOf) (i : ℕ) (h : HouseOf) → status_in i (members_of h) ≡ None → length h.workers < 4096 → on_packet job (join job i) h ≡ Does (tells job i (lists i h)) }
-    ensures full { (job : JobOf) (i : ℕ) (h : HouseOf) → status_in i (members_of h) ≡ None → 4096 ≤ length h.workers → on_packet job (join job i) h ≡ Refused HouseError.RosterFull }
+    ensures room { (job : JobOf) (i : ℕ) (h : HouseOf) → status_in i (members_of h) ≡ None
+        → length h.workers < 4096 → on_packet job (join job i) h ≡ Does (tells job i (lists i h)) }
+    ensures full { (job : JobOf) (i : ℕ) (h : HouseOf) → status_in i (members_of h) ≡ None
+        → 4096 ≤ length h.workers → on_packet job (join job i) h ≡ Refused HouseError.RosterFull }
 {}
 
 /// A moment that is no later than the last one changes nothing.
@@ -44,7 +47,8 @@ pub fn late_moment()
 
 /// A stopped clearinghouse refuses each call by what stopped it, and stays so.
 pub fn stopped()
-    ensures bytes { (job : JobOf) (bytes : List ℕ) (s : StopOf) → on_bytes job bytes (Stopped s) ≡ Refused (error_of_stop s) }
+    ensures bytes { (job : JobOf) (bytes : List ℕ) (s : StopOf)
+        → on_bytes job bytes (Stopped s) ≡ Refused (error_of_stop s) }
     ensures moment { (job : JobOf) (now : ℕ) (s : StopOf) → tick job now (Stopped s) ≡ Refused (error_of_stop s) }
     ensures outcome { (s : StopOf) → outcome (Stopped s) ≡ Err (error_of_stop s) }
     ensures stays { (s : StopOf) → state_after (Refused (error_of_stop s)) (Stopped s) ≡ Stopped s }

@@ -1,7 +1,6 @@
 //! Packets on their way.
 ghost use Rattle.std.specs.Prelude.{◌≡◌, ◌++◌, OnOk, IfOk, [], ◌∷◌};
 ghost use Rattle.codec.specs.declared.body.Body.TheVariants as body;
-ghost use Rattle.clearinghouse.specs.House.{members_of};
 ghost use Rattle.clearinghouse.specs.Laws.{IsListing};
 ghost use Rattle.clearinghouse.specs.Moves as moves;
 
@@ -34,7 +33,8 @@ pub fn send_abort(
     holder: Incarnation,
     grant: GrantId,
 ) -> Result<(), AllocError>
-    ensures { OnOk result (sent.new ≡ sent.old ++ moves.packet job.now holder (body.Abort (record { grant = grant })) ∷ []) }
+    ensures { OnOk result (sent.new ≡ sent.old ++ moves.packet job.now holder
+        (body.Abort (record { grant = grant })) ∷ []) }
 {
     send(
         alloc,

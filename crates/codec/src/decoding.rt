@@ -41,7 +41,8 @@ struct Parts {
 /// What stands in front of the fields.
 #[tactic(auto, unfolding(crate::specs::Table::packet))]
 fn head_of(input: &mut Input<'_>) -> Result<Head, Fault>
-    ensures { StandsBefore (λ h. record { kind = table.number_of h.kind; job = h.job; to = h.to }) input.new result (table.packet.read input.old) }
+    ensures { StandsBefore (λ h. record { kind = table.number_of h.kind; job = h.job; to = h.to })
+        input.new result (table.packet.read input.old) }
 {
     if input.u16()? != MAGIC {
         return Err(Fault::Magic);
@@ -70,7 +71,8 @@ fn address(kind: Kind, input: &mut Input<'_>) -> Result<Address, Fault>
 
 /// The header and the fields of the kind.
 fn parts_of(input: &mut Input<'_>) -> Result<Parts, ReadError>
-    ensures { Gives (λ x. (record { job = x.job; to = x.to; body = x.body }, input.new)) result (table.packet.read input.old) }
+    ensures { Gives (λ x. (record { job = x.job; to = x.to; body = x.body }, input.new)) result
+        (table.packet.read input.old) }
 {
     let Head { kind, job, to } = head_of(input)?;
     let body = read_fields(kind, input)?;

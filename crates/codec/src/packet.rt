@@ -41,7 +41,8 @@ impl Packet {
     /// Beat to the clearinghouse in an epoch; all others to a worker), or where the body has a field that a packet can't
     /// hold, as a roster out of order.
     pub fn of(job: u64, to: Address, body: Body) -> Option<Packet>
-        ensures { result ≡ (if table.is_packet (record { job = job; to = to; body = body }) then Some (record { job = job; to = to; body = body }) else None) }
+        ensures { result ≡ (if table.is_packet (record { job = job; to = to; body = body }) then Some
+            (record { job = job; to = to; body = body }) else None) }
     {
         if suits(kind_of(&body), to) && fields_fit(&body) {
             Some(Packet { job, to, body })

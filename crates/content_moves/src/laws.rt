@@ -1,4 +1,4 @@
-ghost use Rattle.std.specs.Prelude.{◌≡◌, ℕ, ℤ, List, [], ◌∷◌, Option, Some, None, Ok};
+ghost use Rattle.std.specs.Prelude.{◌≡◌, ℕ, ℤ, List, [], ◌∷◌, Some, None, Ok};
 ghost use Rattle.ids.specs.Names.{Grant};
 ghost use Rattle.ids.specs.Slots.{numbers_in};
 ghost use Rattle.ids.specs.declared.outcome.Outcome.{Outcome};
@@ -33,15 +33,18 @@ ghost use Rattle.content_moves.specs.Moved.{IsKept, IsMove, BeginsTask, IsGrantM
 /// outcome, a join has its successor and its kids in the frame's place, and a join that is too deep ends the whole. Does
 /// nothing.
 pub fn turns_are_moves()
-    ensures turned { (p : Program) (input : List ℤ) (v : View) (i : ℕ) (g : Grant) (s : Sub) (c : Content) (f : Frame) (numbers : List ℤ) (turn : Turn)
+    ensures turned { (p : Program) (input : List ℤ) (v : View) (i : ℕ) (g : Grant) (s : Sub) (c : Content)
+        (f : Frame) (numbers : List ℤ) (turn : Turn)
         → Live v i g s
         → IsKept c
         → Shows s.content c
         → frame_in f.number c.frames ≡ Some f
         → numbers_in f.slots ≡ Some numbers
         → turn_of p f.thread numbers ≡ Some turn
-        → IsMove (program_meaning p input) v i g s (turned f turn c).after (turned f turn c).fill (grants_of_records (turned f turn c).dropped) }
-    ensures executed { (input : List ℤ) (v : View) (i : ℕ) (g : Grant) (s : Sub) (c : Content) (d : DoneOf) (n : ℕ) (change : ContentChange)
+        → IsMove (program_meaning p input) v i g s (turned f turn c).after (turned f turn c).fill
+        (grants_of_records (turned f turn c).dropped) }
+    ensures executed { (input : List ℤ) (v : View) (i : ℕ) (g : Grant) (s : Sub) (c : Content) (d : DoneOf)
+        (n : ℕ) (change : ContentChange)
         → Live v i g s
         → IsKept c
         → Shows s.content c
@@ -59,7 +62,8 @@ pub fn results_are_moves()
         → Shows s.content c
         → record_in r.grant c.records ≡ Some r
         → result_to r.grant i (outcome_number o) ∈ v.results
-        → IsMove m v i g s (closed r o c).after (closed r o c).fill (r.grant ∷ grants_of_records (closed r o c).dropped) }
+        → IsMove m v i g s (closed r o c).after (closed r o c).fill
+        (r.grant ∷ grants_of_records (closed r o c).dropped) }
 {}
 
 /// A record that is closed without an outcome, so that its frame is done again, is a move, which settles it. Does nothing.

@@ -1,4 +1,4 @@
-ghost use Rattle.std.specs.Prelude.{◌≡◌, ◌<◌, ◌&&◌, ◌||◌, ◌++◌, not, nat_eq, IfOk, IfSome, IsTrue, MatchBool, MatchOption, OnOk, is_some, length, map};
+ghost use Rattle.std.specs.Prelude.{◌≡◌, ◌<◌, ◌&&◌, ◌||◌, ◌++◌, not, nat_eq, IfOk, IfSome, IsTrue, MatchBool, MatchOption, OnOk, is_some, map};
 ghost use Rattle.std.specs.List.{list_all};
 ghost use Rattle.ids.specs.Named.{item_in};
 ghost use Rattle.ids.specs.Naming.{name_of_frame, name_of_grant, name_of_record};
@@ -58,7 +58,9 @@ pub fn accept_offer(
 /// Whether the threads of the task, of the frames and of the records' tasks are there and take as many numbers as these
 /// have.
 fn fits_program(checked: &Checked, offer: &Offer) -> bool
-    ensures { result ≡ (fitting.task_fits checked.now offer.now.task && list_all (fitting.frame_fits checked.now) offer.now.frames && list_all (fitting.record_fits checked.now) offer.now.records) }
+    ensures { result ≡ (fitting.task_fits checked.now offer.now.task && list_all
+        (fitting.frame_fits checked.now) offer.now.frames && list_all (fitting.record_fits checked.now)
+        offer.now.records) }
 {
     takes(checked, offer.task.thread, offer.task.numbers.len())
         && all_frames_fit(checked, offer.frames.as_slice())
@@ -94,7 +96,8 @@ fn fits_node(
     subs: &SortedMap<Sub>,
     offer: &Offer,
 ) -> Result<bool, AllocError>
-    ensures { IfOk result (λ fits. fits ≡ fitting.progress_fits own subs.now (offered offer.now).content offer.now.progress) }
+    ensures { IfOk result (λ fits. fits ≡ fitting.progress_fits own subs.now
+        (offered offer.now).content offer.now.progress) }
 {
     match offer.progress {
         Progress::Finished(_) => Ok(true),
@@ -186,7 +189,8 @@ fn is_linked(alloc: Global, offer: &Offer) -> Result<bool, AllocError>
 
 /// The numbers of frames and of records.
 fn numbers(alloc: Global, offer: &Offer) -> Result<Vec<Mark>, AllocError>
-    ensures { IfOk result (λ numbers. numbers.items ≡ map (λ f. links.name_of_number f.number) offer.now.frames ++ map (λ r. links.name_of_number r.frame) offer.now.records) }
+    ensures { IfOk result (λ numbers. numbers.items ≡ map (λ f. links.name_of_number f.number) offer.now.frames
+        ++ map (λ r. links.name_of_number r.frame) offer.now.records) }
 {
     let frames = (offer.frames.as_slice().iter()).map(|frame| Mark::number(frame.number));
     let records = (offer.records.as_slice().iter()).map(|record| Mark::number(record.frame));
@@ -195,7 +199,8 @@ fn numbers(alloc: Global, offer: &Offer) -> Result<Vec<Mark>, AllocError>
 
 /// Where the values of frames and of records go.
 fn owed(alloc: Global, offer: &Offer) -> Result<Vec<Mark>, AllocError>
-    ensures { IfOk result (λ owed. owed.items ≡ map (λ f. links.name_of_return f.returns) offer.now.frames ++ map (λ r. links.name_of_return r.returns) offer.now.records) }
+    ensures { IfOk result (λ owed. owed.items ≡ map (λ f. links.name_of_return f.returns) offer.now.frames
+        ++ map (λ r. links.name_of_return r.returns) offer.now.records) }
 {
     let frames = (offer.frames.as_slice().iter()).map(|frame| Mark::returns(frame.returns));
     let records = (offer.records.as_slice().iter()).map(|record| Mark::returns(record.returns));
@@ -216,7 +221,8 @@ fn awaited(alloc: Global, frames: &[Frame]) -> Result<Listed<Mark>, AllocError>
 
 /// Adds the places of a frame's empty slots.
 fn add_empty(awaited: &mut Listed<Mark>, frame: &Frame) -> Result<(), AllocError>
-    ensures { OnOk result (awaited.new ≡ awaited.old ++ map links.name_of_return (fitting.empty_from frame.now.number 0 frame.now.slots)) }
+    ensures { OnOk result (awaited.new ≡ awaited.old ++ map links.name_of_return
+        (fitting.empty_from frame.now.number 0 frame.now.slots)) }
 {
     for (slot, value) in frame.slots.as_slice().iter().enumerate() {
         if value.is_none() {
@@ -268,7 +274,8 @@ fn take_each(rest: &mut SortedMap<Mark>, names: &[Mark]) -> bool
 
 /// The grants of which subcomputations have open records.
 fn held_grants(alloc: Global, subs: &SortedMap<Sub>) -> Result<SortedMap<Mark>, AllocError>
-    ensures { IfOk result (λ held. (g : NameOfGrant) → is_some (item_in links.itself (name_of_grant g) held) ≡ is_some (host_in g subs.now)) }
+    ensures { IfOk result (λ held. (g : NameOfGrant) → is_some (item_in links.itself (name_of_grant g) held)
+        ≡ is_some (host_in g subs.now)) }
 {
     let mut held = SortedMap::new(alloc);
     for sub in subs.values() {
@@ -279,7 +286,8 @@ fn held_grants(alloc: Global, subs: &SortedMap<Sub>) -> Result<SortedMap<Mark>, 
 
 /// Adds the grants of records.
 fn add_grants(held: &mut SortedMap<Mark>, records: &Records) -> Result<(), AllocError>
-    ensures { OnOk result ((g : NameOfGrant) → is_some (item_in links.itself (name_of_grant g) held.new) ≡ (is_some (item_in links.itself (name_of_grant g) held.old) || is_some (record_in g records.now))) }
+    ensures { OnOk result ((g : NameOfGrant) → is_some (item_in links.itself (name_of_grant g) held.new)
+        ≡ (is_some (item_in links.itself (name_of_grant g) held.old) || is_some (record_in g records.now))) }
 {
     for record in records.values() {
         held.put(Mark::grant(record.grant))?;
@@ -289,14 +297,16 @@ fn add_grants(held: &mut SortedMap<Mark>, records: &Records) -> Result<(), Alloc
 
 /// Whether no record's grant was minted at the node or is among those of which it has open records.
 fn all_foreign(own: Incarnation, held: &SortedMap<Mark>, records: &[Record]) -> bool
-    ensures { result ≡ list_all (λ r. not (nat_eq r.grant.minter own) && not (is_some (item_in links.itself (name_of_grant r.grant) held.now))) records.now }
+    ensures { result ≡ list_all (λ r. not (nat_eq r.grant.minter own) && not
+        (is_some (item_in links.itself (name_of_grant r.grant) held.now))) records.now }
 {
     (records.iter()).all(|record| is_foreign(own, held, record.grant))
 }
 
 /// Whether a grant wasn't minted at the node and isn't among those of which it has open records.
 fn is_foreign(own: Incarnation, held: &SortedMap<Mark>, grant: GrantId) -> bool
-    ensures { result ≡ (not (nat_eq grant.minter own) && not (is_some (item_in links.itself (name_of_grant grant) held.now))) }
+    ensures { result ≡ (not (nat_eq grant.minter own) && not
+        (is_some (item_in links.itself (name_of_grant grant) held.now))) }
 {
     grant.minter().word() != own.word() && held.get(Mark::grant(grant).name()).is_none()
 }

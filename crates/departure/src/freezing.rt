@@ -1,5 +1,5 @@
 //! Freezing: what a node holds, as Offers to the heir to which it leaves.
-ghost use Rattle.std.specs.Prelude.{◌≡◌, ◌<◌, ◌^◌, true, false, IfOk, IsErrOf, IsTrue, OnOk, map};
+ghost use Rattle.std.specs.Prelude.{◌≡◌, ◌<◌, ◌^◌, true, false, IfOk, IsErrOf, IsTrue, OnOk};
 ghost use Rattle.std.specs.List.{AllByRecursion, list_all, list_any};
 ghost use Rattle.ids.specs.Members.{is_live};
 ghost use Rattle.packet_fields.specs.Fields as field;
@@ -150,7 +150,8 @@ impl Move {
         requires hop { is_last_hop sub.now ≡ false }
         ensures ok { IfOk result (λ d. d ≡ offer self.now.job self.now.from self.now.heir sub.now) }
         ensures small { OnOk result (is_too_big (offer self.now.job self.now.from self.now.heir sub.now) ≡ false) }
-        ensures big { IsErrOf result TooBig → is_too_big (offer self.now.job self.now.from self.now.heir sub.now) ≡ true }
+        ensures big { IsErrOf result TooBig
+            → is_too_big (offer self.now.job self.now.from self.now.heir sub.now) ≡ true }
     {
         let packet = self.packet(alloc, checked, sub)?;
         Datagram::of(alloc, &packet)

@@ -35,19 +35,23 @@ pub trait Disk {
         ensures passes { OnOk result (planned self.old 0 ≡ None) }
 
         // A device that can be cut wants memory for the bytes alone.
-        ensures cause { OnErr result (IsTrue (device self.old).can_cut → IsSome (planned self.old 0) ⊎ (0 < most × 0 < length (device self.old).file)) }
+        ensures cause { OnErr result (IsTrue (device self.old).can_cut → IsSome (planned self.old 0)
+            ⊎ (0 < most × 0 < length (device self.old).file)) }
         ensures plan { (i : ℕ) → planned self.new i ≡ planned self.old (suc i) };
 
     /// Writes bytes over those at a place, and past the end. It fails where that place is behind the end.
     fn write_at(&mut self, at: usize, bytes: &[u8]) -> Result<(), DeviceFailed>
         ensures place { OnOk result (at ≤ length (device self.old).file) }
-        ensures ok { OnOk result (device self.new ≡ passed (device self.old) (written_file (device self.old).file at bytes.now)) }
+        ensures ok { OnOk result (device self.new ≡ passed (device self.old)
+            (written_file (device self.old).file at bytes.now)) }
         ensures err { OnErr result (Failed (device self.old) (device self.new) (planned self.old 0)) }
-        ensures crash { Follows (Torn at (length bytes.now)) (CrashLeaves (device self.old).file) (CrashLeaves (device self.new).file) }
+        ensures crash { Follows (Torn at (length bytes.now)) (CrashLeaves (device self.old).file)
+            (CrashLeaves (device self.new).file) }
         ensures passes { OnOk result (planned self.old 0 ≡ None) }
 
         // A device that can be cut wants memory for more bytes alone.
-        ensures cause { OnErr result (IsTrue (device self.old).can_cut → IsSome (planned self.old 0) ⊎ (length (device self.old).file < at + length bytes.now)) }
+        ensures cause { OnErr result (IsTrue (device self.old).can_cut → IsSome (planned self.old 0)
+            ⊎ (length (device self.old).file < at + length bytes.now)) }
         ensures plan { (i : ℕ) → planned self.new i ≡ planned self.old (suc i) };
 
     /// Cuts the file to a length. It fails where the file is shorter.
@@ -55,9 +59,11 @@ pub trait Disk {
         ensures place { OnOk result (len ≤ length (device self.old).file) }
         ensures ok { OnOk result (device self.new ≡ passed (device self.old) (take len (device self.old).file)) }
         ensures err { OnErr result (Failed (device self.old) (device self.new) (planned self.old 0)) }
-        ensures crash { Follows (Shortened len) (CrashLeaves (device self.old).file) (CrashLeaves (device self.new).file) }
+        ensures crash { Follows (Shortened len) (CrashLeaves (device self.old).file)
+            (CrashLeaves (device self.new).file) }
         ensures passes { OnOk result (planned self.old 0 ≡ None) }
-        ensures cause { OnErr result (IsTrue (device self.old).can_cut → IsSome (planned self.old 0) ⊎ (length (device self.old).file < len)) }
+        ensures cause { OnErr result (IsTrue (device self.old).can_cut → IsSome (planned self.old 0)
+            ⊎ (length (device self.old).file < len)) }
         ensures plan { (i : ℕ) → planned self.new i ≡ planned self.old (suc i) };
 
     /// Has what was written on the disk for good: after it a crash leaves what a read gives.

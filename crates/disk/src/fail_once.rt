@@ -1,4 +1,4 @@
-ghost use Rattle.std.specs.Prelude.{◌≡◌, ◌⊎◌, ◌+◌, ◌%◌, ◌^◌, ◌<◌, ◌≤◌, [], ℕ, suc, Option, None, IsSome, IsTrue, true, false, length, take, IfOk, OnOk, OnErr};
+ghost use Rattle.std.specs.Prelude.{◌≡◌, ◌<◌, ℕ, suc, Option, None, IsSome, true, false, OnOk, OnErr};
 
 use crate::{DeviceFailed, Disk, MemDisk};
 use std::alloc::Global;
@@ -20,7 +20,8 @@ impl FailOnce {
     /// The call after so many others fails and settles the file by these bytes, unless the disk is armed to fail it.
     pub fn new(inner: MemDisk, calls: u64, bytes: Vec<u8>) -> FailOnce
         ensures device { ⟦<FailOnce as Disk>⟧.device result ≡ ⟦<MemDisk as Disk>⟧.device inner }
-        ensures planned { (i : ℕ) → ⟦<FailOnce as Disk>⟧.planned result i ≡ and_once (⟦<MemDisk as Disk>⟧.planned inner i) (once_after (Some calls) bytes.items i) }
+        ensures planned { (i : ℕ) → ⟦<FailOnce as Disk>⟧.planned result i
+            ≡ and_once (⟦<MemDisk as Disk>⟧.planned inner i) (once_after (Some calls) bytes.items i) }
     {
         FailOnce {
             inner,
@@ -35,7 +36,8 @@ impl FailOnce {
         ensures bytes { self.new.bytes ≡ self.old.bytes }
         ensures chosen { result ≡ true → self.old.chosen ≡ Some 0 }
         ensures other { result ≡ false → once_after self.old.chosen self.old.bytes.items 0 ≡ None }
-        ensures plan { (i : ℕ) → once_after self.new.chosen self.old.bytes.items i ≡ once_after self.old.chosen self.old.bytes.items (suc i) }
+        ensures plan { (i : ℕ) → once_after self.new.chosen self.old.bytes.items i
+            ≡ once_after self.old.chosen self.old.bytes.items (suc i) }
     {
         match self.chosen {
             None => false,
@@ -52,11 +54,14 @@ impl FailOnce {
 
     // Lets a call pass, or fails it.
     fn admit(&mut self) -> Result<(), DeviceFailed>
-        ensures ok { OnOk result (device_of self.new.inner ≡ passed (device_of self.old.inner) (device_of self.old.inner).file) }
+        ensures ok { OnOk result (device_of self.new.inner
+            ≡ passed (device_of self.old.inner) (device_of self.old.inner).file) }
         ensures passes { OnOk result (planned_of self.old 0 ≡ None) }
-        ensures err { OnErr result (Failed (device_of self.old.inner) (device_of self.new.inner) (planned_of self.old 0)) }
+        ensures err { OnErr result (Failed (device_of self.old.inner) (device_of self.new.inner)
+            (planned_of self.old 0)) }
         ensures stops { OnErr result (IsSome (planned_of self.old 0)) }
-        ensures plan { (i : ℕ) → once_after self.new.chosen self.new.bytes.items i ≡ once_after self.old.chosen self.old.bytes.items (suc i) }
+        ensures plan { (i : ℕ) → once_after self.new.chosen self.new.bytes.items i
+            ≡ once_after self.old.chosen self.old.bytes.items (suc i) }
     {
         let is_chosen = self.count_down();
         self.inner.admit()?;

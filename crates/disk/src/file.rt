@@ -1,6 +1,6 @@
 //! A disk over a file of the system. What a file holds is no matter of proof: the contracts speak of the bytes that this
 //! process read and wrote, and each read is held against them.
-ghost use Rattle.std.specs.Prelude.{◌≡◌, ◌⊎◌, ◌+◌, ◌%◌, ◌^◌, ◌<◌, ◌≤◌, ℕ, Option, None, IsSome, IsTrue, false, length, take, IfOk, OnOk, OnErr};
+ghost use Rattle.std.specs.Prelude.{◌≡◌, ◌+◌, ◌%◌, ◌^◌, ◌<◌, ◌≤◌, None, IsTrue, false, length, IfOk};
 
 use crate::cells::{self, Cell};
 use crate::{DeviceFailed, Disk};
@@ -55,13 +55,14 @@ fn set_len<F: OpenFile>(file: &F, len: u64) -> io::Result<()> {
 
 impl<F: FileExt + OpenFile + Drop> FileDisk<F> {
     ghost use Rattle.disk.specs.Crash.{Only};
-    ghost use Rattle.disk.specs.Device.{Device, Unarmed};
+    ghost use Rattle.disk.specs.Device.{Unarmed};
     ghost use Rattle.disk.specs.File.{CrashLeaves, bytes_of};
 
     /// Over a file that is open for reading and writing, which it syncs and reads. The entry of a new file in its folder is for
     /// the caller to sync.
     pub fn new(alloc: Global, file: F) -> io::Result<FileDisk<F>>
-        ensures durable { IfOk result (λ disk. Only (bytes_of (⟦<FileDisk<F> as Disk>⟧.device disk).file) (CrashLeaves (⟦<FileDisk<F> as Disk>⟧.device disk).file)) }
+        ensures durable { IfOk result (λ disk. Only (bytes_of (⟦<FileDisk<F> as Disk>⟧.device disk).file)
+            (CrashLeaves (⟦<FileDisk<F> as Disk>⟧.device disk).file)) }
         ensures unarmed { IfOk result (λ disk. (⟦<FileDisk<F> as Disk>⟧.device disk).arming ≡ Unarmed) }
         ensures failures { IfOk result (λ disk. (⟦<FileDisk<F> as Disk>⟧.device disk).failures ≡ 0) }
         ensures uncut { IfOk result (λ disk. (⟦<FileDisk<F> as Disk>⟧.device disk).can_cut ≡ false) }

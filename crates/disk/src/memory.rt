@@ -1,4 +1,4 @@
-ghost use Rattle.std.specs.Prelude.{◌≡◌, ◌⊎◌, ◌+◌, ◌%◌, ◌^◌, ◌<◌, ◌≤◌, [], None, IsSome, length, take, refl, true, IfOk, OnOk, OnErr};
+ghost use Rattle.std.specs.Prelude.{◌≡◌, ◌+◌, ◌<◌, ◌≤◌, [], None, IsSome, length, take, true, IfOk, OnOk, OnErr};
 
 use crate::cells::{self, Cell};
 use crate::{DeviceFailed, Disk};
@@ -31,7 +31,12 @@ impl MemDisk {
 
     /// An empty file; takes no memory.
     pub fn new(alloc: Global) -> MemDisk
-        ensures { ⟦<MemDisk as Disk>⟧.device result ≡ record { file = []; arming = Unarmed; failures = 0; can_cut = true } }
+        ensures { ⟦<MemDisk as Disk>⟧.device result ≡ record {
+          file = [];
+          arming = Unarmed;
+          failures = 0;
+          can_cut = true;
+        } }
     {
         MemDisk {
             cells: Vec::new(alloc),
@@ -79,7 +84,8 @@ impl MemDisk {
     pub(crate) fn admit(&mut self) -> Result<(), DeviceFailed>
         ensures ok { OnOk result (device_of self.new ≡ passed (device_of self.old) (device_of self.old).file) }
         ensures passes { OnOk result (stop_after (device_of self.old).arming 0 ≡ None) }
-        ensures err { OnErr result (Failed (device_of self.old) (device_of self.new) (stop_after (device_of self.old).arming 0)) }
+        ensures err { OnErr result (Failed (device_of self.old) (device_of self.new)
+            (stop_after (device_of self.old).arming 0)) }
         ensures stops { OnErr result (IsSome (stop_after (device_of self.old).arming 0)) }
     {
         match self.stop {
@@ -101,7 +107,8 @@ impl MemDisk {
     pub(crate) fn read_now(&mut self, alloc: Global, most: usize) -> Result<Vec<u8>, DeviceFailed>
         ensures bytes { IfOk result (λ bytes. bytes.items ≡ take most (bytes_of (device_of self.old).file)) }
         ensures ok { OnOk result (device_of self.new ≡ device_of self.old) }
-        ensures err { OnErr result (device_of self.new ≡ failing (device_of self.old) (armed_bytes (device_of self.old).arming)) }
+        ensures err { OnErr result (device_of self.new ≡ failing (device_of self.old)
+            (armed_bytes (device_of self.old).arming)) }
         ensures cause { OnErr result (0 < most × 0 < length (device_of self.old).file) }
     {
         match cells::read(alloc, &self.cells, most) {
@@ -113,8 +120,10 @@ impl MemDisk {
     /// `write_at`, of a call that passes.
     pub(crate) fn write_now(&mut self, at: usize, bytes: &[u8]) -> Result<(), DeviceFailed>
         ensures place { OnOk result (at ≤ length (device_of self.old).file) }
-        ensures ok { OnOk result (device_of self.new ≡ record (device_of self.old) { file = written_file (device_of self.old).file at bytes.now }) }
-        ensures err { OnErr result (device_of self.new ≡ failing (device_of self.old) (armed_bytes (device_of self.old).arming)) }
+        ensures ok { OnOk result (device_of self.new ≡ record (device_of self.old)
+            { file = written_file (device_of self.old).file at bytes.now }) }
+        ensures err { OnErr result (device_of self.new ≡ failing (device_of self.old)
+            (armed_bytes (device_of self.old).arming)) }
         ensures cause { OnErr result (length (device_of self.old).file < at + length bytes.now) }
     {
         if at > self.cells.len() {
@@ -129,8 +138,10 @@ impl MemDisk {
     /// `cut`, of a call that passes.
     pub(crate) fn cut_now(&mut self, len: usize) -> Result<(), DeviceFailed>
         ensures place { OnOk result (len ≤ length (device_of self.old).file) }
-        ensures ok { OnOk result (device_of self.new ≡ record (device_of self.old) { file = take len (device_of self.old).file }) }
-        ensures err { OnErr result (device_of self.new ≡ failing (device_of self.old) (armed_bytes (device_of self.old).arming)) }
+        ensures ok { OnOk result (device_of self.new ≡ record (device_of self.old)
+            { file = take len (device_of self.old).file }) }
+        ensures err { OnErr result (device_of self.new ≡ failing (device_of self.old)
+            (armed_bytes (device_of self.old).arming)) }
         ensures cause { OnErr result (length (device_of self.old).file < len) }
     {
         if len > self.cells.len() {

@@ -84,7 +84,8 @@ fn at_place(out: &mut Vec<u8>, name: &[u8], place: NodePlace) -> Result<(), Allo
 /// Adds the words of a node that asks.
 fn ask(out: &mut Vec<u8>, place: NodePlace, whom: Asked) -> Result<(), AllocError>
     ensures read { IfOk result (λ _. IsRead (Event.AtNode place (NodeEvent.Ask whom))) }
-    ensures written { IfOk result (λ _. out.new.items ≡ out.old.items ++ spaced (node_words place (NodeEvent.Ask whom))) }
+    ensures written { IfOk result (λ _. out.new.items ≡ out.old.items
+        ++ spaced (node_words place (NodeEvent.Ask whom))) }
 {
     at_place(out, b"ask", place)?;
     match whom {

@@ -109,13 +109,21 @@ impl Frames {
         }
     }
 
+    /// Fills an empty slot. Takes no memory.
+    pub fn put(&mut self, number: FrameNo, slot: u8, value: i64)
+        requires { IsTrue (is_empty_of (frame_in number self.old) slot) }
+        ensures { self.new ≡ fill_of slot value self.old (frame_in number self.old) }
+    {
+        self.frames.change(name(number), &Fill { slot, value });
+    }
+
     /// Fills an empty slot, and says whether the frame still waits. Takes no memory.
     pub fn fill(&mut self, number: FrameNo, slot: u8, value: i64) -> Filled
         requires { IsTrue (is_empty_of (frame_in number self.old) slot) }
         ensures filled { self.new ≡ fill_of slot value self.old (frame_in number self.old) }
         ensures ready { result ≡ filling (frame_in number self.old) slot value }
     {
-        self.frames.change(name(number), &Fill { slot, value });
+        self.put(number, slot, value);
         self.state(number)
     }
 

@@ -1,4 +1,4 @@
-ghost use Rattle.std.specs.Prelude.{◌≡◌, ℕ};
+ghost use Rattle.std.specs.Prelude.{ℕ};
 ghost use Rattle.codec.specs.Table.{PacketOf};
 ghost use Rattle.serial_meaning.specs.Job.{JobOf};
 ghost use Rattle.clearinghouse.specs.Calls.{passes};

@@ -15,7 +15,7 @@ pub use listed::Listed;
 pub use member::{Member, Status};
 pub use names::{Actor, Address, Count, Epoch, FrameNo, GrantId, Hop, Incarnation};
 pub use outcome::{Outcome, Progress};
-pub use place::{Place, PlaceError};
+pub use place::{Place, PlaceError, are_steps};
 pub use returns::Return;
 pub use sorted_map::{Exact, ItemChange, Named, SortedMap, TryItemChange, Values, item_of};
 pub use work::{Frame, Record, Task};

@@ -1,9 +1,10 @@
-ghost use Rattle.std.specs.Prelude.{◌≡◌, ◌≤◌, ◌<◌, ◌↔◌, [], ◌∷◌, zero, length, IfOk, IsErrOf, Some, None, if◌then◌else◌, reverse, slice_get, nat_lt};
-ghost use Rattle.std.specs.List.{list_all};
+ghost use Rattle.std.specs.Prelude.{◌≡◌, ◌≤◌, ◌<◌, ◌↔◌, [], ◌∷◌, zero, length, IfOk, IsErrOf, Some, None, if◌then◌else◌, reverse, slice_get, nat_lt, cond, not, ◌==◌};
+ghost use Rattle.std.specs.List.{list_all, count_by};
 ghost use Rattle.ids.specs.Place.{level_of, is_place, IsPlace};
 
 use crate::limits::{LAST_STEP, MOST_STEPS};
 use crate::listed::Listed;
+use smallvec::SmallVec;
 use std::alloc::{AllocError, Global};
 use std::marker::Model;
 use thiserror::Error;
@@ -32,23 +33,24 @@ impl PlaceError {
 }
 
 /// Where a task stands in the tree of a run: the steps from the root, at most 1,024 of them. Step 0 goes to the
-/// successor of a task, step i of 1 to 8 to the kid of its hole i. Contracts see the list of steps, the last step
-/// first.
+/// successor of a task, step i of 1 to 8 to the kid of its hole i. Up to 32 steps lie in the place itself, and more in memory of
+/// their own; beside them stands how many go to kids. Contracts see the list of steps, the last step first.
 #[derive(Drop)]
 pub struct Place {
-    steps: Vec<u8>,
+    steps: SmallVec<u8, 32>,
+    level: u16,
 }
 
 impl Model for Place {
-    ghost use Rattle.std.specs.Prelude.{ℕ, List, reverse};
+    ghost use Rattle.std.specs.Prelude.{ℕ, List, reverse, ◌≡◌};
 
     ghost Value = { List ℕ };
 
-    ghost use Rattle.ids.specs.Place.{IsPlace};
+    ghost use Rattle.ids.specs.Place.{IsPlace, level_of};
 
     ghost view = { λ p. reverse p.steps.items };
 
-    ghost invariant = { λ p. IsPlace (reverse p.steps.items) };
+    ghost invariant = { λ p. IsPlace (reverse p.steps.items) × (p.level ≡ level_of (reverse p.steps.items)) };
 }
 
 impl Place {
@@ -57,7 +59,8 @@ impl Place {
         ensures { result ≡ [] }
     {
         Place {
-            steps: Vec::new(alloc),
+            steps: SmallVec::new(alloc),
+            level: 0,
         }
     }
 
@@ -67,11 +70,28 @@ impl Place {
         ensures { result ≡ (if is_place steps then Some (reverse steps) else None) }
     {
         if steps.len() <= MOST_STEPS as usize && are_steps(steps.as_slice()) {
+            let level = to_kids(steps.as_slice());
             Some(Place {
-                steps: steps.into_vec(),
+                steps: SmallVec::from_vec(steps.into_vec()),
+                level,
             })
         } else {
             None
+        }
+    }
+
+    /// The place that a copy of these steps leads to from the root; none where `of` gives none. Up to 32 steps take no memory.
+    pub fn copy_of(alloc: Global, steps: &[u8]) -> Result<Option<Place>, AllocError>
+        ensures { IfOk result (λ p. p ≡ (if is_place steps.now then Some (reverse steps.now) else None)) }
+    {
+        if steps.len() <= MOST_STEPS as usize && are_steps(steps) {
+            let level = to_kids(steps);
+            Ok(Some(Place {
+                steps: SmallVec::from_slice(alloc, steps)?,
+                level,
+            }))
+        } else {
+            Ok(None)
         }
     }
 
@@ -85,10 +105,15 @@ impl Place {
         if self.steps.len() >= MOST_STEPS as usize {
             return Err(PlaceError::Full);
         }
-        let mut steps = Vec::with_capacity(alloc, self.steps.len() + 1).map_err(memory)?;
-        steps.extend_from_slice(&self.steps).map_err(memory)?;
+        let mut steps = SmallVec::with_capacity(alloc, self.steps.len() + 1).map_err(memory)?;
+        steps
+            .extend_from_slice(self.steps.as_slice())
+            .map_err(memory)?;
         steps.push(hole).map_err(|_| PlaceError::Memory)?;
-        Ok(Place { steps })
+        Ok(Place {
+            steps,
+            level: self.level + levels_down(hole),
+        })
     }
 
     /// The place of the successor. `Full` comes only at 1,024 steps.
@@ -104,7 +129,7 @@ impl Place {
     pub fn level(&self) -> u16
         ensures { result ≡ level_of self.now }
     {
-        self.steps.iter().filter(|step| **step != 0).count() as u16
+        self.level
     }
 
     /// The step at an index, counted from 0 at the root; none behind the last step.
@@ -136,16 +161,40 @@ impl Clone for Place {
 
     fn clone(&self) -> Result<Place, AllocError> {
         Ok(Place {
-            steps: self.steps.clone()?,
+            steps: SmallVec::from_slice(*self.steps.allocator(), self.steps.as_slice())?,
+            level: self.level,
         })
     }
 }
 
-/// Whether each byte is a step: 0 to the successor, or 1 to 8 to a kid.
-fn are_steps(bytes: &[u8]) -> bool
+/// How many levels a step leads down: one to a kid, and none to a successor.
+fn levels_down(step: u8) -> u16
+    ensures { result ≡ cond (not (step == 0)) 1 0 }
+{
+    if step == 0 { 0 } else { 1 }
+}
+
+/// Whether each byte is a step: 0 to the successor, or 1 to 8 to a kid. All are looked at, with no way out, so that many are at once.
+pub fn are_steps(bytes: &[u8]) -> bool
     ensures { result ≡ list_all (λ step. nat_lt step 9) bytes.now }
 {
-    bytes.iter().all(|step| *step <= LAST_STEP)
+    let mut good = true;
+    for step in bytes {
+        good = good & (*step <= LAST_STEP);
+    }
+    good
+}
+
+/// How many of at most 1,024 steps go to kids.
+fn to_kids(steps: &[u8]) -> u16
+    requires { length steps.now ≤ 1024 }
+    ensures { result ≡ count_by (λ step. not (step == 0)) steps.now }
+{
+    let mut level: u16 = 0;
+    for step in steps {
+        level += levels_down(*step);
+    }
+    level
 }
 
 /// The byte at an index, where there is one.

@@ -1,10 +1,11 @@
-ghost use Rattle.std.specs.Prelude.{◌≡◌, ◌+◌, ◌≤◌, ◌++◌, OnOk, OnErr, IfOk, IfErr, IfSome, IsSome, IsSomeAnd, option_copied, length, map, [], ⊤, vec_len, vec_capacity};
+ghost use Rattle.std.specs.Prelude.{◌≡◌, ◌+◌, ◌≤◌, ◌++◌, ◌<◌, true, slice_index_or, OnOk, OnErr, IfOk, IfErr, IfSome, IsSome, IsSomeAnd, option_copied, length, map, [], ⊤, vec_len, vec_capacity};
 ghost use Rattle.std.specs.Iterator.{at_most};
 ghost use Rattle.std.specs.Map.Iter.{TakesFirst, deref};
 ghost use Rattle.slab.specs.Slab as slots;
 ghost use Rattle.ids.specs.Named.{Name, item_in, put_in, without_in, changed_in};
 ghost use Rattle.ids.specs.Ordered.{AreInOrder};
 ghost use Rattle.ids.specs.Stored.{items_at, IsFilled, IsFound, IsMissing};
+ghost use Rattle.ids.specs.declared.sorted_map.Entry as declared;
 
 use slab::Slab;
 use std::alloc::{AllocError, Global};
@@ -316,16 +317,45 @@ pub fn item_of<X: Named>(items: &[X], name: (u64, u64)) -> Option<&X>
     }
 }
 
-/// Where the entry of a name stands, and its key; where there is none, where it would stand.
+/// Where the entry of a name stands, and its key; where there is none, where it would stand. Those that came last are looked at first,
+/// since they are what is mostly looked for.
 fn find(entries: &[Entry], name: (u64, u64)) -> Result<(usize, usize), usize>
     requires { AreInOrder (λ e. e.name) entries.now }
     ensures found { IfOk result (λ found. IsFound name entries.now found.0 found.1) }
     ensures missing { IfErr result (λ at. IsMissing name entries.now at) }
 {
+    if let Some(at) = among_last(entries, name) {
+        return Ok((at, entries[at].key));
+    }
     match entries.binary_search_by_key(&name, |entry| entry.name) {
         Ok(at) => Ok((at, entries[at].key)),
         Err(at) => Err(at),
     }
+}
+
+/// Where the entry of a name stands, if it is one of the last three.
+fn among_last(entries: &[Entry], name: (u64, u64)) -> Option<usize>
+    ensures { IfSome result (λ at. (at < length entries.now)
+        × ((d : declared.Entry) → (slice_index_or entries.now at d).name ≡ name)) }
+{
+    let len = entries.len();
+    if 1 <= len && is_of(&entries[len - 1], name) {
+        return Some(len - 1);
+    }
+    if 2 <= len && is_of(&entries[len - 2], name) {
+        return Some(len - 2);
+    }
+    if 3 <= len && is_of(&entries[len - 3], name) {
+        return Some(len - 3);
+    }
+    None
+}
+
+/// Whether an entry is of a name.
+fn is_of(entry: &Entry, name: (u64, u64)) -> bool
+    ensures { result ≡ true → entry.now.name ≡ name }
+{
+    entry.name.0 == name.0 && entry.name.1 == name.1
 }
 
 /// Adds items behind the others, where there is room for them.
@@ -354,7 +384,8 @@ fn put_at<X: Drop>(items: &mut Slab<X>, key: usize, item: X)
 /// Changes the item at a key.
 fn change_at<X: Named, C: ItemChange<X>>(items: &mut Slab<X>, key: usize, change: &C)
     requires { IsSomeAnd (slots.get items.old key) (C.fits change.now) }
-    ensures { IfSome (slots.get items.old key) (λ x. items.new ≡ slots.with_value items.old key (C.changed change.now x)) }
+    ensures { IfSome (slots.get items.old key) (λ x. items.new
+        ≡ slots.with_value items.old key (C.changed change.now x)) }
 {
     match items.get_mut(key) {
         Some(there) => change.apply(there),
@@ -369,7 +400,8 @@ fn try_change_at<X: Named, C: TryItemChange<X>>(
     change: C,
 ) -> Result<(), AllocError>
     requires { IsSomeAnd (slots.get items.old key) (C.fits change) }
-    ensures ok { OnOk result (IfSome (slots.get items.old key) (λ x. items.new ≡ slots.with_value items.old key (C.changed change x))) }
+    ensures ok { OnOk result (IfSome (slots.get items.old key) (λ x. items.new
+        ≡ slots.with_value items.old key (C.changed change x))) }
     ensures err { OnErr result (items.new ≡ items.old) }
 {
     match items.get_mut(key) {

@@ -1,10 +1,10 @@
-ghost use Rattle.std.specs.Prelude.{◌≡◌, ◌≢◌, ◌⊎◌, ◌+◌, ◌^◌, ◌≤◌, true, false, List, [], None, Some, Ok, IfErr, IfOk, IsErrOf, OnErr, OnOk};
+ghost use Rattle.std.specs.Prelude.{◌≡◌, ◌≢◌, ◌⊎◌, ◌+◌, ◌^◌, ◌≤◌, true, false, [], None, Some, Ok, IfErr, IfOk, IsErrOf, OnErr, OnOk};
 ghost use Rattle.disk.specs.Crash.{Only};
 ghost use Rattle.disk.specs.File.{CrashLeaves, bytes_of};
 ghost use Rattle.ids.specs.declared.outcome.Outcome.{Outcome as OutcomeOf};
 ghost use Rattle.checkpoint.specs.Format.{fresh};
-ghost use Rattle.checkpoint.specs.Moments.{KeepsEither};
-ghost use Rattle.checkpoint.specs.Store.{IsRefused, IsSpent, KeepsRecord, ReadsAsStore};
+ghost use Rattle.checkpoint.specs.Moments.{KeepsOldOr};
+ghost use Rattle.checkpoint.specs.Store.{IsRefused, IsSpent, ReadsAsStore, KeepsItself};
 ghost use Rattle.job_store.specs.Kept.{HasFailed, IsCommitted, begun, finished};
 
 use checkpoint::{LastEpoch, Store, StoreError, format};
@@ -18,13 +18,16 @@ use std::alloc::Global;
 pub fn open_store<D: Disk>(alloc: Global, disk: D, job: u64) -> Result<Store<D>, (StoreError, D)>
     ensures opened { IfOk result (λ s. (s.ended ≡ false) × (s.record.job ≡ job)) }
     ensures made { IfOk result (λ s. bytes_of (D.device disk).file ≡ [] → s.record ≡ fresh job) }
-    ensures found { IfOk result (λ s. bytes_of (D.device disk).file ≢ [] → ReadsAsStore (bytes_of (D.device disk).file) s.sequence s.record) }
+    ensures found { IfOk result (λ s. bytes_of (D.device disk).file ≢ []
+        → ReadsAsStore (bytes_of (D.device disk).file) s.sequence s.record) }
 
     // Where a crash leaves what a read gives, it has the store's record, whatever a crash leaves.
-    ensures kept { IfOk result (λ s. Only (bytes_of (D.device disk).file) (CrashLeaves (D.device disk).file) → KeepsRecord (D.device s.disk).file s.sequence s.record) }
+    ensures kept { IfOk result (λ s. Only (bytes_of (D.device disk).file) (CrashLeaves (D.device disk).file)
+        → KeepsItself D.device s) }
     ensures refused { IfErr result (λ e. e.0 ≢ StoreError.Device → IsRefused e.0 (bytes_of (D.device disk).file) job) }
     ensures failed { IfErr result (λ e. e.0 ≡ StoreError.Device → HasFailed (D.device disk) (D.device e.1)) }
-    ensures unchanged { IfErr result (λ e. bytes_of (D.device disk).file ≢ [] → e.0 ≢ StoreError.Device → (D.device e.1).file ≡ (D.device disk).file) }
+    ensures unchanged { IfErr result (λ e. bytes_of (D.device disk).file ≢ [] → e.0 ≢ StoreError.Device
+        → (D.device e.1).file ≡ (D.device disk).file) }
 {
     let mut disk = disk;
     match disk.read(alloc, 1) {
@@ -37,7 +40,7 @@ pub fn open_store<D: Disk>(alloc: Global, disk: D, job: u64) -> Result<Store<D>,
 /// Makes the store of a job on a disk, and opens it. Only the device refuses it.
 fn make_store<D: Disk>(alloc: Global, disk: D, job: u64) -> Result<Store<D>, (StoreError, D)>
     ensures made { IfOk result (λ s. (s.ended ≡ false) × (s.record ≡ fresh job)) }
-    ensures kept { IfOk result (λ s. KeepsRecord (D.device s.disk).file s.sequence s.record) }
+    ensures kept { IfOk result (KeepsItself D.device) }
     ensures refused { IfErr result (λ e. e.0 ≡ StoreError.Device) }
     ensures failed { IfErr result (λ e. HasFailed (D.device disk) (D.device e.1)) }
 {
@@ -51,16 +54,20 @@ fn make_store<D: Disk>(alloc: Global, disk: D, job: u64) -> Result<Store<D>, (St
 /// A run of the job begins: the outcome, where one is kept, and nothing is done; else none, and the next epoch is committed. E62 where no epoch
 /// or no commit is left; E72 where a call of the disk failed, which ends the store.
 pub fn begin_run<D: Disk>(store: &mut Store<D>) -> Result<Option<Outcome>, StoreError>
-    ensures known { (o : OutcomeOf) → store.old.record.outcome ≡ Some o → (result ≡ Ok (Some o)) × (store.new ≡ store.old) }
-    ensures begins { store.old.record.outcome ≡ None → IfOk result (λ known. (known ≡ None) × IsCommitted (begun store.old.record) store.old store.new) }
+    ensures known { (o : OutcomeOf) → store.old.record.outcome ≡ Some o → (result ≡ Ok (Some o))
+        × (store.new ≡ store.old) }
+    ensures begins { store.old.record.outcome ≡ None → IfOk result (λ known. (known ≡ None)
+        × IsCommitted (begun store.old.record) store.old store.new) }
     ensures refused { OnErr result (IsErrOf result StoreError.Spent ⊎ IsErrOf result StoreError.Device) }
     ensures spent { IsErrOf result StoreError.Spent → IsSpent store.old ⊎ (2 ^ 63 ≤ store.old.record.epoch + 1) }
-    ensures failed { IsErrOf result StoreError.Device → (store.old.ended ≡ true) ⊎ HasFailed (D.device store.old.disk) (D.device store.new.disk) }
+    ensures failed { IsErrOf result StoreError.Device → (store.old.ended ≡ true)
+        ⊎ HasFailed (D.device store.old.disk) (D.device store.new.disk) }
     ensures unchanged { IsErrOf result StoreError.Spent → store.new ≡ store.old }
 
     // Where whatever a crash leaves has the current record, it is so after it, and at any moment it has that one or the one of the new epoch.
-    ensures kept { KeepsRecord (D.device store.old.disk).file store.old.sequence store.old.record → OnOk result (KeepsRecord (D.device store.new.disk).file store.new.sequence store.new.record) }
-    ensures either { KeepsRecord (D.device store.old.disk).file store.old.sequence store.old.record → KeepsEither (D.device store.new.disk).file store.old.sequence store.old.record (begun store.old.record) }
+    ensures kept { KeepsItself D.device store.old → OnOk result (KeepsItself D.device store.new) }
+    ensures either { KeepsItself D.device store.old
+        → KeepsOldOr D.device (begun store.old.record) store.old store.new }
 {
     let record = store.record();
     if let Some(outcome) = record.outcome {
@@ -77,15 +84,18 @@ pub fn begin_run<D: Disk>(store: &mut Store<D>) -> Result<Option<Outcome>, Store
 /// failed, which ends the store.
 pub fn keep_outcome<D: Disk>(store: &mut Store<D>, outcome: Outcome) -> Result<Outcome, StoreError>
     ensures known { (o : OutcomeOf) → store.old.record.outcome ≡ Some o → (result ≡ Ok o) × (store.new ≡ store.old) }
-    ensures keeps { store.old.record.outcome ≡ None → IfOk result (λ o. (o ≡ outcome) × IsCommitted (finished outcome store.old.record) store.old store.new) }
+    ensures keeps { store.old.record.outcome ≡ None → IfOk result (λ o. (o ≡ outcome)
+        × IsCommitted (finished outcome store.old.record) store.old store.new) }
     ensures refused { OnErr result (IsErrOf result StoreError.Spent ⊎ IsErrOf result StoreError.Device) }
     ensures spent { IsErrOf result StoreError.Spent → IsSpent store.old }
-    ensures failed { IsErrOf result StoreError.Device → (store.old.ended ≡ true) ⊎ HasFailed (D.device store.old.disk) (D.device store.new.disk) }
+    ensures failed { IsErrOf result StoreError.Device → (store.old.ended ≡ true)
+        ⊎ HasFailed (D.device store.old.disk) (D.device store.new.disk) }
     ensures unchanged { IsErrOf result StoreError.Spent → store.new ≡ store.old }
 
     // Where whatever a crash leaves has the current record, it is so after it, and at any moment it has that one or the one with the outcome.
-    ensures kept { KeepsRecord (D.device store.old.disk).file store.old.sequence store.old.record → OnOk result (KeepsRecord (D.device store.new.disk).file store.new.sequence store.new.record) }
-    ensures either { KeepsRecord (D.device store.old.disk).file store.old.sequence store.old.record → KeepsEither (D.device store.new.disk).file store.old.sequence store.old.record (finished outcome store.old.record) }
+    ensures kept { KeepsItself D.device store.old → OnOk result (KeepsItself D.device store.new) }
+    ensures either { KeepsItself D.device store.old
+        → KeepsOldOr D.device (finished outcome store.old.record) store.old store.new }
 {
     let record = store.record();
     if let Some(kept) = record.outcome {

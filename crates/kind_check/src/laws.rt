@@ -12,7 +12,8 @@ ghost use Rattle.kind_check.specs.Faults.{faults};
 /// turns. Does nothing.
 pub fn equal_programs_are_alike()
     ensures faults { (p q : Program) → EqualProgram p q → faults p ≡ faults q }
-    ensures turns { (p q : Program) → EqualProgram p q → (t : ℕ) (numbers : List ℤ) → turn_of p t numbers ≡ turn_of q t numbers }
+    ensures turns { (p q : Program) → EqualProgram p q → (t : ℕ) (numbers : List ℤ)
+        → turn_of p t numbers ≡ turn_of q t numbers }
     ensures takes { (p q : Program) → EqualProgram p q → (t count : ℕ) → Takes p t count → Takes q t count }
 {}
 
@@ -23,5 +24,6 @@ pub fn accepted_threads_are_few()
 
 /// The holes of a join are numbered from 1 to 8. Does nothing.
 pub fn joins_have_few_holes()
-    ensures { (p : Program) (t : ℕ) (numbers : List ℤ) (s : ℕ) (slots : List Slot) → turn_of p t numbers ≡ Some (Joins s slots) → AllByRecursion HoleFits slots }
+    ensures { (p : Program) (t : ℕ) (numbers : List ℤ) (s : ℕ) (slots : List Slot)
+        → turn_of p t numbers ≡ Some (Joins s slots) → AllByRecursion HoleFits slots }
 {}

@@ -1,4 +1,4 @@
-ghost use Rattle.std.specs.Prelude.{◌≡◌, ◌++◌, [], OnOk, length, take};
+ghost use Rattle.std.specs.Prelude.{◌≡◌, [], OnOk, take};
 ghost use Rattle.kind_check.specs.Turns.{use_of};
 ghost use Rattle.kind_check.specs.Faults.{kind_of, hole_faults, lets_faults, after_names, arguments_faults, after_arguments, call_faults, given_faults, uses_faults, unused_faults, parameters_faults, after_parameters};
 ghost use Rattle.kind_check.specs.Least.{least_with};
@@ -106,7 +106,8 @@ pub fn given(threads: &Threads<'_>, scope: &Scope<'_>, given: &Given, least: &mu
 /// of it.
 #[tactic(auto, using(crate::proofs::Leasts::least_append))]
 fn used_hole(scope: &Scope<'_>, uses: &Uses<'_>, number: usize, hole: &Name, least: &mut Least)
-    ensures { least.new ≡ least_with least.old (hole_faults hole.now.offset (kind_of scope.now hole.now.text) (use_of (take number uses.now.all.now) hole.now.text)) }
+    ensures { least.new ≡ least_with least.old (hole_faults hole.now.offset (kind_of scope.now hole.now.text)
+        (use_of (take number uses.now.all.now) hole.now.text)) }
 {
     match scope.kind(hole.text.as_slice()) {
         None => least.note(hole.offset, KindFault::UnknownName),

@@ -23,7 +23,8 @@ fn block<'a>(
     least: &mut Least,
 ) -> Result<(), AllocError>
     ensures scope { OnOk result (scope.new ≡ scope.old) }
-    ensures least { OnOk result (least.new ≡ least_with least.old (block_faults threads.now.all.now scope.old body.now)) }
+    ensures least { OnOk result (least.new ≡ least_with least.old
+        (block_faults threads.now.all.now scope.old body.now)) }
 {
     let outside = scope.len();
     lets(scope, &body.lets, least)?;
@@ -69,7 +70,9 @@ fn thread(
 /// The name of thread `number`: no thread before it has that name, and there are at most 64.
 #[tactic(auto, using(crate::proofs::Leasts::least_append))]
 fn thread_name(threads: &Threads<'_>, number: usize, name: &Name, least: &mut Least)
-    ensures { least.new ≡ least_with least.old (again_named name.now.offset (thread_named (take number threads.now.all.now) name.now.text) ++ limit_faults name.now.offset number 64) }
+    ensures { least.new ≡ least_with least.old (again_named name.now.offset
+        (thread_named (take number threads.now.all.now) name.now.text)
+        ++ limit_faults name.now.offset number 64) }
 {
     if threads.is_among(number, name.text.as_slice()) {
         least.note(name.offset, KindFault::NameTwice);
@@ -81,7 +84,8 @@ fn thread_name(threads: &Threads<'_>, number: usize, name: &Name, least: &mut Le
 
 /// All threads, in their order.
 fn all_threads(alloc: Global, threads: &Threads<'_>, least: &mut Least) -> Result<(), AllocError>
-    ensures { OnOk result (least.new ≡ least_with least.old (threads_faults threads.now.all.now [] threads.now.all.now)) }
+    ensures { OnOk result (least.new ≡ least_with least.old
+        (threads_faults threads.now.all.now [] threads.now.all.now)) }
 {
     for (i, each) in threads.all.iter().enumerate() {
         thread_name(threads, i, &each.name, least);

@@ -201,7 +201,8 @@ fn take(levels: &mut Vec<Level>, post: &Post) -> bool
     requires { AreLevels levels.old.items }
     ensures taken { all_posts levels.new.items ≡ without_post post.now (all_posts levels.old.items) }
     ensures levels { AreLevels levels.new.items }
-    ensures count { length (all_posts levels.old.items) ≡ length (all_posts levels.new.items) + (if result then 1 else 0) }
+    ensures count { length (all_posts levels.old.items) ≡ length (all_posts levels.new.items) +
+        (if result then 1 else 0) }
 {
     let below = levels_below(levels, post.level);
     if below == levels.len() || levels[below].level() != post.level {

@@ -37,7 +37,8 @@ impl<T> Owner<T> {
     /// Puts a ticket behind all others in the pool. It comes back only where the pool can't grow, out of memory or past its
     /// limits (2^39 tickets at once, 2^62 in all), and never among the first `room` offers.
     pub fn offer(&mut self, ticket: T) -> Result<(), T>
-        ensures pool { (self.new.pool ≡ self.old.pool) × (self.new.workers ≡ self.old.workers) × (self.new.room ≡ self.old.room) }
+        ensures pool { (self.new.pool ≡ self.old.pool) × (self.new.workers ≡ self.old.workers)
+            × (self.new.room ≡ self.old.room) }
         ensures offered { OnOk result (self.new.offered ≡ self.old.offered ++ ticket ∷ []) }
         ensures taken { self.new.taken ≡ self.old.taken }
         ensures refused { IfErr result (λ x. (x ≡ ticket) × (self.new ≡ self.old)) }
@@ -54,7 +55,8 @@ impl<T> Owner<T> {
     /// The oldest ticket of the pool, without waiting and without memory: none more often than it was offered. `None` only
     /// where the pool was empty at one moment of the call.
     pub fn take_own(&mut self) -> Option<T>
-        ensures pool { (self.new.pool ≡ self.old.pool) × (self.new.workers ≡ self.old.workers) × (self.new.room ≡ self.old.room) }
+        ensures pool { (self.new.pool ≡ self.old.pool) × (self.new.workers ≡ self.old.workers)
+            × (self.new.room ≡ self.old.room) }
         ensures offered { self.new.offered ≡ self.old.offered }
         ensures taken { IfSome result (λ x. self.new.taken ≡ self.old.taken ++ x ∷ []) }
         ensures once { IfSome result (λ x. AtMost self.new.taken self.new.offered) }

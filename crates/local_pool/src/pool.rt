@@ -85,7 +85,9 @@ fn deal<T>(deque: &mut Deque<T>, thief: Thief<T>) -> BodyWorker<T>
     requires part { 1 < (worker_view deque.old).parts }
     ensures same { SameWorker deque.old deque.new × (worker_index deque.new ≡ worker_index deque.old) }
     ensures part { (worker_view deque.new).parts + 1 ≡ (worker_view deque.old).parts }
-    ensures kept { ((worker_view deque.new).owners ≡ (worker_view deque.old).owners) × ((worker_view deque.new).offered ≡ (worker_view deque.old).offered) × ((worker_view deque.new).taken ≡ (worker_view deque.old).taken) }
+    ensures kept { ((worker_view deque.new).owners ≡ (worker_view deque.old).owners)
+        × ((worker_view deque.new).offered ≡ (worker_view deque.old).offered)
+        × ((worker_view deque.new).taken ≡ (worker_view deque.old).taken) }
     ensures worker { (result.pool ≡ worker_deque deque.old) × (result.taken ≡ []) }
 {
     let token = deque.another::<Deal>();
@@ -112,7 +114,8 @@ fn gather<T: Drop>(deque: &mut Deque<T>, worker: BodyWorker<T>)
     requires pool { worker.pool ≡ worker_deque deque.old }
     ensures same { SameWorker deque.old deque.new }
     ensures part { (worker_view deque.new).parts ≡ (worker_view deque.old).parts + 1 }
-    ensures kept { ((worker_view deque.new).owners ≡ (worker_view deque.old).owners) × ((worker_view deque.new).offered ≡ (worker_view deque.old).offered) }
+    ensures kept { ((worker_view deque.new).owners ≡ (worker_view deque.old).owners)
+        × ((worker_view deque.new).offered ≡ (worker_view deque.old).offered) }
     ensures taken { (worker_view deque.new).taken ≡ (worker_view deque.old).taken ++ worker.taken }
 {
     let BodyWorker {
@@ -128,8 +131,10 @@ fn gather_all<T: Drop>(deque: &mut Deque<T>, mut workers: Vec<BodyWorker<T>>)
     requires own { All (λ w. w.pool ≡ worker_deque deque.old) workers.items }
     ensures same { SameWorker deque.old deque.new }
     ensures parts { (worker_view deque.new).parts ≡ (worker_view deque.old).parts + vec_len workers }
-    ensures kept { ((worker_view deque.new).owners ≡ (worker_view deque.old).owners) × ((worker_view deque.new).offered ≡ (worker_view deque.old).offered) }
-    ensures taken { SameItems (worker_view deque.new).taken ((worker_view deque.old).taken ++ flat_map (λ w. w.taken) workers.items) }
+    ensures kept { ((worker_view deque.new).owners ≡ (worker_view deque.old).owners)
+        × ((worker_view deque.new).offered ≡ (worker_view deque.old).offered) }
+    ensures taken { SameItems (worker_view deque.new).taken ((worker_view deque.old).taken
+        ++ flat_map (λ w. w.taken) workers.items) }
 {
     while let Some(worker) = workers.pop() {
         gather(deque, worker);
@@ -140,7 +145,8 @@ fn gather_all<T: Drop>(deque: &mut Deque<T>, mut workers: Vec<BodyWorker<T>>)
 fn drain<T>(deque: &mut Deque<T>, left: &mut Vec<T>)
     requires first_in { worker_flavor deque.old ≡ 0 }
     requires whole { ((worker_view deque.old).owners ≡ 1) × ((worker_view deque.old).parts ≡ 1025) }
-    requires room { length (worker_view deque.old).offered - length (worker_view deque.old).taken ≤ vec_capacity left.old }
+    requires room { length (worker_view deque.old).offered - length
+        (worker_view deque.old).taken ≤ vec_capacity left.old }
     requires empty { vec_len left.old ≡ 0 }
     ensures { SameItems (worker_view deque.old).offered ((worker_view deque.old).taken ++ left.new.items) }
 {

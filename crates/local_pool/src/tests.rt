@@ -127,7 +127,8 @@ fn as_many_workers_as_there_may_be(rt: HostRuntime) -> Result<(), Fail> {
 
 /// What the owner and a worker find in turn: nothing, and then two tickets, the older one first.
 fn find(owner: &mut Owner<u64>, worker: &mut BodyWorker<u64>) -> [Option<u64>; 5]
-    ensures { (owner.new.pool ≡ owner.old.pool) × (owner.new.workers ≡ owner.old.workers) × (worker.new.pool ≡ worker.old.pool) }
+    ensures { (owner.new.pool ≡ owner.old.pool) × (owner.new.workers ≡ owner.old.workers)
+        × (worker.new.pool ≡ worker.old.pool) }
 {
     let before = [owner.take_own(), worker.steal()];
     let all = owner.offer(7).is_ok() && owner.offer(8).is_ok();

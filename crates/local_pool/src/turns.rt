@@ -89,7 +89,8 @@ impl<D: Stamped> TurnQueue<D> {
         requires stamp { pass.old.stamp ≡ Some (D.stamp turn) }
         ensures queue { pass.new.queue ≡ pass.old.queue }
         ensures stamp { pass.new.stamp ≡ pass.old.stamp }
-        ensures put { OnOk result ((number : ℕ) × (pass.new.put ≡ pass.old.put ++ (number, turn) ∷ []) × AllBelow number pass.old.put) }
+        ensures put { OnOk result ((number : ℕ) × (pass.new.put ≡ pass.old.put ++ (number, turn) ∷ [])
+            × AllBelow number pass.old.put) }
         ensures taken { pass.new.taken ≡ pass.old.taken }
         ensures refused { IfErr result (λ x. (x ≡ turn) × (pass.new ≡ pass.old)) }
         ensures full { IfErr result (λ x. FoundFull D.stamp self.now pass.old) }
@@ -104,7 +105,8 @@ impl<D: Stamped> TurnQueue<D> {
         ensures queue { pass.new.queue ≡ pass.old.queue }
         ensures stamp { pass.new.stamp ≡ pass.old.stamp }
         ensures alike { IfSome result (λ turn. pass.old.stamp ≡ Some (D.stamp turn)) }
-        ensures taken { IfSome result (λ turn. (number : ℕ) × (pass.new.taken ≡ pass.old.taken ++ (number, turn) ∷ []) × AllBelow number pass.old.taken) }
+        ensures taken { IfSome result (λ turn. (number : ℕ)
+            × (pass.new.taken ≡ pass.old.taken ++ (number, turn) ∷ []) × AllBelow number pass.old.taken) }
         ensures put { pass.new.put ≡ pass.old.put }
         ensures none { IfNone result (pass.new ≡ pass.old) }
         ensures empty { IfNone result (FoundNone D.stamp pass.old) }
@@ -155,7 +157,8 @@ impl<D: Stamped + Drop> TurnQueue<D> {
         requires keeper { keeper.queue ≡ self.queue }
         requires whole { keeper.passes ≡ vec_len passes }
         requires own { All (IsPassOfQueue self) passes.items }
-        ensures ok { IfOk result (λ left. FirstInFirstOut (keeper.put ++ put_by passes.items) (taken_by passes.items) left.items) }
+        ensures ok { IfOk result (λ left. FirstInFirstOut (keeper.put ++ put_by passes.items)
+            (taken_by passes.items) left.items) }
         ensures err { IfErr result (λ r. (r.0 ≡ self) × (r.1 ≡ keeper) × (r.2 ≡ passes)) }
     {
         let Ok(mut left) = Vec::with_capacity(self.alloc, self.line.capacity()) else {
@@ -189,8 +192,11 @@ fn deal<D: Stamped>(line: &Line<D>, keeper: &mut Seat<D>) -> TurnPass<D>
     requires stamp { IsSome (view keeper.old).stamp }
     ensures own { IsPassOf line.now keeper.new }
     ensures part { (view keeper.new).parts + 1 ≡ (view keeper.old).parts }
-    ensures kept { ((view keeper.new).put ≡ (view keeper.old).put) × ((view keeper.new).taken ≡ (view keeper.old).taken) × ((view keeper.new).stamp ≡ (view keeper.old).stamp) }
-    ensures pass { (result.queue ≡ line.now.table.shared.table_id) × (result.put ≡ []) × (result.taken ≡ []) × (result.stamp ≡ (view keeper.old).stamp) }
+    ensures kept { ((view keeper.new).put ≡ (view keeper.old).put)
+        × ((view keeper.new).taken ≡ (view keeper.old).taken)
+        × ((view keeper.new).stamp ≡ (view keeper.old).stamp) }
+    ensures pass { (result.queue ≡ line.now.table.shared.table_id) × (result.put ≡ []) × (result.taken ≡ [])
+        × (result.stamp ≡ (view keeper.old).stamp) }
 {
     let seat = line.another::<DealPass>(keeper);
     TurnPass { seat }

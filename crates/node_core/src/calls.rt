@@ -61,7 +61,8 @@ impl<'a> Node<'a> {
 
     /// The count of the next request; none where as many were made as are counted.
     fn next_seq(&self) -> Option<Count>
-        ensures { result ≡ (if nat_lt (self.now.node.asker.asked + 1) (2 ^ 64) then Some (self.now.node.asker.asked + 1) else None) }
+        ensures { result ≡ (if nat_lt (self.now.node.asker.asked + 1) (2 ^ 64) then Some
+            (self.now.node.asker.asked + 1) else None) }
     {
         let asked = self.parts.asker().asked().checked_add(1)?;
         Count::of(asked)
@@ -81,7 +82,8 @@ impl<'a> Node<'a> {
     ) -> Result<Step, NodeError>
         requires { done.now.program ≡ self.old.job.program }
         ensures answer { Meets (calls.exec self.old.job done.now grant frame self.old.node) result self.old self.new }
-        ensures out_of_memory { IsErrOf result Memory → MayLackMemory (calls.exec self.old.job done.now grant frame self.old.node) }
+        ensures out_of_memory { IsErrOf result Memory → MayLackMemory
+            (calls.exec self.old.job done.now grant frame self.old.node) }
     {
         match self.parts.state() {
             State::Member(_) => {}
@@ -161,7 +163,8 @@ impl<'a> Node<'a> {
 /// clearinghouse always.
 fn address_of(roster: &Roster, own: Incarnation, victim: Victim) -> Option<Actor>
     requires { AreInOrder name_of_member roster.now.members }
-    ensures { (n : NodeOf) → n.incarnation ≡ own → result ≡ (if calls.may_ask roster.now n victim then Some (calls.address_of roster.now victim) else None) }
+    ensures { (n : NodeOf) → n.incarnation ≡ own → result
+        ≡ (if calls.may_ask roster.now n victim then Some (calls.address_of roster.now victim) else None) }
 {
     match victim {
         Victim::Worker(worker) => {

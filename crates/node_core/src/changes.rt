@@ -1,12 +1,10 @@
 //! Changes of a subcomputation: an outcome that comes, a turn, and the end of what isn't wanted any more.
-ghost use Rattle.std.specs.Prelude.{◌≡◌, ◌++◌, Ok, Some, [], ◌∷◌};
+ghost use Rattle.std.specs.Prelude.{◌≡◌, Ok, Some};
 ghost use Rattle.codec.specs.declared.body.Body.TheVariants as body;
 ghost use Rattle.node_state.specs.Parts.{IsMember};
 ghost use Rattle.subcomputation.specs.Subs.{SubOf, sub_in};
 ghost use Rattle.subcomputation.specs.Told.{changed_of};
-ghost use Rattle.node_core.specs.Cases as cases;
-ghost use Rattle.node_core.specs.Choosing.{own_candidate};
-ghost use Rattle.node_core.specs.Meeting.{Meets, MeetsBehind, MayChangeIn, changes_of};
+ghost use Rattle.node_core.specs.Meeting.{MeetsBehind, MayChangeIn, changes_of, MeetsBody};
 
 use crate::error::NodeError;
 use crate::node::Node;
@@ -26,7 +24,7 @@ impl<'a> Node<'a> {
         outcome: TaskResult,
     ) -> Result<Step, NodeError>
         requires { IsMember self.old.node.state }
-        ensures { Meets (cases.on_body self.old.job (own_candidate self.old.posts) (body.Result outcome) self.old.node) result self.old self.new }
+        ensures { MeetsBody (body.Result outcome) result self.old self.new }
     {
         let ack = ResultAck {
             grant: outcome.grant,
@@ -56,7 +54,9 @@ impl<'a> Node<'a> {
         prepared: Prepared,
     ) -> Result<Step, NodeError>
         requires { MayChangeIn self.old grant prepared }
-        ensures { (s : SubOf) → sub_in grant self.old.node.subs ≡ Some s → MeetsBehind before (changes_of self.old.job (changed_of s prepared) self.old.node) result self.old self.new }
+        ensures { (s : SubOf) → sub_in grant self.old.node.subs ≡ Some s
+            → MeetsBehind before (changes_of self.old.job (changed_of s prepared) self.old.node)
+            result self.old self.new }
     {
         let Prepared {
             update,
@@ -88,7 +88,7 @@ impl<'a> Node<'a> {
     #[tactic(auto, unfolding(crate::specs::Cases::on_body, crate::specs::Cases::by_option, node_state::specs::Node::by_state))]
     pub(crate) fn member_abort(&mut self, alloc: Global, abort: Abort) -> Result<Step, NodeError>
         requires { IsMember self.old.node.state }
-        ensures { Meets (cases.on_body self.old.job (own_candidate self.old.posts) (body.Abort abort) self.old.node) result self.old self.new }
+        ensures { MeetsBody (body.Abort abort) result self.old self.new }
     {
         let Some(sub) = self.parts.sub(abort.grant) else {
             return Ok(ignored(alloc));

@@ -1,5 +1,5 @@
 //! A node that leaves: it offers what it holds to its heir, and says that it has left once the heir and its thieves have all.
-ghost use Rattle.std.specs.Prelude.{◌≡◌, ◌++◌, Ok, Some, None, [], ◌∷◌, IfOk, IfErr, IsErrOf, IsTrue, OnOk, not, nat_eq, true, false, map, is_some, ◌&&◌, ◌+◌, if◌then◌else◌};
+ghost use Rattle.std.specs.Prelude.{◌≡◌, ◌++◌, Ok, Some, None, [], ◌∷◌, IfOk, IfErr, IsErrOf, IsTrue, OnOk, not, nat_eq, true, false, map, is_some, ◌&&◌, ◌+◌};
 ghost use Rattle.std.specs.List.{list_any};
 ghost use Rattle.ids.specs.Members.{is_live};
 ghost use Rattle.ids.specs.Naming.{name_of_member};
@@ -9,12 +9,11 @@ ghost use Rattle.codec.specs.declared.body.Body.TheVariants as body;
 ghost use Rattle.codec.specs.declared.body.Roster as declared;
 ghost use Rattle.subcomputation.specs.Subs.{sub_in};
 ghost use Rattle.departure.specs.Freezing.{AllFit, AreMovable, Freezes, refusal};
-ghost use Rattle.node_state.specs.Parts.{IsMember, IsLeaving, IsJoined};
+ghost use Rattle.node_state.specs.Parts.{IsMember, IsLeaving};
 ghost use Rattle.node_state.specs.declared.parts.State.TheVariants.{Member, Leaving};
 ghost use Rattle.node_core.specs.Calls as calls;
 ghost use Rattle.node_core.specs.Cases as cases;
-ghost use Rattle.node_core.specs.Choosing.{own_candidate};
-ghost use Rattle.node_core.specs.Meeting.{MayLackMemory, Meets};
+ghost use Rattle.node_core.specs.Meeting.{MayLackMemory, Meets, MeetsBody};
 ghost use Rattle.node_core.specs.Moves as moves;
 ghost use Rattle.node_core.specs.declared.error.NodeError.TheVariants.{Memory};
 
@@ -57,8 +56,12 @@ impl<'a> Node<'a> {
     /// What is sent where a member leaves to an heir, or why it may not leave.
     fn farewell(&self, alloc: Global, heir: Incarnation) -> Result<Listed<Datagram>, FreezeError>
         requires { IsMember self.now.node.state }
-        ensures answer { (r : declared.Roster) → self.now.node.state ≡ Member r → Freezes (refusal (moves.move_to self.now.job heir self.now.node) (is_some self.now.node.asker.pending) r.members self.now.node.subs) (calls.departs self.now.job r heir self.now.node).sent result }
-        ensures movable { IfOk result (λ _. AreMovable (moves.move_to self.now.job heir self.now.node) self.now.node.subs) }
+        ensures answer { (r : declared.Roster) → self.now.node.state ≡ Member r
+            → Freezes (refusal (moves.move_to self.now.job heir self.now.node)
+            (is_some self.now.node.asker.pending) r.members self.now.node.subs)
+            (calls.departs self.now.job r heir self.now.node).sent result }
+        ensures movable { IfOk result (λ _. AreMovable (moves.move_to self.now.job heir self.now.node)
+            self.now.node.subs) }
         ensures other { IfOk result (λ _. nat_eq heir self.now.node.incarnation ≡ false) }
         ensures silent { IfOk result (λ _. self.now.node.asker.pending ≡ None) }
     {
@@ -110,7 +113,7 @@ impl<'a> Node<'a> {
     ) -> Result<Step, NodeError>
         requires leaving { IsLeaving self.old.node.state }
         requires rising { AreInOrder name_of_member roster.members }
-        ensures { Meets (cases.on_body self.old.job (own_candidate self.old.posts) (body.Roster roster) self.old.node) result self.old self.new }
+        ensures { MeetsBody (body.Roster roster) result self.old self.new }
     {
         let State::Leaving(kept, heir) = self.parts.state() else {
             return Ok(ignored(alloc));
@@ -138,7 +141,7 @@ impl<'a> Node<'a> {
     #[tactic(auto, unfolding(crate::specs::Cases::on_body, steal_protocol::specs::Replies::by_order, node_state::specs::Node::by_state))]
     pub(crate) fn leaving_steal(&mut self, alloc: Global, steal: Steal) -> Result<Step, NodeError>
         requires { IsLeaving self.old.node.state }
-        ensures { Meets (cases.on_body self.old.job (own_candidate self.old.posts) (body.Steal steal) self.old.node) result self.old self.new }
+        ensures { MeetsBody (body.Steal steal) result self.old self.new }
     {
         let State::Leaving(roster, _) = self.parts.state() else {
             return Ok(ignored(alloc));
@@ -159,7 +162,7 @@ impl<'a> Node<'a> {
     #[tactic(auto, unfolding(crate::specs::Cases::on_body, node_state::specs::Node::by_state))]
     pub(crate) fn leaving_grant(&mut self, alloc: Global, grant: Grant) -> Result<Step, NodeError>
         requires { IsLeaving self.old.node.state }
-        ensures { Meets (cases.on_body self.old.job (own_candidate self.old.posts) (body.Grant grant) self.old.node) result self.old self.new }
+        ensures { MeetsBody (body.Grant grant) result self.old self.new }
     {
         self.parts.law_waits_for_nothing();
         self.acknowledge_grant(alloc, grant.grant)
@@ -169,7 +172,7 @@ impl<'a> Node<'a> {
     #[tactic(auto, unfolding(crate::specs::Cases::on_body, node_state::specs::Node::by_state))]
     pub(crate) fn leaving_offer(&mut self, alloc: Global, offer: Offer) -> Result<Step, NodeError>
         requires { IsLeaving self.old.node.state }
-        ensures { Meets (cases.on_body self.old.job (own_candidate self.old.posts) (body.Offer offer) self.old.node) result self.old self.new }
+        ensures { MeetsBody (body.Offer offer) result self.old self.new }
     {
         if self.is_above(&offer) {
             return Ok(ignored(alloc));
@@ -187,7 +190,7 @@ impl<'a> Node<'a> {
         ack: OfferAck,
     ) -> Result<Step, NodeError>
         requires { IsLeaving self.old.node.state }
-        ensures { Meets (cases.on_body self.old.job (own_candidate self.old.posts) (body.OfferAck ack) self.old.node) result self.old self.new }
+        ensures { MeetsBody (body.OfferAck ack) result self.old self.new }
     {
         let State::Leaving(roster, heir) = self.parts.state() else {
             return Ok(ignored(alloc));
@@ -226,7 +229,13 @@ impl<'a> Node<'a> {
     /// A leaving node sends its Leave if nothing is held and nobody awaited any more.
     fn left_behind(&self, alloc: Global, leave: Listed<Datagram>) -> Step
         requires { IsLeaving self.now.node.state }
-        ensures { (r : declared.Roster) (heir : _) → self.now.node.state ≡ Leaving r heir → leave ≡ moves.leave self.now.job self.now.node.incarnation r heir ∷ [] → result ≡ record { sent = moves.leaves self.now.job r heir self.now.node; fills = []; ignored = false } }
+        ensures { (r : declared.Roster) (heir : _) → self.now.node.state ≡ Leaving r heir
+            → leave ≡ moves.leave self.now.job self.now.node.incarnation r heir ∷ []
+            → result ≡ record {
+              sent = moves.leaves self.now.job r heir self.now.node;
+              fills = [];
+              ignored = false;
+            } }
     {
         let State::Leaving(roster, _) = self.parts.state() else {
             return quiet(alloc);
@@ -330,7 +339,8 @@ impl<'a> Node<'a> {
     /// Whether an awaited thief says with an OfferAck of hop 0 that it has its grant.
     fn is_confirmed_by(&self, roster: &Roster, ack: &OfferAck) -> bool
         requires { AreInOrder name_of_member roster.now.members }
-        ensures { result ≡ (nat_eq ack.now.hop 0 && list_any (cases.confirms ack.now) (moves.awaited roster.now self.now.node)) }
+        ensures { result ≡ (nat_eq ack.now.hop 0 && list_any (cases.confirms ack.now)
+            (moves.awaited roster.now self.now.node)) }
     {
         if ack.hop.count() != 0 {
             return false;
@@ -363,7 +373,8 @@ impl<'a> Node<'a> {
         roster: &Roster,
     ) -> Result<SortedMap<Given<'b>>, AllocError>
         requires { AreInOrder name_of_member roster.now.members }
-        ensures { IfOk result (λ given. given ≡ moves.with_given (moves.all_given (moves.awaited roster.now self.now.node)) []) }
+        ensures { IfOk result (λ given. given ≡ moves.with_given
+            (moves.all_given (moves.awaited roster.now self.now.node)) []) }
     {
         let mut given = SortedMap::new(alloc);
         for reply in self.parts.replies().values() {

@@ -1,5 +1,5 @@
 //! Grants: what a victim gives away, and what a thief takes.
-ghost use Rattle.std.specs.Prelude.{◌≡◌, ◌≤◌, ◌<◌, ◌+◌, ◌^◌, nat_lt, if◌then◌else◌, length, Ok, Some, None, [], ◌∷◌, IsTrue, IsSome};
+ghost use Rattle.std.specs.Prelude.{◌≡◌, ◌≤◌, ◌<◌, ◌+◌, ◌^◌, nat_lt, if◌then◌else◌, length, Ok, Some, None, IsTrue};
 ghost use Rattle.codec.specs.declared.body.Body.TheVariants as body;
 ghost use Rattle.node_state.specs.Parts.{IsJoined, IsMember, MayOpenIn};
 ghost use Rattle.subcomputation.specs.Fitting.{Fits, task_fits};
@@ -8,11 +8,10 @@ ghost use Rattle.subcomputation.specs.Subs.{SubOf, sub_in};
 ghost use Rattle.subcomputation.specs.Told.{sub_grant_of};
 ghost use Rattle.node_core.specs.Cases as cases;
 ghost use Rattle.node_core.specs.Choosing.{own_candidate};
-ghost use Rattle.node_core.specs.Meeting.{Meets, gives};
+ghost use Rattle.node_core.specs.Meeting.{Meets, gives, MeetsBody};
 ghost use Rattle.node_core.specs.Moves as moves;
 ghost use Rattle.node_core.specs.Steps.{Does};
 ghost use Rattle.node_state.specs.Node.{hop_in};
-ghost use Rattle.node_state.specs.Posts.{ready_at};
 
 use crate::error::NodeError;
 use crate::node::Node;
@@ -33,7 +32,7 @@ impl<'a> Node<'a> {
     #[tactic(auto, unfolding(crate::specs::Cases::on_body, steal_protocol::specs::Replies::by_order, node_state::specs::Node::by_state))]
     pub(crate) fn member_steal(&mut self, alloc: Global, steal: Steal) -> Result<Step, NodeError>
         requires { IsMember self.old.node.state }
-        ensures { Meets (cases.on_body self.old.job (own_candidate self.old.posts) (body.Steal steal) self.old.node) result self.old self.new }
+        ensures { MeetsBody (body.Steal steal) result self.old self.new }
     {
         let State::Member(roster) = self.parts.state() else {
             return Ok(ignored(alloc));
@@ -54,7 +53,9 @@ impl<'a> Node<'a> {
     /// is ready it is refused.
     fn serve(&mut self, alloc: Global, steal: Steal) -> Result<Step, NodeError>
         requires { IsMember self.old.node.state }
-        ensures { Meets (cases.served self.old.job steal (cases.candidate_in self.old.node (own_candidate self.old.posts)) self.old.node) result self.old self.new }
+        ensures { Meets (cases.served self.old.job steal
+            (cases.candidate_in self.old.node (own_candidate self.old.posts)) self.old.node)
+            result self.old self.new }
     {
         let Some(post) = self.parts.posts().shallowest() else {
             return self.refuse(alloc, steal);
@@ -77,7 +78,8 @@ impl<'a> Node<'a> {
     /// A request is refused.
     pub(crate) fn refuse(&mut self, alloc: Global, steal: Steal) -> Result<Step, NodeError>
         requires { IsJoined self.old.node.state }
-        ensures { Meets (Does (moves.refuses self.old.job steal.from steal.seq self.old.node)) result self.old self.new }
+        ensures { Meets (Does (moves.refuses self.old.job steal.from steal.seq self.old.node))
+            result self.old self.new }
     {
         let packet = Packet::refuse(self.job.number(), steal.from, Refuse { seq: steal.seq });
         let sent = alone(alloc, &packet)?;
@@ -99,9 +101,12 @@ impl<'a> Node<'a> {
         opening: Opening,
     ) -> Result<Step, NodeError>
         requires may { MayOpenIn self.old.node host opening.opened }
-        requires fits { (s : SubOf) → sub_in host self.old.node.subs ≡ Some s → Fits self.old.job.program (opened_in opening.opened s.content) }
+        requires fits { (s : SubOf) → sub_in host self.old.node.subs ≡ Some s
+            → Fits self.old.job.program (opened_in opening.opened s.content) }
         requires task { IsTrue (task_fits self.old.job.program opening.task) }
-        ensures { (s : SubOf) → sub_in host self.old.node.subs ≡ Some s → Meets (Does (gives self.old.job steal name (sub_grant_of s opening) self.old.node)) result self.old self.new }
+        ensures { (s : SubOf) → sub_in host self.old.node.subs ≡ Some s
+            → Meets (Does (gives self.old.job steal name (sub_grant_of s opening) self.old.node))
+            result self.old self.new }
     {
         self.law_fitting_task_is_few(&opening.task);
         let Opening { opened, task } = opening;
@@ -136,7 +141,8 @@ impl<'a> Node<'a> {
 
     /// The name of the next grant that is minted here; none where as many were minted as are counted.
     fn next_grant(&self) -> Option<GrantId>
-        ensures { result ≡ (if nat_lt (self.now.node.minted + 1) (2 ^ 64) then Some (record { minter = self.now.node.incarnation; number = self.now.node.minted + 1 }) else None) }
+        ensures { result ≡ (if nat_lt (self.now.node.minted + 1) (2 ^ 64) then Some
+            (record { minter = self.now.node.incarnation; number = self.now.node.minted + 1 }) else None) }
     {
         let number = self.parts.minted().checked_add(1)?;
         GrantId::of(Actor::worker(self.parts.incarnation()), number)
@@ -147,7 +153,7 @@ impl<'a> Node<'a> {
     #[tactic(auto, unfolding(crate::specs::Cases::on_body, node_state::specs::Node::by_state))]
     pub(crate) fn member_grant(&mut self, alloc: Global, grant: Grant) -> Result<Step, NodeError>
         requires { IsMember self.old.node.state }
-        ensures { Meets (cases.on_body self.old.job (own_candidate self.old.posts) (body.Grant grant) self.old.node) result self.old self.new }
+        ensures { MeetsBody (body.Grant grant) result self.old self.new }
     {
         let is_seen = self.parts.hop(grant.grant).is_some();
         if !is_seen

@@ -32,8 +32,10 @@ impl<'a> Node<'a> {
         number: u64,
         frame: u64,
     ) -> Result<Step, NodeError>
-        ensures answer { Meets (calls.exec_ready self.old.job (record { minter = minter; number = number }) frame self.old.node) result self.old self.new }
-        ensures out_of_memory { IsErrOf result Memory → MayLackMemory (calls.exec_ready self.old.job (record { minter = minter; number = number }) frame self.old.node) }
+        ensures answer { Meets (calls.exec_ready self.old.job (record { minter = minter; number = number })
+            frame self.old.node) result self.old self.new }
+        ensures out_of_memory { IsErrOf result Memory → MayLackMemory
+            (calls.exec_ready self.old.job (record { minter = minter; number = number }) frame self.old.node) }
     {
         match self.named(minter, number, frame) {
             Some((grant, frame)) => self.exec_ready(alloc, grant, frame),
@@ -51,8 +53,10 @@ impl<'a> Node<'a> {
         done: &Done,
     ) -> Result<Step, NodeError>
         requires { done.now.program ≡ self.old.job.program }
-        ensures answer { Meets (calls.exec_ready self.old.job (record { minter = minter; number = number }) frame self.old.node) result self.old self.new }
-        ensures out_of_memory { IsErrOf result Memory → MayLackMemory (calls.exec_ready self.old.job (record { minter = minter; number = number }) frame self.old.node) }
+        ensures answer { Meets (calls.exec_ready self.old.job (record { minter = minter; number = number })
+            frame self.old.node) result self.old self.new }
+        ensures out_of_memory { IsErrOf result Memory → MayLackMemory
+            (calls.exec_ready self.old.job (record { minter = minter; number = number }) frame self.old.node) }
     {
         match self.named(minter, number, frame) {
             Some((grant, frame)) => self.exec_turn(alloc, grant, frame, done),
@@ -65,7 +69,8 @@ impl<'a> Node<'a> {
     fn named(&self, minter: u64, number: u64, frame: u64) -> Option<(GrantId, FrameNo)>
         ensures grant { IfSome result (λ at. at.0 ≡ record { minter = minter; number = number }) }
         ensures frame { IfSome result (λ at. at.1 ≡ frame) }
-        ensures none { IfNone result ((s : SubOf) → sub_in (record { minter = minter; number = number }) self.now.node.subs ≡ Some s → frame_in frame s.content.frames ≡ None) }
+        ensures none { IfNone result ((s : SubOf) → sub_in (record { minter = minter; number = number })
+            self.now.node.subs ≡ Some s → frame_in frame s.content.frames ≡ None) }
     {
         let sub = self.parts.held().get((minter, number))?;
         let frame = frame_named(sub, frame)?;
@@ -86,7 +91,8 @@ impl<'a> Node<'a> {
     /// As `ask`, for a worker by its start word: E60 too for a word that is no worker's.
     pub fn ask_named(&mut self, alloc: Global, word: u64) -> Result<Step, NodeError>
         ensures answer { Meets (calls.ask self.old.job (victim.Worker word) self.old.node) result self.old self.new }
-        ensures out_of_memory { IsErrOf result Memory → LacksMemoryLast (calls.ask self.old.job (victim.Worker word) self.old.node) }
+        ensures out_of_memory { IsErrOf result Memory → LacksMemoryLast
+            (calls.ask self.old.job (victim.Worker word) self.old.node) }
     {
         match Incarnation::worker(word) {
             Some(worker) => self.ask(alloc, Victim::Worker(worker)),
@@ -115,7 +121,8 @@ impl<'a> Node<'a> {
     /// already, E50 where a request is pending, else E53.
     #[tactic(auto, unfolding(node_state::specs::Node::by_state))]
     fn heirless(&self) -> NodeError
-        ensures { result ≡ by_state self.now.node.state NotJoined (λ _. if is_some self.now.node.asker.pending then Pending else NoHeir) (λ _ _. Busy) NotJoined }
+        ensures { result ≡ by_state self.now.node.state NotJoined (λ _.
+            if is_some self.now.node.asker.pending then Pending else NoHeir) (λ _ _. Busy) NotJoined }
     {
         match self.parts.state() {
             State::Joining | State::Ended => NodeError::NotJoined,
@@ -134,7 +141,8 @@ impl<'a> Node<'a> {
     fn law_shows_workers(&self, word: u64)
         requires { is_worker word ≡ false }
         ensures member { (r : declared.Roster) → self.now.node.state ≡ state.Member r → is_live word r.members ≡ false }
-        ensures leaving { (r : declared.Roster) (heir : _) → self.now.node.state ≡ state.Leaving r heir → is_live word r.members ≡ false }
+        ensures leaving { (r : declared.Roster) (heir : _) → self.now.node.state ≡ state.Leaving r heir
+            → is_live word r.members ≡ false }
     {
         self.law_roster_rises();
         match self.parts.state() {

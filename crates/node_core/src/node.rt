@@ -1,19 +1,14 @@
-ghost use Rattle.std.specs.Prelude.{◌≡◌, Some, None, OnOk, IfOk, IfErr, option_copied, IsTrue, true, false, [], ◌∷◌, nat_eq, ◌&&◌};
-ghost use Rattle.ids.specs.Members.{status_in, is_live};
+ghost use Rattle.std.specs.Prelude.{◌≡◌, IfOk, IfErr, IsTrue, false, []};
 ghost use Rattle.ids.specs.Naming.{name_of_member};
 ghost use Rattle.ids.specs.Ordered.{AreInOrder};
 ghost use Rattle.codec.specs.Table.{fits_body};
 ghost use Rattle.codec.specs.declared.body.Roster as declared;
 ghost use Rattle.node_state.specs.declared.parts.State.TheVariants.{Member, Leaving};
-ghost use Rattle.serial_meaning.specs.Job.{meaning_of};
-ghost use Rattle.steal_protocol.specs.declared.asker.Request as asking;
 ghost use Rattle.node_core.specs.Calls as calls;
 ghost use Rattle.node_core.specs.Cases as cases;
 ghost use Rattle.node_core.specs.Choosing.{IsCandidate, own_candidate};
-ghost use Rattle.node_core.specs.Meeting.{Meets};
+ghost use Rattle.node_core.specs.Meeting.{Meets, MeetsBody};
 ghost use Rattle.node_core.specs.declared.error.NodeError.TheVariants.{Memory};
-ghost use Rattle.node_core.specs.Moves as moves;
-ghost use Rattle.node_core.specs.Steps.{Does, quiet};
 
 use crate::error::NodeError;
 use crate::parts::Step;
@@ -81,8 +76,16 @@ impl<'a> Node<'a> {
         job: &'a Job,
         incarnation: Incarnation,
     ) -> Result<(Node<'a>, Step), NodeError>
-        ensures node { IfOk result (λ r. r.0 ≡ record { job = job.now; node = (calls.start job.now incarnation).after; posts = [] }) }
-        ensures step { IfOk result (λ r. r.1 ≡ record { sent = (calls.start job.now incarnation).sent; fills = []; ignored = false }) }
+        ensures node { IfOk result (λ r. r.0 ≡ record {
+          job = job.now;
+          node = (calls.start job.now incarnation).after;
+          posts = [];
+        }) }
+        ensures step { IfOk result (λ r. r.1 ≡ record {
+          sent = (calls.start job.now incarnation).sent;
+          fills = [];
+          ignored = false;
+        }) }
         ensures memory { IfErr result (λ e. e ≡ Memory) }
     {
         let join = Packet::join(job.number(), Join { from: incarnation });
@@ -106,7 +109,8 @@ impl<'a> Node<'a> {
     /// where a request would be granted and no grant is left to mint, E63 where there is no memory. A refusal changes nothing.
     #[tactic(auto, unfolding(crate::specs::Cases::on_packet))]
     pub fn on_bytes(&mut self, alloc: Global, bytes: &[u8]) -> Result<Step, NodeError>
-        ensures { Meets (cases.on_bytes self.old.job (own_candidate self.old.posts) bytes.now self.old.node) result self.old self.new }
+        ensures { Meets (cases.on_bytes self.old.job (own_candidate self.old.posts) bytes.now self.old.node)
+            result self.old self.new }
     {
         let packet = match decode(alloc, bytes) {
             Ok(packet) => packet,
@@ -125,7 +129,7 @@ impl<'a> Node<'a> {
     #[tactic(auto, unfolding(crate::specs::Cases::on_body, node_state::specs::Node::by_state))]
     fn on_body(&mut self, alloc: Global, body: Body) -> Result<Step, NodeError>
         requires { IsTrue (fits_body body) }
-        ensures { Meets (cases.on_body self.old.job (own_candidate self.old.posts) body self.old.node) result self.old self.new }
+        ensures { MeetsBody body result self.old self.new }
     {
         codec::rosters_rise();
         on_case! { self, alloc, body;
@@ -147,7 +151,8 @@ impl<'a> Node<'a> {
     /// The members of the roster that a node has stand by rising incarnation. Does nothing.
     pub(crate) fn law_roster_rises(&self)
         ensures member { (r : declared.Roster) → self.now.node.state ≡ Member r → AreInOrder name_of_member r.members }
-        ensures leaving { (r : declared.Roster) (heir : _) → self.now.node.state ≡ Leaving r heir → AreInOrder name_of_member r.members }
+        ensures leaving { (r : declared.Roster) (heir : _) → self.now.node.state ≡ Leaving r heir
+            → AreInOrder name_of_member r.members }
     {
         let _ = &self.parts;
     }

@@ -1,5 +1,5 @@
 //! Offers that come to a member: what fits is taken, and recovered by the roster that the member has.
-ghost use Rattle.std.specs.Prelude.{◌≡◌, ◌++◌, Ok, Some, None, [], ◌∷◌, IfOk, IfSome, IsTrue, OnOk, true, false};
+ghost use Rattle.std.specs.Prelude.{◌≡◌, Ok, Some, None, [], ◌∷◌, IfOk, IsTrue, true};
 ghost use Rattle.codec.specs.Table as table;
 ghost use Rattle.codec.specs.declared.body.Body.TheVariants as body;
 ghost use Rattle.codec.specs.declared.body.Roster as declared;
@@ -7,11 +7,10 @@ ghost use Rattle.recovery.specs.Told.{AreForeign};
 ghost use Rattle.subcomputation.specs.Fitting.{Fits, progress_fits};
 ghost use Rattle.subcomputation.specs.Subs.{sub_in};
 ghost use Rattle.node_state.specs.Node.{hop_in};
-ghost use Rattle.node_state.specs.Parts.{IsMember, IsJoined, HasNoNewRecord};
+ghost use Rattle.node_state.specs.Parts.{IsMember, HasNoNewRecord};
 ghost use Rattle.node_state.specs.declared.parts.State.TheVariants.{Member};
 ghost use Rattle.node_core.specs.Cases as cases;
-ghost use Rattle.node_core.specs.Choosing.{own_candidate};
-ghost use Rattle.node_core.specs.Meeting.{Meets, MeetsBehind, comes};
+ghost use Rattle.node_core.specs.Meeting.{MeetsBehind, comes, MeetsBody};
 ghost use Rattle.node_core.specs.Moves as moves;
 
 use crate::error::NodeError;
@@ -33,7 +32,7 @@ impl<'a> Node<'a> {
     pub(crate) fn member_offer(&mut self, alloc: Global, offer: Offer) -> Result<Step, NodeError>
         requires member { IsMember self.old.node.state }
         requires fits { IsTrue (table.offer.fits offer) }
-        ensures { Meets (cases.on_body self.old.job (own_candidate self.old.posts) (body.Offer offer) self.old.node) result self.old self.new }
+        ensures { MeetsBody (body.Offer offer) result self.old self.new }
     {
         let sent = self.acknowledged(alloc, &offer)?;
         if !self.is_above(&offer) {
@@ -62,8 +61,10 @@ impl<'a> Node<'a> {
         requires member { IsMember self.old.node.state }
         requires absent { sub_in sub.grant self.old.node.subs ≡ None }
         requires program { Fits self.old.job.program sub.content }
-        requires here { progress_fits self.old.node.incarnation self.old.node.subs sub.content sub.content.progress ≡ true }
-        ensures { (r : declared.Roster) → self.old.node.state ≡ Member r → MeetsBehind before (comes self.old.job r sub self.old.node) result self.old self.new }
+        requires here { progress_fits self.old.node.incarnation self.old.node.subs sub.content sub.content.progress
+            ≡ true }
+        ensures { (r : declared.Roster) → self.old.node.state ≡ Member r
+            → MeetsBehind before (comes self.old.job r sub self.old.node) result self.old self.new }
     {
         let State::Member(roster) = self.parts.state() else {
             return Err(NodeError::Memory);
@@ -81,7 +82,8 @@ impl<'a> Node<'a> {
 
     /// What fits here has no record of what is held here, and none of a grant that was minted here. Does nothing.
     fn law_is_foreign(&self, sub: &Sub)
-        requires { progress_fits self.now.node.incarnation self.now.node.subs sub.now.content sub.now.content.progress ≡ true }
+        requires { progress_fits self.now.node.incarnation self.now.node.subs sub.now.content sub.now.content.progress
+            ≡ true }
         ensures records { AreForeign sub.now.content.records self.now.node.subs }
         ensures minted { HasNoNewRecord self.now.node sub.now }
     {

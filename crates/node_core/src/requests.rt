@@ -5,8 +5,7 @@ ghost use Rattle.ids.specs.Ordered.{AreInOrder};
 ghost use Rattle.codec.specs.declared.body.Body.TheVariants as body;
 ghost use Rattle.node_state.specs.Parts.{IsMember};
 ghost use Rattle.node_core.specs.Cases as cases;
-ghost use Rattle.node_core.specs.Choosing.{own_candidate};
-ghost use Rattle.node_core.specs.Meeting.{Meets};
+ghost use Rattle.node_core.specs.Meeting.{Meets, MeetsBody};
 ghost use Rattle.node_core.specs.Moves as moves;
 ghost use Rattle.node_core.specs.Steps.{Does};
 ghost use Rattle.node_core.specs.Cases.{recovers_by};
@@ -57,7 +56,7 @@ impl<'a> Node<'a> {
     pub(crate) fn member_roster(&mut self, alloc: Global, roster: Roster) -> Result<Step, NodeError>
         requires member { IsMember self.old.node.state }
         requires rising { AreInOrder name_of_member roster.members }
-        ensures { Meets (cases.on_body self.old.job (own_candidate self.old.posts) (body.Roster roster) self.old.node) result self.old self.new }
+        ensures { MeetsBody (body.Roster roster) result self.old self.new }
     {
         let State::Member(kept) = self.parts.state() else {
             return Ok(ignored(alloc));
@@ -100,7 +99,7 @@ impl<'a> Node<'a> {
     #[tactic(auto, unfolding(crate::specs::Cases::on_body, node_state::specs::Node::by_state))]
     pub(crate) fn member_refuse(&mut self, alloc: Global, refuse: Refuse) -> Result<Step, NodeError>
         requires { IsMember self.old.node.state }
-        ensures { Meets (cases.on_body self.old.job (own_candidate self.old.posts) (body.Refuse refuse) self.old.node) result self.old self.new }
+        ensures { MeetsBody (body.Refuse refuse) result self.old self.new }
     {
         if !self.parts.asker().is_pending(refuse.seq) {
             return Ok(ignored(alloc));
@@ -117,7 +116,7 @@ impl<'a> Node<'a> {
         ack: ResultAck,
     ) -> Result<Step, NodeError>
         requires { IsMember self.old.node.state }
-        ensures { Meets (cases.on_body self.old.job (own_candidate self.old.posts) (body.ResultAck ack) self.old.node) result self.old self.new }
+        ensures { MeetsBody (body.ResultAck ack) result self.old self.new }
     {
         let Some(sub) = self.parts.sub(ack.grant) else {
             return Ok(ignored(alloc));

@@ -35,7 +35,8 @@ pub enum News {
 #[tactic(auto, unfolding(crate::specs::Cases::by_roster, crate::specs::Cases::by_status, steal_protocol::specs::Replies::by_order))]
 pub fn news_of(kept: &Roster, new: &Roster, own: Incarnation) -> News
     requires { AreInOrder name_of_member new.now.members }
-    ensures { (n : NodeOf) (answer : Answer) → n.incarnation ≡ own → by_roster kept.now new.now n answer ≡ by_news result n answer }
+    ensures { (n : NodeOf) (answer : Answer) → n.incarnation ≡ own
+        → by_roster kept.now new.now n answer ≡ by_news result n answer }
 {
     if new.epoch.number() < kept.epoch.number() {
         return News::Old;

@@ -1,5 +1,5 @@
 //! Packets on their way.
-ghost use Rattle.std.specs.Prelude.{◌≡◌, ◌++◌, OnOk, IfOk, IsTrue, true, false, [], ◌∷◌, map};
+ghost use Rattle.std.specs.Prelude.{◌≡◌, ◌++◌, OnOk, IfOk, true, false, [], map};
 ghost use Rattle.node_core.specs.Moves as moves;
 ghost use Rattle.node_core.specs.Steps.{fills_of};
 ghost use Rattle.ids.specs.declared.outcome.Progress.TheVariants.{Active, Finished};
@@ -138,7 +138,9 @@ pub fn send_end(
     update: &Update,
 ) -> Result<(), AllocError>
     requires active { sub.now.content.progress ≡ Active }
-    ensures { OnOk result (sent.new ≡ sent.old ++ moves.aborts job.now (dropped_by update.now.work (left_by update.now.leaver sub.now.content)) ++ moves.results job.now from (updated_sub update.now sub.now)) }
+    ensures { OnOk result (sent.new ≡ sent.old ++ moves.aborts job.now
+        (dropped_by update.now.work (left_by update.now.leaver sub.now.content))
+        ++ moves.results job.now from (updated_sub update.now sub.now)) }
 {
     let Replacement::Ends(outcome) = &update.work else {
         return Ok(());

@@ -26,7 +26,8 @@ impl<'a> Node<'a> {
         frame: FrameNo,
     ) -> Result<Step, NodeError>
         ensures answer { Meets (calls.exec_ready self.old.job grant frame self.old.node) result self.old self.new }
-        ensures out_of_memory { IsErrOf result Memory → MayLackMemory (calls.exec_ready self.old.job grant frame self.old.node) }
+        ensures out_of_memory { IsErrOf result Memory → MayLackMemory
+            (calls.exec_ready self.old.job grant frame self.old.node) }
     {
         match self.parts.state() {
             State::Member(_) => {}
@@ -59,7 +60,8 @@ impl<'a> Node<'a> {
     ) -> Result<Step, NodeError>
         requires { done.now.program ≡ self.old.job.program }
         ensures answer { Meets (calls.exec_ready self.old.job grant frame self.old.node) result self.old self.new }
-        ensures out_of_memory { IsErrOf result Memory → MayLackMemory (calls.exec_ready self.old.job grant frame self.old.node) }
+        ensures out_of_memory { IsErrOf result Memory → MayLackMemory
+            (calls.exec_ready self.old.job grant frame self.old.node) }
     {
         if self.is_own(grant, frame, done) {
             self.exec(alloc, grant, frame, done)
@@ -71,7 +73,8 @@ impl<'a> Node<'a> {
     /// Whether a turn is a ready frame's own: carrying the frame out by its own turn is carrying it out by this one then.
     fn is_own(&self, grant: GrantId, frame: FrameNo, done: &Done) -> bool
         requires { done.now.program ≡ self.now.job.program }
-        ensures { result ≡ true → calls.exec_ready self.now.job grant frame self.now.node ≡ calls.exec self.now.job done.now grant frame self.now.node }
+        ensures { result ≡ true → calls.exec_ready self.now.job grant frame self.now.node
+            ≡ calls.exec self.now.job done.now grant frame self.now.node }
     {
         let State::Member(_) = self.parts.state() else {
             return false;

@@ -74,7 +74,8 @@ impl<'a> Node<'a> {
     /// The subcomputations that it holds, by rising grant, each with its state: those of a node that leaves are frozen for its heir.
     /// Refused only when out of memory (E63).
     pub fn subs(&self, alloc: Global) -> Result<Listed<SubView>, NodeError>
-        ensures subs { IfOk result (λ s. s ≡ map (views.view_of (views.heir_of self.now.node.state)) self.now.node.subs) }
+        ensures subs { IfOk result (λ s. s ≡ map (views.view_of (views.heir_of self.now.node.state))
+            self.now.node.subs) }
         ensures memory { IfErr result (λ e. e ≡ Memory) }
     {
         let heir = self.heir();

@@ -54,8 +54,18 @@ impl RunConfig {
     /// A run on so many nodes, 1 to 64, each with so many body workers, 1 to 8, in at most so many turns of all its threads. None for
     /// other counts, and where as many nodes leave as there are or more.
     pub fn new(nodes: u64, bodies: u64, faults: Faults, turns: u64) -> Option<RunConfig>
-        ensures some { IfSome result (λ c. c ≡ record { nodes = nodes; bodies = bodies; faults = faults; turns = turns }) }
-        ensures none { IsSome result ↔ IsConfig (record { nodes = nodes; bodies = bodies; faults = faults; turns = turns }) }
+        ensures some { IfSome result (λ c. c ≡ record {
+          nodes = nodes;
+          bodies = bodies;
+          faults = faults;
+          turns = turns;
+        }) }
+        ensures none { IsSome result ↔ IsConfig (record {
+          nodes = nodes;
+          bodies = bodies;
+          faults = faults;
+          turns = turns;
+        }) }
     {
         if nodes < 1 || nodes > 64 || bodies < 1 || bodies > 8 || faults.departures >= nodes {
             return None;

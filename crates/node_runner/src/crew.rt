@@ -51,7 +51,8 @@ pub(crate) fn contexts<'a, R: Wait>(
     mut pens: Vec<Pen>,
 ) -> Result<(Vec<ActorContext<'a>>, Vec<WorkerContext>), AllocError>
     requires { bodies ≤ 8 }
-    ensures contexts { (c : ChronicleOf) (w : TableOf) → c.job ≡ job.now → All (IsSeatIn c) seats.entry.items → All (IsPenOf w) pens.items → IfOk result (λ r. All (IsContextIn c w) r.0.items) }
+    ensures contexts { (c : ChronicleOf) (w : TableOf) → c.job ≡ job.now → All (IsSeatIn c) seats.entry.items
+        → All (IsPenOf w) pens.items → IfOk result (λ r. All (IsContextIn c w) r.0.items) }
     ensures count { IfOk result (λ r. vec_len r.0 ≡ vec_len seats.entry) }
     ensures workers { IfOk result (λ r. All (IsWorkerOf job.now) r.1.items) }
 {

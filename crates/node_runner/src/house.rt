@@ -119,7 +119,7 @@ fn goes_on<'a, R: Wait, G: Gate + Sync>(
     ensures note { note.new.board ≡ note.old.board }
 {
     let event = Event::AtHouse(event);
-    let Some(committed) = commit(rt, shared.chronicle, shared.counts, seat, event, None) else {
+    let Some(committed) = commit(rt, shared.chronicle, shared.counts, seat, event) else {
         return false;
     };
     if let Some(outcome) = committed.outcome() {

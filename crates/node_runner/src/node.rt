@@ -10,9 +10,9 @@ use crate::inbox::Inbox;
 use crate::members::Members;
 use crate::plans::Plans;
 use crate::resting::{YIELDS, nap, pause, pauses, rest, rest_idle, sleeps};
-use crate::shared::{Shared, commit};
+use crate::shared::{Shared, commit, commit_turn};
 use crate::turn::Evaluated;
-use chronicle::{ActorSeat, Arrived, Receiver};
+use chronicle::{ActorSeat, Arrived, Continued, Receiver};
 use event_script::{Event, NodeEvent, NodePlace};
 use node_core::NodeError;
 use start_words::Pen;
@@ -184,7 +184,7 @@ fn goes_on<'a, R: Wait + Clock, G: Gate + Sync>(
         return delivers(rt, alloc, shared, seat, node, &arrived);
     }
     if let Some(evaluated) = desk.take(rt, shared.chronicle.job().checked()) {
-        return executes(rt, shared, seat, node, &evaluated);
+        return executes(rt, alloc, shared, seat, desk, node, &evaluated);
     }
     if offers(rt, alloc, shared, seat, desk, node) {
         return true;
@@ -242,7 +242,7 @@ fn starts<'a, R: Wait, G: Gate + Sync>(
     node.patience = PATIENCE;
     shared.pace.hears(node.index(), shared.counts.events());
     let event = Event::Start(node.place, word);
-    commit(rt, shared.chronicle, shared.counts, seat, event, None).is_some()
+    commit(rt, shared.chronicle, shared.counts, seat, event).is_some()
 }
 
 /// The node of the place loses its memory, and another one starts. Its tickets are forgotten. Whether there was memory.
@@ -262,13 +262,13 @@ fn crashes<'a, R: Wait, G: Gate + Sync>(
 {
     desk.forgets();
     let event = Event::Crash(node.place);
-    if commit(rt, shared.chronicle, shared.counts, seat, event, None).is_none() {
+    if commit(rt, shared.chronicle, shared.counts, seat, event).is_none() {
         return false;
     }
     starts(rt, shared, seat, pen, node)
 }
 
-/// An event of the node is committed, with a turn that was evaluated, if one was. What was told of it; none where there was no memory.
+/// An event of the node is committed. What was told of it; none where there was no memory.
 fn does<'a, R: Wait, G: Gate + Sync>(
     rt: &R,
     shared: &Shared<'_, 'a, G>,
@@ -280,7 +280,7 @@ fn does<'a, R: Wait, G: Gate + Sync>(
     ensures { IsSeatIn shared.entry.now.chronicle.now seat.new }
 {
     let event = Event::AtNode(node.place, event);
-    let committed = commit(rt, shared.chronicle, shared.counts, seat, event, None)?;
+    let committed = commit(rt, shared.chronicle, shared.counts, seat, event)?;
     node.notes(committed.told);
     Some(committed.told)
 }
@@ -396,29 +396,47 @@ fn offers<'a, R: Wait, G: Gate + Sync>(
     desk.offer(work)
 }
 
-/// A frame of the node is carried out by the turn that a body worker evaluated. Whether there was memory.
+/// A frame of the node is carried out by the turn that a body worker evaluated. A ready frame that is found right behind it is offered to
+/// the workers, if they take one more. Whether there was memory.
 fn executes<'a, R: Wait, G: Gate + Sync>(
     rt: &R,
+    alloc: Global,
     shared: &Shared<'_, 'a, G>,
     seat: &mut ActorSeat<'a>,
+    desk: &mut Desk,
     node: &mut Node,
     evaluated: &Evaluated,
 ) -> bool
     requires seat { IsSeatIn shared.now.chronicle.now seat.old }
     requires own { evaluated.now.turn.program ≡ shared.now.chronicle.now.job.program }
-    ensures { IsSeatIn shared.entry.now.chronicle.now seat.new }
+    ensures seat { IsSeatIn shared.entry.now.chronicle.now seat.new }
+    ensures line { desk.new.line ≡ desk.old.line }
 {
     let event = Event::AtNode(node.place, NodeEvent::Exec(evaluated.frame));
-    let turn = Some(&evaluated.turn);
-    match commit(rt, shared.chronicle, shared.counts, seat, event, turn) {
-        Some(committed) => {
-            node.notes(committed.told);
-            node.dry = 0;
-            node.pauses = 0;
-            true
+    let Some(Continued { committed, next }) = commit_turn(
+        rt,
+        alloc,
+        shared.chronicle,
+        shared.counts,
+        seat,
+        event,
+        &evaluated.turn,
+        node.place,
+        desk.frames(),
+    ) else {
+        return false;
+    };
+    node.notes(committed.told);
+    node.dry = 0;
+    node.pauses = 0;
+    match next {
+        Some(work) if !desk.is_full() => {
+            desk.offer(work);
         }
-        None => false,
+        Some(_) => {}
+        None => node.may_be_ready = false,
     }
+    true
 }
 
 /// The node asks for work, where somebody is listed. Whether it did; none where there was no memory.

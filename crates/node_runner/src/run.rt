@@ -1,8 +1,7 @@
-ghost use Rattle.std.specs.Prelude.{◌≡◌, All, IfOk, IfSome, vec_len};
+ghost use Rattle.std.specs.Prelude.{◌≡◌, All, IfOk, vec_len};
 ghost use Rattle.serial_meaning.specs.Job.{meaning_of};
 ghost use Rattle.chronicle.specs.History.{IsSafeHistory};
-ghost use Rattle.chronicle.specs.Seats.{ChronicleOf, IsSeatIn};
-ghost use Rattle.start_words.specs.Words.{IsPenOf, TableOf};
+ghost use Rattle.chronicle.specs.Seats.{IsSeatIn};
 ghost use Rattle.node_runner.specs.Runs.{IsContextIn, IsRanOf, IsWorkerOf};
 
 use crate::config::RunConfig;

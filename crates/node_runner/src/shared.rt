@@ -1,9 +1,8 @@
-ghost use Rattle.std.specs.Prelude.{◌≡◌, IfSome, Some, option_copied};
+ghost use Rattle.std.specs.Prelude.{◌≡◌, IfSome, Some};
 ghost use Rattle.ids.specs.declared.outcome.Outcome.{Outcome as OutcomeOf};
 ghost use Rattle.serial_meaning.specs.Job.{meaning_of};
 ghost use Rattle.chronicle.specs.History.{outcome_told};
 ghost use Rattle.chronicle.specs.Seats.{IsSeatIn};
-ghost use Rattle.world_steps.specs.Calls.{IsOfJob};
 
 use crate::config::RunConfig;
 use crate::counts::{Counts, End};
@@ -11,9 +10,10 @@ use crate::gate::Gate;
 use crate::pace::Pace;
 use board::Board;
 use body_eval::Done;
-use chronicle::{ActorSeat, Chronicle, Committed};
-use event_script::Event;
+use chronicle::{ActorSeat, Chronicle, Committed, Continued};
+use event_script::{Event, FrameOf, NodePlace};
 use start_words::WordTable;
+use std::alloc::Global;
 use std::sync::Wait;
 
 /// What the actors of a run share.
@@ -28,32 +28,54 @@ pub(crate) struct Shared<'s, 'a, G: Gate + Sync> {
     pub(crate) gate: &'s G,
 }
 
-/// An event of the seat's actor is committed, with a turn that was evaluated before, if one was. None where there is no memory, which
-/// ends the run, or the event isn't the actor's.
+/// An event of the seat's actor is committed. None where there is no memory, which ends the run, or the event isn't the actor's.
 pub(crate) fn commit<'a, R: Wait>(
     rt: &R,
     chronicle: &Chronicle<'a>,
     counts: &Counts,
     seat: &mut ActorSeat<'a>,
     event: Event,
-    turn: Option<&Done>,
 ) -> Option<Committed>
-    requires seat { IsSeatIn chronicle.now seat.old }
-    requires turn { IsOfJob chronicle.now.job (option_copied turn) }
+    requires { IsSeatIn chronicle.now seat.old }
     ensures same { IsSeatIn chronicle.entry.now seat.new }
-    ensures outcome { IfSome result (λ c. (o : OutcomeOf) → outcome_told c.told ≡ Some o → o ≡ meaning_of chronicle.entry.now.job) }
+    ensures outcome { IfSome result (λ c. (o : OutcomeOf) → outcome_told c.told ≡ Some o
+        → o ≡ meaning_of chronicle.entry.now.job) }
 {
     if !seat.owns(&event) {
         return None;
     }
-    let committed = match turn {
-        Some(turn) => chronicle.commit_turn(rt, seat, event, turn),
-        None => chronicle.commit(rt, seat, event),
-    };
-    let Ok(committed) = committed else {
+    let Ok(committed) = chronicle.commit(rt, seat, event) else {
         counts.ends(End::Memory);
         return None;
     };
     counts.commits();
     Some(committed)
+}
+
+/// The same, with a turn that was evaluated before, and with a ready frame of the node of a place that isn't among these, if one is found
+/// right behind the event.
+pub(crate) fn commit_turn<'a, R: Wait>(
+    rt: &R,
+    alloc: Global,
+    chronicle: &Chronicle<'a>,
+    counts: &Counts,
+    seat: &mut ActorSeat<'a>,
+    event: Event,
+    turn: &Done,
+    place: NodePlace,
+    besides: &[FrameOf],
+) -> Option<Continued>
+    requires seat { IsSeatIn chronicle.now seat.old }
+    requires turn { turn.now.program ≡ chronicle.now.job.program }
+    ensures { IsSeatIn chronicle.entry.now seat.new }
+{
+    if !seat.owns(&event) {
+        return None;
+    }
+    let Ok(continued) = chronicle.commit_turn(rt, alloc, seat, event, turn, place, besides) else {
+        counts.ends(End::Memory);
+        return None;
+    };
+    counts.commits();
+    Some(continued)
 }

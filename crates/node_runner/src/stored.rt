@@ -1,6 +1,6 @@
 ghost use Rattle.std.specs.Prelude.{◌≡◌, None, Some, Ok, IfOk, IfSome, OnOk};
 ghost use Rattle.ids.specs.declared.outcome.Outcome.{Outcome as OutcomeOf};
-ghost use Rattle.checkpoint.specs.Store.{KeepsRecord};
+ghost use Rattle.checkpoint.specs.Store.{KeepsItself};
 ghost use Rattle.serial_meaning.specs.Job.{meaning_of};
 ghost use Rattle.node_runner.specs.Stored.{IsStoredOf, LeavesOutcomes};
 
@@ -43,12 +43,14 @@ pub fn run_stored<'a, R: Threads + Wait + Clock + Sync, G: Gate + Sync, D: Disk>
     ensures told { IfOk result (λ s. store.new.record.outcome ≡ Some s.outcome) }
 
     // An outcome that was kept stays, and nothing is written then.
-    ensures known { (o : OutcomeOf) → store.old.record.outcome ≡ Some o → (result ≡ Ok (record { outcome = o; trace = None })) × (store.new ≡ store.old) }
+    ensures known { (o : OutcomeOf) → store.old.record.outcome ≡ Some o
+        → (result ≡ Ok (record { outcome = o; trace = None })) × (store.new ≡ store.old) }
 
     // Where whatever a crash leaves of the disk has the current record, it is so after it; and at any end it is a store of the job without
     // outcome, or with the job's meaning, if it was that before.
-    ensures kept { KeepsRecord (D.device store.old.disk).file store.old.sequence store.old.record → OnOk result (KeepsRecord (D.device store.new.disk).file store.new.sequence store.new.record) }
-    ensures left { KeepsRecord (D.device store.old.disk).file store.old.sequence store.old.record → IfSome store.old.record.outcome (λ o. o ≡ meaning_of job.now)
+    ensures kept { KeepsItself D.device store.old → OnOk result (KeepsItself D.device store.new) }
+    ensures left { KeepsItself D.device store.old
+        → IfSome store.old.record.outcome (λ o. o ≡ meaning_of job.now)
         → LeavesOutcomes (D.device store.new.disk).file store.old.record.job (λ o. o ≡ meaning_of job.now) }
 {
     match begin_run(store) {

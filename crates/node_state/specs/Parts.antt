@@ -3,6 +3,7 @@ use Rattle.std.specs.Prelude.{◌≡◌, ◌+◌, ◌<◌, ◌^◌, ℕ, ◌&&�
 use Rattle.ids.specs.Names.{Grant}
 use Rattle.ids.specs.Place.{level_of}
 use Rattle.ids.specs.declared.work.Record.{Record}
+use Rattle.task_tree.specs.declared.tree.Program.{Program}
 use Rattle.level_deques.specs.declared.posts.Post.{Post}
 use Rattle.victim_records.specs.Records.{record_in}
 use Rattle.sub_rules.specs.Debts.{one_if}
@@ -11,9 +12,12 @@ use Rattle.sub_rules.specs.declared.change.Readied.{Readied}
 use Rattle.steal_protocol.specs.Requests.{AskerOf}
 use Rattle.sub_rules.specs.declared.updates.Update.{Update}
 use Rattle.sub_rules.specs.Updates.{opened_in, updated, MayUpdate}
-use Rattle.subcomputation.specs.Subs.{IsBegun, SubOf, put_sub, sub_in}
+use Rattle.subcomputation.specs.Fitting.{Fits}
+use Rattle.subcomputation.specs.Recovering.{Recovery, recovered}
+use Rattle.subcomputation.specs.Subs.{IsBegun, SubOf, grants_of_subs, put_sub, sub_in}
 use Rattle.subcomputation.specs.Told.{opened_sub, updated_sub}
 use Rattle.subcomputation.specs.declared.sub.ReadiedOf.{ReadiedOf}
+use Rattle.codec.specs.declared.body.Roster.{Roster}
 use Rattle.recovery.specs.Told.{ComesTold}
 use Rattle.node_state.specs.Node.{NodeOf, hop_in}
 use Rattle.node_state.specs.Posts.{ReadyFrame, ready_at, posts_after}
@@ -153,3 +157,11 @@ ready_of g told = map (λ r. record { grant = g; frame = r }) told
 -- a node after a step, with its posts
 abbrev pub with_posts : NodeOf → List ReadiedOf → List Post → PartsOf
 with_posts after became posts = record { node = after; posts = posts_after after became posts }
+
+-- what the recovery of all that a node holds leads to
+abbrev pub recovery_of : Roster → NodeOf → Recovery
+recovery_of roster n = recovered roster.members (grants_of_subs n.subs) n.subs
+
+-- each subcomputation that a node holds fits a program
+abbrev pub EachFits : Program → NodeOf → Type 0
+EachFits p n = (g : Grant) (s : SubOf) → sub_in g n.subs ≡ Some s → Fits p s.content

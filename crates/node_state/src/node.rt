@@ -1,8 +1,6 @@
-ghost use Rattle.std.specs.Prelude.{◌≡◌, ◌<◌, ◌+◌, ◌^◌, ℕ, List, OnOk, OnErr, IfOk, IfSome, IsSome, IsSomeAnd, None, Some, option_copied, is_some, [], refl};
+ghost use Rattle.std.specs.Prelude.{◌≡◌, ◌<◌, ◌+◌, List, OnOk, OnErr, IfOk, IfSome, IsSomeAnd, None, Some, option_copied, is_some, [], refl};
 ghost use Rattle.std.specs.List.{filter};
-ghost use Rattle.ids.specs.declared.member.Status as declared;
-ghost use Rattle.sub_rules.specs.declared.change.Readied as readied;
-ghost use Rattle.subcomputation.specs.Subs.{sub_in, host_in, name_of_sub, put_sub, without_sub, ready_frames, grants_of_subs};
+ghost use Rattle.subcomputation.specs.Subs.{sub_in, host_in, name_of_sub, put_sub, without_sub, ready_frames, IsBegun, SubOf};
 ghost use Rattle.steal_protocol.specs.Requests.{asked, IsAsked, without_request, settled};
 ghost use Rattle.steal_protocol.specs.Replies.{put_reply};
 ghost use Rattle.node_state.specs.Node.{starting, ended, is_confirmed, hop_in, holding, name_of_confirmed, put_confirmed, put_seen, name_of_seen};
@@ -12,18 +10,14 @@ ghost use Rattle.node_state.specs.Posts.{post_of, posted_all, posts_after, ready
 ghost use Rattle.node_state.specs.Stale.{Covers, stale_by, stale_in};
 ghost use Rattle.sub_rules.specs.Changes.{readied_in};
 ghost use Rattle.ids.specs.Naming.{name_of_frame, name_of_grant};
-ghost use Rattle.ids.specs.Names.{Grant};
 ghost use Rattle.ids.specs.Ordered.{AreInOrder};
 ghost use Rattle.ids.specs.Named.{changed_in};
-ghost use Rattle.subcomputation.specs.Subs.{IsBegun, SubOf};
 ghost use Rattle.subcomputation.specs.Told.{opened_sub, updated_sub};
 ghost use Rattle.sub_rules.specs.Updates.{opened_in, updated, MayUpdate};
 ghost use Rattle.node_state.specs.declared.parts.State.TheVariants.{Member, Leaving};
-ghost use Rattle.node_state.specs.Parts.{ArePosts, MayBeMember, MayCome, IsJoined, IsLeaving, IsMember, IsNext, HasNoNewRecord, IsFresh, MayOpenIn, MayUpdateIn, put_some, ready_of, with_posts};
+ghost use Rattle.node_state.specs.Parts.{ArePosts, MayBeMember, MayCome, IsJoined, IsLeaving, IsMember, HasNoNewRecord, MayOpenIn, MayUpdateIn, EachFits, put_some, ready_of, recovery_of, with_posts};
 ghost use Rattle.recovery.specs.Plans.{IsPlan};
 ghost use Rattle.recovery.specs.Told.{AreWhole, IsWhole};
-ghost use Rattle.subcomputation.specs.Recovering.{recovered};
-ghost use Rattle.subcomputation.specs.Fitting.{Fits};
 ghost use Rattle.task_tree.specs.declared.tree.Program.{Program};
 
 use crate::parts::{Confirmed, LastTurn, Seen, Stale, State};
@@ -85,7 +79,6 @@ pub struct Parts {
 }
 
 impl Model for Parts {
-    ghost use Rattle.node_state.specs.Node.{NodeOf};
     ghost use Rattle.node_state.specs.declared.parts.State.TheVariants.{Member};
     ghost use Rattle.node_state.specs.Parts.{PartsOf, AreParts};
 
@@ -234,7 +227,10 @@ impl Parts {
     /// Keeps a roster, as a member's, and forgets a pending request whose victim isn't live by what is said of it.
     pub fn keep_roster(&mut self, roster: Roster, victim: Option<Status>)
         requires { MayBeMember self.old.node.state }
-        ensures { self.new ≡ with_posts (record self.old.node { state = Member roster; asker = settled victim self.old.node.asker }) [] self.old.posts }
+        ensures { self.new ≡ with_posts (record self.old.node {
+          state = Member roster;
+          asker = settled victim self.old.node.asker;
+        }) [] self.old.posts }
     {
         self.state = State::Member(roster);
         self.asker.settle(victim);
@@ -244,7 +240,8 @@ impl Parts {
     pub fn leave(&mut self, heir: Incarnation)
         requires member { IsMember self.old.node.state }
         requires silent { self.old.node.asker.pending ≡ None }
-        ensures { (r : Roster) → self.old.node.state ≡ Member r → self.new ≡ with_posts (record self.old.node { state = Leaving r heir }) [] self.old.posts }
+        ensures { (r : Roster) → self.old.node.state ≡ Member r
+            → self.new ≡ with_posts (record self.old.node { state = Leaving r heir }) [] self.old.posts }
     {
         if let State::Member(roster) = std::mem::replace(&mut self.state, State::Joining) {
             self.state = State::Leaving(roster, heir);
@@ -262,7 +259,9 @@ impl Parts {
 
     /// Notes that a thief has its grant, in the place of the one before; refused only when out of memory, which changes nothing.
     pub fn confirm(&mut self, confirmed: Confirmed) -> Result<(), AllocError>
-        ensures ok { OnOk result (self.new ≡ with_posts (record self.old.node { confirmed = put_confirmed confirmed self.old.node.confirmed }) [] self.old.posts) }
+        ensures ok { OnOk result (self.new
+            ≡ with_posts (record self.old.node { confirmed = put_confirmed confirmed self.old.node.confirmed })
+            [] self.old.posts) }
         ensures err { OnErr result (self.new ≡ self.old) }
     {
         self.confirmed.put(confirmed)?;
@@ -286,8 +285,12 @@ impl Parts {
     ) -> Result<(), AllocError>
         requires member { IsMember self.old.node.state }
         requires plan { IsPlan roster.members self.old.node.subs plan }
-        ensures ok { OnOk result (self.new ≡ with_posts (record self.old.node { state = Member roster; subs = (recovered roster.members (grants_of_subs self.old.node.subs) self.old.node.subs).subs; asker = settled victim self.old.node.asker }) (recovered roster.members (grants_of_subs self.old.node.subs) self.old.node.subs).again self.old.posts) }
-        ensures fits { (p : Program) → ((g : Grant) (s : SubOf) → sub_in g self.old.node.subs ≡ Some s → Fits p s.content) → OnOk result ((g : Grant) (s : SubOf) → sub_in g self.new.node.subs ≡ Some s → Fits p s.content) }
+        ensures ok { OnOk result (self.new ≡ with_posts (record self.old.node {
+          state = Member roster;
+          subs = (recovery_of roster self.old.node).subs;
+          asker = settled victim self.old.node.asker;
+        }) (recovery_of roster self.old.node).again self.old.posts) }
+        ensures fits { (p : Program) → EachFits p self.old.node → OnOk result (EachFits p self.new.node) }
         ensures err { OnErr result (self.new ≡ self.old) }
     {
         let posts = posted_again(&self.posts, plan.again())?;
@@ -315,7 +318,11 @@ impl Parts {
         requires member { IsMember self.old.node.state }
         requires absent { sub_in grant self.old.node.subs ≡ None }
         requires comes { MayCome self.old.node grant ready.now after }
-        ensures ok { OnOk result (self.new ≡ with_posts (record self.old.node { subs = put_some after self.old.node.subs; seen = put_seen grant hop self.old.node.seen }) (ready_of grant ready.now) self.old.posts) }
+        ensures ok { OnOk result (self.new
+            ≡ with_posts (record self.old.node {
+              subs = put_some after self.old.node.subs;
+              seen = put_seen grant hop self.old.node.seen;
+            }) (ready_of grant ready.now) self.old.posts) }
         ensures err { OnErr result (self.new ≡ self.old) }
     {
         let posts = posted(&self.posts, grant, ready)?;
@@ -350,14 +357,17 @@ impl Parts {
 
     /// The request has its answer.
     pub fn clear_request(&mut self)
-        ensures { self.new ≡ with_posts (record self.old.node { asker = without_request self.old.node.asker }) [] self.old.posts }
+        ensures { self.new
+            ≡ with_posts (record self.old.node { asker = without_request self.old.node.asker }) [] self.old.posts }
     {
         self.asker.clear();
     }
 
     /// Keeps an answer to a thief; refused only when out of memory, which changes nothing.
     pub fn answer(&mut self, reply: Reply) -> Result<(), AllocError>
-        ensures ok { OnOk result (self.new ≡ with_posts (record self.old.node { replies = put_reply reply self.old.node.replies }) [] self.old.posts) }
+        ensures ok { OnOk result (self.new
+            ≡ with_posts (record self.old.node { replies = put_reply reply self.old.node.replies })
+            [] self.old.posts) }
         ensures err { OnErr result (self.new ≡ self.old) }
     {
         self.replies.keep(reply)?;
@@ -373,7 +383,10 @@ impl Parts {
         ready: &[Readied],
     ) -> Result<(), AllocError>
         requires { MayUpdateIn self.old.node grant update ready.now }
-        ensures ok { (s : SubOf) → sub_in grant self.old.node.subs ≡ Some s → OnOk result (self.new ≡ with_posts (record self.old.node { subs = put_sub (updated_sub update s) self.old.node.subs }) (ready_of grant ready.now) self.old.posts) }
+        ensures ok { (s : SubOf) → sub_in grant self.old.node.subs ≡ Some s
+            → OnOk result (self.new
+            ≡ with_posts (record self.old.node { subs = put_sub (updated_sub update s) self.old.node.subs })
+            (ready_of grant ready.now) self.old.posts) }
         ensures err { OnErr result (self.new ≡ self.old) }
     {
         let mut turn = LastTurn::none();
@@ -399,7 +412,12 @@ impl Parts {
     /// record stands in its place. Keeps the answer to the thief. Refused only when out of memory, which changes nothing.
     pub fn give(&mut self, grant: GrantId, opened: Record, reply: Reply) -> Result<(), AllocError>
         requires { MayOpenIn self.old.node grant opened }
-        ensures ok { (s : SubOf) → sub_in grant self.old.node.subs ≡ Some s → OnOk result (self.new ≡ with_posts (record self.old.node { minted = self.old.node.minted + 1; subs = put_sub (opened_sub opened s) self.old.node.subs; replies = put_reply reply self.old.node.replies }) [] self.old.posts) }
+        ensures ok { (s : SubOf) → sub_in grant self.old.node.subs ≡ Some s
+            → OnOk result (self.new ≡ with_posts (record self.old.node {
+              minted = self.old.node.minted + 1;
+              subs = put_sub (opened_sub opened s) self.old.node.subs;
+              replies = put_reply reply self.old.node.replies;
+            }) [] self.old.posts) }
         ensures err { OnErr result (self.new ≡ self.old) }
     {
         // (a frame that is given away takes no turn)
@@ -420,7 +438,9 @@ impl Parts {
         requires never { hop_in sub.grant self.old.node.seen ≡ None }
         requires ready { ready.now ≡ readied_in sub.content.frames }
         requires records { HasNoNewRecord self.old.node sub }
-        ensures ok { OnOk result (self.new ≡ with_posts (holding sub (record self.old.node { asker = without_request self.old.node.asker })) (ready_frames sub) self.old.posts) }
+        ensures ok { OnOk result (self.new ≡ with_posts (holding sub
+            (record self.old.node { asker = without_request self.old.node.asker })) (ready_frames sub)
+            self.old.posts) }
         ensures err { OnErr result (self.new ≡ self.old) }
     {
         let posts = posted(&self.posts, sub.grant(), ready)?;
@@ -435,7 +455,8 @@ impl Parts {
     /// The subcomputation of a grant goes.
     pub fn remove(&mut self, grant: GrantId)
         requires { IsJoined self.old.node.state }
-        ensures { self.new ≡ with_posts (record self.old.node { subs = without_sub grant self.old.node.subs }) [] self.old.posts }
+        ensures { self.new ≡ with_posts (record self.old.node { subs = without_sub grant self.old.node.subs })
+            [] self.old.posts }
     {
         self.subs.take(name_of(grant));
         withdraw_stale(&mut self.posts, &self.subs);
@@ -548,7 +569,8 @@ fn post_ready(posts: &mut Posts, grant: GrantId, ready: &[Readied]) -> Result<()
 
 /// Takes posts back that were the last to come. Takes no memory.
 fn take_back(posts: &mut Posts, grant: GrantId, ready: &[Readied])
-    ensures { (before : List Post) → IsByLevel before → posts.old ≡ posted_all (ready_of grant ready.now) before → posts.new ≡ before }
+    ensures { (before : List Post) → IsByLevel before → posts.old ≡ posted_all (ready_of grant ready.now) before
+        → posts.new ≡ before }
 {
     let mut count = ready.len();
     while 0 < count {

@@ -163,10 +163,10 @@ turn_spent job run post d t first program refused = record {
   spent = spent_is (turned t.frame d.turn run.content) (sym (carried_is run.content post.frame d t) ∙ refused);
 }
 
-pub turn_fails : (job : JobOf) (run : RunOf) (post : Post) (d : DoneOf) (t : IsTurnOf run.content post.frame d) (e : RunFault) → deepest run.posts ≡ Some post → d.program ≡ job.program → IsCarried (exec_content d post.frame run.content) (Err e) → TurnFails job run e
-turn_fails job run post d t TurnsSpent first program refused = refused
-turn_fails job run post d t NumbersSpent first program refused = turn_spent job run post d t first program refused
-turn_fails job run post d t Memory first program refused = tt
+pub turn_fails : (job : JobOf) (run : RunOf) (post : Post) (d : DoneOf) (t : IsTurnOf run.content post.frame d) (e : RunFault) → deepest run.posts ≡ Some post → d.program ≡ job.program → (after : Content) → IsCarried (exec_content d post.frame run.content) after (Err e) → TurnFails job run e
+turn_fails job run post d t TurnsSpent first program after refused = refused
+turn_fails job run post d t NumbersSpent first program after refused = turn_spent job run post d t first program refused
+turn_fails job run post d t Memory first program after refused = tt
 
 -- a run that goes on has a next turn
 pub has_turn : (job : JobOf) (run : RunOf) → Holds job run → IsSome (one_turn job.program run)

@@ -12,6 +12,7 @@ use Rattle.serial_meaning.specs.Job.{JobOf, IsJob}
 use Rattle.frames.specs.Frames.{frame_in}
 use Rattle.level_deques.specs.declared.posts.Post.{Post}
 use Rattle.sub_rules.specs.declared.change.ContentChange.{ContentChange}
+use Rattle.sub_rules.specs.declared.change.Readied.{Readied}
 use Rattle.sub_rules.specs.declared.change.SubError.{SubError}
 use Rattle.sub_rules.specs.declared.change.SubError.TheVariants.{Spent}
 use Rattle.sub_rules.specs.declared.content.Content.{Content}
@@ -81,9 +82,16 @@ TurnFails job run TurnsSpent = ⊥
 TurnFails job run NumbersSpent = IsSpent job run
 TurnFails job run Memory = Unit {0}
 
+-- a change that was to be made leads to this content, and to these ready frames
+pub record LeadsTo (expected : Result ContentChange SubError) (after : Content) (ready : List Readied) : Type 0 where
+  pub change : ContentChange
+  pub done : expected ≡ Ok change
+  pub led : change.after ≡ after
+  pub told : change.ready ≡ ready
+
 -- a frame's turn that is carried out, or needs too great a number
-abbrev pub IsCarried : Result ContentChange SubError → Result ContentChange RunFault → Type 0
-IsCarried expected (Ok change) = expected ≡ Ok change
-IsCarried expected (Err TurnsSpent) = ⊥
-IsCarried expected (Err NumbersSpent) = expected ≡ Err Spent
-IsCarried expected (Err Memory) = Unit {0}
+abbrev pub IsCarried : Result ContentChange SubError → Content → Result (List Readied) RunFault → Type 0
+IsCarried expected after (Ok ready) = LeadsTo expected after ready
+IsCarried expected after (Err TurnsSpent) = ⊥
+IsCarried expected after (Err NumbersSpent) = expected ≡ Err Spent
+IsCarried expected after (Err Memory) = Unit {0}

@@ -1,6 +1,5 @@
-ghost use Rattle.std.specs.Prelude.{◌≡◌, IfOk, Some, [], map};
+ghost use Rattle.std.specs.Prelude.{◌≡◌, IfOk, Some, []};
 ghost use Rattle.ids.specs.Names.{house_of};
-ghost use Rattle.sub_rules.specs.Content.{granted_content};
 ghost use Rattle.agreement.specs.Agreement.{TaskAgrees};
 ghost use Rattle.one_node.specs.Runs.{own_grant, post_of, root_task, run_of, start_of};
 ghost use Rattle.one_node.specs.Holding.{Holds};

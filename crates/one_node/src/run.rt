@@ -30,7 +30,7 @@ pub fn evaluate_counted<C: CountsTurns>(
     finished_roots_mean();
     let mut run = begun(alloc, job)?;
     for taken in 0..turns {
-        run = turn(alloc, job, run, counter)?;
+        turn(alloc, job, &mut run, counter)?;
         if let Progress::Finished(outcome) = run.content.progress {
             return Ok(outcome);
         }

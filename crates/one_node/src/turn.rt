@@ -1,4 +1,4 @@
-ghost use Rattle.std.specs.Prelude.{◌≡◌, IfErr, IfOk, IsSome, OnOk, Some};
+ghost use Rattle.std.specs.Prelude.{◌≡◌, IfErr, IfOk, OnOk, Some};
 ghost use Rattle.sub_rules.specs.Carrying.{exec_content};
 ghost use Rattle.sub_rules.specs.Debts.{IsSound};
 ghost use Rattle.one_node.specs.Runs.{one_turn, posted_readied, run_of};
@@ -8,40 +8,34 @@ use crate::begin::{Run, post_of};
 use crate::fault::RunFault;
 use agreement::turn_keeps_agreement;
 use body_eval::Done;
-use ids::FrameNo;
+use ids::{FrameNo, Listed};
 use level_deques::Posts;
 use serial_meaning::{CountsTurns, Job};
 use std::alloc::{AllocError, Global};
-use sub_rules::{Content, ContentChange, Readied, SubError, exec, numbers_in};
+use sub_rules::{Content, Prepared, Readied, SubError, numbers_in, prepare_exec};
 
-/// One turn of a run that goes on: the newest ready frame of the greatest level runs, and is counted.
+/// One turn of a run that goes on, where it stands: the newest ready frame of the greatest level runs, and is counted.
 pub fn turn<C: CountsTurns>(
     alloc: Global,
     job: &Job,
-    run: Run,
+    run: &mut Run,
     counter: &mut C,
-) -> Result<Run, RunFault>
-    requires { Holds job.now (run_of run) }
-    ensures next { IfOk result (λ next. one_turn job.now.program (run_of run) ≡ Some (run_of next)) }
-    ensures follows { IfOk result (λ next. Follows job.now (run_of next)) }
-    ensures fails { IfErr result (TurnFails job.now (run_of run)) }
+) -> Result<(), RunFault>
+    requires { Holds job.now (run_of run.old) }
+    ensures next { OnOk result (one_turn job.now.program (run_of run.old) ≡ Some (run_of run.new)) }
+    ensures follows { OnOk result (Follows job.now (run_of run.new)) }
+    ensures fails { IfErr result (TurnFails job.now (run_of run.old)) }
 {
-    let Run { content, posts } = run;
-    content.frames.law_stand_in_order();
-    let newest = posts.deepest().unwrap();
-    let frame = newest.frame;
-    let done = evaluated(alloc, job, &content, frame)?;
+    run.content.frames.law_stand_in_order();
+    let newest = run.posts.deepest().unwrap();
+    let done = evaluated(alloc, job, &run.content, newest.frame)?;
     counter.counts(done.thread(), newest.level);
-    let ContentChange { after, ready, .. } = carried(alloc, content, frame, &done)?;
-    after.frames.law_stand_in_order();
+    let ready = carry_out(alloc, &mut run.content, newest.frame, &done)?;
+    run.content.frames.law_stand_in_order();
     turn_keeps_agreement();
-    let mut posts = posts;
-    posts.take(&newest);
-    post_all(&mut posts, ready.as_slice())?;
-    Ok(Run {
-        content: after,
-        posts,
-    })
+    run.posts.take(&newest);
+    post_all(&mut run.posts, ready.as_slice())?;
+    Ok(())
 }
 
 /// The turn of a frame that is ready.
@@ -60,24 +54,27 @@ fn evaluated(
     Done::of(alloc, job.checked(), frame.thread, numbers.into_vec())
 }
 
-/// Carries out a frame by a turn of it.
-fn carried(
+/// Carries out a frame by a turn of it, where its content stands. The frames that became ready.
+fn carry_out(
     alloc: Global,
-    content: Content,
+    content: &mut Content,
     frame: FrameNo,
     done: &Done,
-) -> Result<ContentChange, RunFault>
-    requires sound { IsSound content }
-    requires turn { IsTurnOf content frame done.now }
-    ensures answer { IsCarried (exec_content done.now frame content) result }
-    ensures sound { IfOk result (λ change. IsSound change.after) }
+) -> Result<Listed<Readied>, RunFault>
+    requires sound { IsSound content.old }
+    requires turn { IsTurnOf content.old frame done.now }
+    ensures answer { IsCarried (exec_content done.now frame content.old) content.new result }
+    ensures sound { OnOk result (IsSound content.new) }
 {
-    match exec(alloc, content, frame, done) {
-        Ok(change) => Ok(change),
-        Err(SubError::Spent) => Err(RunFault::NumbersSpent),
-        Err(SubError::Memory) => Err(RunFault::Memory),
+    let prepared = match prepare_exec(alloc, content, frame, done) {
+        Ok(prepared) => prepared,
+        Err(SubError::Spent) => return Err(RunFault::NumbersSpent),
+        Err(SubError::Memory) => return Err(RunFault::Memory),
         Err(SubError::Stale) => unreachable!(),
-    }
+    };
+    let Prepared { update, ready, .. } = prepared;
+    content.update(alloc, update)?;
+    Ok(ready)
 }
 
 /// Posts frames that became ready, in this order.

@@ -327,7 +327,8 @@ fn stolen(next: &FrameNo, last: Option<GrantId>, value: &Record) -> bool
 
 /// Records by rising grant.
 fn each_record(next: &FrameNo, records: &[Record]) -> bool
-    ensures { result ≡ (items field.grant_of_record (field.stolen next.now) None (length records.now)).fits records.now }
+    ensures { result ≡ (items field.grant_of_record (field.stolen next.now) None
+        (length records.now)).fits records.now }
 {
     let mut last = None;
     for value in records {

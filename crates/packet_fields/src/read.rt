@@ -2,17 +2,16 @@
 //! bytes end inside the field, E35 where it is outside its range or out of order, E9 where there is no memory. After a
 //! refusal it is open how much was read. Only readers of lists take memory, each for what the bytes back, and for a list
 //! once.
-ghost use Rattle.std.specs.Prelude.{◌≡◌, ◌<◌, [], ◌∷◌, nat_lt, IfOk, Some, None};
-ghost use Rattle.std.specs.List.{list_all};
+ghost use Rattle.std.specs.Prelude.{◌≡◌, ◌<◌, [], IfOk, Some, None};
 ghost use Rattle.packet_fields.specs.Format.{Gives, Reads, checked, items, number, plain};
 ghost use Rattle.packet_fields.specs.Fields as field;
 
 use crate::fault::{Fault, ReadError};
 use crate::input::Input;
-use ids::limits::{LAST_STEP, MOST_MEMBERS, MOST_NUMBERS, MOST_SLOTS, MOST_STEPS, MOST_THREADS};
+use ids::limits::{MOST_MEMBERS, MOST_NUMBERS, MOST_SLOTS, MOST_STEPS, MOST_THREADS};
 use ids::{
     Actor, Count, Epoch, Frame, FrameNo, GrantId, Hop, Incarnation, Listed, Member, Outcome, Place,
-    Progress, Record, Return, Status, Task,
+    Progress, Record, Return, Status, Task, are_steps,
 };
 use std::alloc::AllocError;
 
@@ -145,13 +144,6 @@ pub fn grant(input: &mut Input<'_>) -> Result<GrantId, Fault>
     GrantId::of(minter, number.number()).ok_or(Fault::Field)
 }
 
-/// Whether each byte is a step.
-fn are_steps(bytes: &[u8]) -> bool
-    ensures { result ≡ list_all (λ step. nat_lt step 9) bytes.now }
-{
-    bytes.iter().all(|step| *step <= LAST_STEP)
-}
-
 /// So many steps, as they lie in the bytes.
 pub(crate) fn steps<'a>(count: u16, input: &mut Input<'a>) -> Result<&'a [u8], Fault>
     ensures { Reads (λ x. (x.now, input.new)) result ((plain field.step count).read input.old) }
@@ -178,8 +170,7 @@ pub fn place(input: &mut Input<'_>) -> Result<Place, ReadError>
         return Err(ReadError::Fault(Fault::Field));
     }
     let steps = steps(count, input)?;
-    let steps = Listed::from_vec(Vec::from_slice(input.alloc(), steps)?);
-    Place::of(steps).ok_or(ReadError::Fault(Fault::Field))
+    Place::copy_of(input.alloc(), steps)?.ok_or(ReadError::Fault(Fault::Field))
 }
 
 /// The number of a thread, below 64.
@@ -392,7 +383,8 @@ pub(crate) fn number_behind(
     last: Option<FrameNo>,
     input: &mut Input<'_>,
 ) -> Result<FrameNo, Fault>
-    ensures { Reads (λ x. (x, input.new)) result ((checked (field.below next.now) (field.is_above last)).read input.old) }
+    ensures { Reads (λ x. (x, input.new)) result
+        ((checked (field.below next.now) (field.is_above last)).read input.old) }
 {
     let number = below(next, input)?;
     if let Some(last) = last {
@@ -417,7 +409,8 @@ fn frame(next: &FrameNo, last: Option<FrameNo>, input: &mut Input<'_>) -> Result
 }
 
 fn frames_of(next: &FrameNo, count: u32, input: &mut Input<'_>) -> Result<Listed<Frame>, ReadError>
-    ensures { Gives (λ x. (x, input.new)) result ((items field.number_of_frame (field.frame next.now) None count).read input.old) }
+    ensures { Gives (λ x. (x, input.new)) result
+        ((items field.number_of_frame (field.frame next.now) None count).read input.old) }
 {
     let mut frames = with_room(count as usize, LEAST_FRAME, input)?;
     let mut last = None;
@@ -484,7 +477,8 @@ fn records_of(
     count: u32,
     input: &mut Input<'_>,
 ) -> Result<Listed<Record>, ReadError>
-    ensures { Gives (λ x. (x, input.new)) result ((items field.grant_of_record (field.stolen next.now) None count).read input.old) }
+    ensures { Gives (λ x. (x, input.new)) result
+        ((items field.grant_of_record (field.stolen next.now) None count).read input.old) }
 {
     let mut records = with_room(count as usize, LEAST_RECORD, input)?;
     let mut last = None;

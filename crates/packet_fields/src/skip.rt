@@ -1,6 +1,6 @@
 //! Passing over fields: each answers the first fault, as its reader in `read` does, or leaves the bytes behind the field; no
 //! memory is taken. A field that other fields depend on is answered, and so is one that has a fixed size.
-ghost use Rattle.std.specs.Prelude.{◌≡◌, None};
+ghost use Rattle.std.specs.Prelude.{None};
 ghost use Rattle.packet_fields.specs.Format.{Reads, end_of, items, keeping, plain};
 ghost use Rattle.packet_fields.specs.Fields as field;
 
@@ -90,7 +90,8 @@ fn member(last: Option<Incarnation>, input: &mut Input<'_>) -> Result<Incarnatio
 }
 
 fn members_of(count: u16, input: &mut Input<'_>) -> Result<(), Fault>
-    ensures { Reads (λ _. input.new) result (end_of ((items field.name_of_member field.member None count).read input.old)) }
+    ensures { Reads (λ _. input.new) result
+        (end_of ((items field.name_of_member field.member None count).read input.old)) }
 {
     let mut last = None;
     for _ in 0..count {
@@ -115,7 +116,8 @@ pub fn members(input: &mut Input<'_>) -> Result<(), Fault>
 /// A frame behind the last one: its number.
 #[tactic(auto, unfolding(crate::specs::Fields::frame))]
 fn frame(next: &FrameNo, last: Option<FrameNo>, input: &mut Input<'_>) -> Result<FrameNo, Fault>
-    ensures { Reads (λ x. (x, input.new)) result (keeping field.number_of_frame ((field.frame next.now last).read input.old)) }
+    ensures { Reads (λ x. (x, input.new)) result (keeping field.number_of_frame
+        ((field.frame next.now last).read input.old)) }
 {
     let number = number_behind(next, last, input)?;
     place(input)?;
@@ -126,7 +128,8 @@ fn frame(next: &FrameNo, last: Option<FrameNo>, input: &mut Input<'_>) -> Result
 }
 
 fn frames_of(next: &FrameNo, count: u32, input: &mut Input<'_>) -> Result<(), Fault>
-    ensures { Reads (λ _. input.new) result (end_of ((items field.number_of_frame (field.frame next.now) None count).read input.old)) }
+    ensures { Reads (λ _. input.new) result
+        (end_of ((items field.number_of_frame (field.frame next.now) None count).read input.old)) }
 {
     let mut last = None;
     for _ in 0..count {
@@ -148,7 +151,8 @@ pub fn frames(progress: &Progress, next: &FrameNo, input: &mut Input<'_>) -> Res
 /// A record behind the last one: its grant.
 #[tactic(auto, unfolding(crate::specs::Fields::stolen))]
 fn stolen(next: &FrameNo, last: Option<GrantId>, input: &mut Input<'_>) -> Result<GrantId, Fault>
-    ensures { Reads (λ x. (x, input.new)) result (keeping field.grant_of_record ((field.stolen next.now last).read input.old)) }
+    ensures { Reads (λ x. (x, input.new)) result (keeping field.grant_of_record
+        ((field.stolen next.now last).read input.old)) }
 {
     let grant = grant_behind(last, input)?;
     worker(input)?;
@@ -159,7 +163,8 @@ fn stolen(next: &FrameNo, last: Option<GrantId>, input: &mut Input<'_>) -> Resul
 }
 
 fn records_of(next: &FrameNo, count: u32, input: &mut Input<'_>) -> Result<(), Fault>
-    ensures { Reads (λ _. input.new) result (end_of ((items field.grant_of_record (field.stolen next.now) None count).read input.old)) }
+    ensures { Reads (λ _. input.new) result
+        (end_of ((items field.grant_of_record (field.stolen next.now) None count).read input.old)) }
 {
     let mut last = None;
     for _ in 0..count {

@@ -342,7 +342,8 @@ pub fn members(out: &mut Vec<u8>, value: &Listed<Member>) -> Result<(), AllocErr
 /// A frame: its number, its place, its thread, its slots, and where its value goes.
 #[tactic(auto, unfolding(crate::specs::Fields::frame))]
 fn frame(out: &mut Vec<u8>, frame: &Frame) -> Result<(), AllocError>
-    ensures { OnOk result ((next : ℕ) (last : Option ℕ) → out.new.items ≡ out.old.items ++ (field.frame next last).write frame.now) }
+    ensures { OnOk result ((next : ℕ) (last : Option ℕ)
+        → out.new.items ≡ out.old.items ++ (field.frame next last).write frame.now) }
 {
     below(out, &frame.number)?;
     place(out, &frame.place)?;
@@ -365,7 +366,8 @@ fn each_frame(out: &mut Vec<u8>, frames: &[Frame]) -> Result<(), AllocError>
 /// The frames of a subcomputation behind their count.
 #[tactic(auto, using(crate::proofs::Writing::frames_write, std::proofs::Common::append_assoc))]
 pub fn frames(out: &mut Vec<u8>, value: &Listed<Frame>) -> Result<(), AllocError>
-    ensures { OnOk result ((progress : Progress) (next : ℕ) → out.new.items ≡ out.old.items ++ (field.frames progress next).write value.now) }
+    ensures { OnOk result ((progress : Progress) (next : ℕ)
+        → out.new.items ≡ out.old.items ++ (field.frames progress next).write value.now) }
 {
     low_four(out, value.len())?;
     each_frame(out, value.as_slice())?;
@@ -375,7 +377,8 @@ pub fn frames(out: &mut Vec<u8>, value: &Listed<Frame>) -> Result<(), AllocError
 /// A record: its grant, its holder, its frame's number, its task, and where its value goes.
 #[tactic(auto, unfolding(crate::specs::Fields::stolen))]
 fn stolen(out: &mut Vec<u8>, lent: &Record) -> Result<(), AllocError>
-    ensures { OnOk result ((next : ℕ) (last : Option Grant) → out.new.items ≡ out.old.items ++ (field.stolen next last).write lent.now) }
+    ensures { OnOk result ((next : ℕ) (last : Option Grant)
+        → out.new.items ≡ out.old.items ++ (field.stolen next last).write lent.now) }
 {
     grant(out, &lent.grant)?;
     worker(out, &lent.holder)?;
@@ -398,7 +401,8 @@ fn each_record(out: &mut Vec<u8>, records: &[Record]) -> Result<(), AllocError>
 /// The records of a subcomputation behind their count.
 #[tactic(auto, using(crate::proofs::Writing::records_write, std::proofs::Common::append_assoc))]
 pub fn records(out: &mut Vec<u8>, value: &Listed<Record>) -> Result<(), AllocError>
-    ensures { OnOk result ((progress : Progress) (next : ℕ) → out.new.items ≡ out.old.items ++ (field.records progress next).write value.now) }
+    ensures { OnOk result ((progress : Progress) (next : ℕ)
+        → out.new.items ≡ out.old.items ++ (field.records progress next).write value.now) }
 {
     low_four(out, value.len())?;
     each_record(out, value.as_slice())?;

@@ -28,8 +28,10 @@ pub struct Alone {
 pub fn recover_alone(alloc: Global, members: &[Member], sub: Sub) -> Result<Alone, AllocError>
     ensures after { IfOk result (λ a. those a.after ≡ (recovered members.now (sub.grant ∷ []) (sub ∷ [])).subs) }
     ensures named { IfOk result (λ a. IfSome a.after (λ s. s.grant ≡ sub.grant)) }
-    ensures stopped { IfOk result (λ a. a.stopped ≡ map stop_of (recovered members.now (sub.grant ∷ []) (sub ∷ [])).stopped) }
-    ensures ready { IfOk result (λ a. all_in sub.grant a.ready ≡ ready_frames sub ++ (recovered members.now (sub.grant ∷ []) (sub ∷ [])).again) }
+    ensures stopped { IfOk result (λ a. a.stopped ≡ map stop_of
+        (recovered members.now (sub.grant ∷ []) (sub ∷ [])).stopped) }
+    ensures ready { IfOk result (λ a. all_in sub.grant a.ready ≡ ready_frames sub
+        ++ (recovered members.now (sub.grant ∷ []) (sub ∷ [])).again) }
     ensures told { IfOk result (λ a. IfSome a.after (λ s. ComesTold s a.ready)) }
     ensures records { IfOk result (λ a. IfSome a.after (λ s. HasNoOthers sub.content.records s.content.records)) }
     ensures fits { (p : Program) → Fits p sub.content → IfOk result (λ a. IfSome a.after (λ s. Fits p s.content)) }

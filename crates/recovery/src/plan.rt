@@ -1,8 +1,7 @@
-ghost use Rattle.std.specs.Prelude.{◌≡◌, ℕ, List, ◌++◌, [], ◌∷◌, map, IfOk, IfSome, OnOk, IsSome, IsTrue, Some, None, option_copied, option_map, if◌then◌else◌};
+ghost use Rattle.std.specs.Prelude.{◌≡◌, ℕ, List, ◌++◌, [], map, IfOk, OnOk, IsSome, IsTrue, Some, None, option_copied, option_map};
 ghost use Rattle.std.specs.List.{AllByRecursion};
 ghost use Rattle.std.specs.Option.{option_or};
 ghost use Rattle.ids.specs.Members.{resolve};
-ghost use Rattle.ids.specs.Named.{item_in, put_in, without_in};
 ghost use Rattle.ids.specs.Names.{Grant, is_worker};
 ghost use Rattle.ids.specs.Naming.{name_of_grant, name_of_record};
 ghost use Rattle.ids.specs.Ordered.{AreInOrder};
@@ -10,10 +9,10 @@ ghost use Rattle.ids.specs.declared.work.Record as declared;
 ghost use Rattle.heirs.specs.Bearers.{bearer_in};
 ghost use Rattle.heirs.specs.declared.bearers.Bearing.{Bearing};
 ghost use Rattle.victim_records.specs.Records.{record_in};
-ghost use Rattle.sub_rules.specs.Changes.{frame_of, readied, redone, with_parent, with_thief};
-ghost use Rattle.subcomputation.specs.Subs.{SubOf, grants_of_subs, has_record, host_in, sub_in, with_content};
-ghost use Rattle.subcomputation.specs.Recovering.{for_each, settle_record, settle_sub, their_records};
-ghost use Rattle.recovery.specs.Plans.{AreHeld, Furthers, IsPlan, carried, carried_out, grant_of, settled_but, settled_with, stop_of};
+ghost use Rattle.sub_rules.specs.Changes.{with_parent};
+ghost use Rattle.subcomputation.specs.Subs.{SubOf, grants_of_subs, sub_in, with_content};
+ghost use Rattle.subcomputation.specs.Recovering.{for_each, settle_record, their_records};
+ghost use Rattle.recovery.specs.Plans.{AreHeld, Closes, Furthers, Inherits, IsHosted, IsPlan, LeadsTo, carried, carried_out, grant_of, hosted_by, hosted_in, settled_but, settled_by_hosts, settled_with, stop_of};
 
 use heirs::{Bearers, bearer_of};
 use ids::{Actor, GrantId, Incarnation, Listed, Member, Named, SortedMap, Status};
@@ -280,7 +279,7 @@ impl Named for Hosted {
 
 /// Settles each subcomputation by its host.
 fn settle_subs(alloc: Global, roster: &Roster, subs: &SortedMap<Sub>) -> Result<Draft, AllocError>
-    ensures { let r = for_each (settle_sub roster.now.members.now) (grants_of_subs subs.now) subs.now in IfOk result (λ d. (carried_out d.settled subs.now ≡ r.subs) × (d.stopped ≡ map stop_of r.stopped) × (d.again ≡ r.again) × AreHeld d.settled subs.now) }
+    ensures { IfOk result (λ d. LeadsTo subs.now d (settled_by_hosts roster.now.members.now subs.now)) }
 {
     let mut draft = Draft {
         settled: SortedMap::new(alloc),
@@ -306,8 +305,10 @@ fn hosts(
     roster: &Roster,
     subs: &SortedMap<Sub>,
 ) -> Result<SortedMap<Hosted>, AllocError>
-    ensures grants { let left = (for_each (settle_sub roster.now.members.now) (grants_of_subs subs.now) subs.now).subs in IfOk result (λ hosts. map (λ h. h.grant) hosts ≡ their_records (grants_of_subs subs.now) left) }
-    ensures hosts { let left = (for_each (settle_sub roster.now.members.now) (grants_of_subs subs.now) subs.now).subs in IfOk result (λ hosts. AllByRecursion (λ h. option_map (λ s. s.grant) (host_in h.grant left) ≡ Some h.host) hosts) }
+    ensures grants { let left = (settled_by_hosts roster.now.members.now subs.now).subs in
+        IfOk result (λ hosts. map (λ h. h.grant) hosts ≡ their_records (grants_of_subs subs.now) left) }
+    ensures hosts { let left = (settled_by_hosts roster.now.members.now subs.now).subs in
+        IfOk result (AllByRecursion (IsHosted left)) }
 {
     let mut hosts = SortedMap::new(alloc);
     subs.law_stand_in_order();
@@ -322,7 +323,8 @@ fn hosts(
 
 /// A subcomputation hosts each of its records whose grant has no host yet.
 fn add_records(hosts: &mut SortedMap<Hosted>, sub: &Sub) -> Result<(), AllocError>
-    ensures { OnOk result ((g : Grant) → item_in (λ h. name_of_grant h.grant) (name_of_grant g) hosts.new ≡ option_or (item_in (λ h. name_of_grant h.grant) (name_of_grant g) hosts.old) (if has_record g sub.now then Some (record { grant = g; host = sub.now.grant }) else None)) }
+    ensures { OnOk result ((g : Grant)
+        → hosted_in g hosts.new ≡ option_or (hosted_in g hosts.old) (hosted_by sub.now g)) }
 {
     let content = sub.content();
     for record in content.records.values() {
@@ -344,9 +346,10 @@ fn settle_records(
     hosts: &SortedMap<Hosted>,
     draft: &mut Draft,
 ) -> Result<(), AllocError>
-    requires hosts { AllByRecursion (λ h. option_map (λ s. s.grant) (host_in h.grant (carried_out draft.old.settled subs.now)) ≡ Some h.host) hosts.now }
+    requires hosts { AllByRecursion (IsHosted (carried_out draft.old.settled subs.now)) hosts.now }
     requires held { AreHeld draft.old.settled subs.now }
-    ensures { let r = for_each (settle_record roster.now.members.now) (map (λ h. h.grant) hosts.now) (carried_out draft.old.settled subs.now) in OnOk result (Furthers subs.now draft.old draft.new r) }
+    ensures { let r = for_each (settle_record roster.now.members.now) (map (λ h. h.grant) hosts.now)
+        (carried_out draft.old.settled subs.now) in OnOk result (Furthers subs.now draft.old draft.new r) }
 {
     subs.law_stand_in_order();
     hosts.law_stand_in_order();
@@ -375,7 +378,9 @@ impl Draft {
 
     /// Another host waits for a subcomputation.
     fn rename_host(&mut self, sub: &Sub, host: Actor) -> Result<(), AllocError>
-        ensures settled { OnOk result (self.new.settled ≡ settled_with (Settled.Stays (with_content sub.now (with_parent host sub.now.content))) self.old.settled) }
+        ensures settled { OnOk result (self.new.settled
+            ≡ settled_with
+            (Settled.Stays (with_content sub.now (with_parent host sub.now.content))) self.old.settled) }
         ensures stopped { OnOk result (self.new.stopped ≡ self.old.stopped) }
         ensures again { OnOk result (self.new.again ≡ self.old.again) }
     {
@@ -392,7 +397,10 @@ impl Draft {
         subs: &SortedMap<Sub>,
         hosted: &Hosted,
     ) -> Result<(), AllocError>
-        ensures { let left = carried_out self.old.settled subs.now in let r = settle_record roster.now.members.now hosted.now.grant left in AreHeld self.old.settled subs.now → option_map (λ s. s.grant) (host_in hosted.now.grant left) ≡ Some hosted.now.host → OnOk result (Furthers subs.now self.old self.new r) }
+        ensures { let left = carried_out self.old.settled subs.now in
+            let r = settle_record roster.now.members.now hosted.now.grant left in
+            AreHeld self.old.settled subs.now → IsHosted left hosted.now
+            → OnOk result (Furthers subs.now self.old self.new r) }
     {
         self.settled.law_stand_in_order();
         subs.law_stand_in_order();
@@ -409,8 +417,11 @@ impl Draft {
     /// Who holds a record, where it is there.
     fn holder(&self, subs: &SortedMap<Sub>, hosted: &Hosted) -> Option<Incarnation>
         ensures sub { sub_in hosted.now.host (carried_out self.now.settled subs.now) ≡ None → result ≡ None }
-        ensures holder { (s : SubOf) → sub_in hosted.now.host (carried_out self.now.settled subs.now) ≡ Some s → result ≡ option_map (λ (r : declared.Record). r.holder) (record_in hosted.now.grant s.content.records) }
-        ensures order { (s : SubOf) → sub_in hosted.now.host (carried_out self.now.settled subs.now) ≡ Some s → AreInOrder name_of_record s.content.records }
+        ensures holder { (s : SubOf) → sub_in hosted.now.host (carried_out self.now.settled subs.now) ≡ Some s
+            → result
+            ≡ option_map (λ (r : declared.Record). r.holder) (record_in hosted.now.grant s.content.records) }
+        ensures order { (s : SubOf) → sub_in hosted.now.host (carried_out self.now.settled subs.now) ≡ Some s
+            → AreInOrder name_of_record s.content.records }
     {
         let content = self.standing(subs, hosted.host)?.content();
         content.records.law_stand_in_order();
@@ -425,7 +436,10 @@ impl Draft {
         hosted: &Hosted,
         holder: Incarnation,
     ) -> Result<(), AllocError>
-        ensures { (s : SubOf) (r : declared.Record) → sub_in hosted.now.host (carried_out self.old.settled subs.now) ≡ Some s → record_in hosted.now.grant s.content.records ≡ Some r → OnOk result ((self.new.settled ≡ settled_with (Settled.Stays (with_content s (redone r s.content))) (settled_but hosted.now.host self.old.settled)) × (self.new.stopped ≡ self.old.stopped ++ record { grant = hosted.now.grant; holder = holder } ∷ []) × (self.new.again ≡ self.old.again ++ record { grant = hosted.now.host; frame = readied (frame_of r) } ∷ [])) }
+        ensures { (s : SubOf) (r : declared.Record)
+            → sub_in hosted.now.host (carried_out self.old.settled subs.now) ≡ Some s
+            → record_in hosted.now.grant s.content.records ≡ Some r
+            → OnOk result (Closes s r hosted.now holder self.old self.new) }
     {
         let Some(sub) = self.taken(subs, hosted.host)? else {
             return Ok(());
@@ -451,7 +465,8 @@ impl Draft {
         hosted: &Hosted,
         heir: Incarnation,
     ) -> Result<(), AllocError>
-        ensures { (s : SubOf) → sub_in hosted.now.host (carried_out self.old.settled subs.now) ≡ Some s → OnOk result ((self.new.settled ≡ settled_with (Settled.Stays (with_content s (with_thief hosted.now.grant heir s.content))) (settled_but hosted.now.host self.old.settled)) × (self.new.stopped ≡ self.old.stopped) × (self.new.again ≡ self.old.again)) }
+        ensures { (s : SubOf) → sub_in hosted.now.host (carried_out self.old.settled subs.now) ≡ Some s
+            → OnOk result (Inherits s hosted.now heir self.old self.new) }
     {
         let Some(mut sub) = self.taken(subs, hosted.host)? else {
             return Ok(());

@@ -1,4 +1,4 @@
-ghost use Rattle.std.specs.Prelude.{◌≡◌, ℕ, List, Some, slice_get};
+ghost use Rattle.std.specs.Prelude.{◌≡◌, ℕ, Some, slice_get};
 ghost use Rattle.disk.specs.Device.{Device};
 ghost use Rattle.serial_meaning.specs.Job.{JobOf, IsJob};
 ghost use Rattle.agreement.specs.Agreement.{IsReceived};

@@ -17,7 +17,8 @@ ghost use Rattle.safe_runs.specs.Shown.{Tied, TiedSince};
 /// one. Does nothing.
 pub fn steps_are_moves()
     ensures first { (job : JobOf) (d : Device) → CanBegin job d → Tied job (first_over d) }
-    ensures step { (job : JobOf) (w : WorldOf) (e : Event) (o : StepResult) → (tied : Tied job w) → Step job e w o → TiedSince job tied.view o.world }
+    ensures step { (job : JobOf) (w : WorldOf) (e : Event) (o : StepResult) → (tied : Tied job w)
+        → Step job e w o → TiedSince job tied.view o.world }
     ensures runs { (job : JobOf) (d : Device) (entries : List Entry) (worlds : List WorldOf) (v : WorldOf)
         → CanBegin job d
         → Runs job (first_over d) entries worlds
@@ -28,16 +29,19 @@ pub fn steps_are_moves()
 /// In a world that tables show, no grant has two live holders, no slot was filled twice, and a recorded outcome is the job's
 /// meaning. Does nothing.
 pub fn tied_worlds_are_safe()
-    ensures holder { (job : JobOf) (w : WorldOf) (g : Grant) (a b : ℕ) → Tied job w → Holder w a g → Holder w b g → a ≡ b }
+    ensures holder { (job : JobOf) (w : WorldOf) (g : Grant) (a b : ℕ) → Tied job w → Holder w a g
+        → Holder w b g → a ≡ b }
     ensures once { (job : JobOf) (w : WorldOf) → Tied job w → FilledOnce w.fills }
-    ensures outcome { (job : JobOf) (w : WorldOf) (o : Outcome) → Tied job w → recorded w ≡ Some o → o ≡ meaning_of job }
+    ensures outcome { (job : JobOf) (w : WorldOf) (o : Outcome) → Tied job w → recorded w ≡ Some o
+        → o ≡ meaning_of job }
 {}
 
 /// The same of each world of a run, whatever its events: packets that are lost, late, doubled or out of order, nodes that start,
 /// leave and crash, a clearinghouse that is down, and Cuts of its disk. And once an outcome is recorded, it is so in each later world
 /// whose clearinghouse is open. Does nothing.
 pub fn worlds_of_runs_are_safe()
-    ensures holder { (job : JobOf) (d : Device) (entries : List Entry) (worlds : List WorldOf) (v : WorldOf) (g : Grant) (a b : ℕ)
+    ensures holder { (job : JobOf) (d : Device) (entries : List Entry) (worlds : List WorldOf) (v : WorldOf)
+        (g : Grant) (a b : ℕ)
         → CanBegin job d
         → Runs job (first_over d) entries worlds
         → v ∈ worlds
@@ -49,7 +53,8 @@ pub fn worlds_of_runs_are_safe()
         → Runs job (first_over d) entries worlds
         → v ∈ worlds
         → FilledOnce v.fills }
-    ensures outcome { (job : JobOf) (d : Device) (entries : List Entry) (worlds : List WorldOf) (v : WorldOf) (o : Outcome)
+    ensures outcome { (job : JobOf) (d : Device) (entries : List Entry) (worlds : List WorldOf) (v : WorldOf)
+        (o : Outcome)
         → CanBegin job d
         → Runs job (first_over d) entries worlds
         → v ∈ worlds

@@ -53,7 +53,8 @@ fn prepare_fill(
     value: i64,
 ) -> Result<Prepared, AllocError>
     requires { LacksDebtor (Return.Local number slot) (left_by leaver content.now) }
-    ensures { IfOk result (λ p. Leads content.now p (arrives (Return.Local number slot) value (left_by leaver content.now))) }
+    ensures { IfOk result (λ p. Leads content.now p (arrives (Return.Local number slot) value
+        (left_by leaver content.now))) }
 {
     let frame = content.frames.get(number).unwrap();
     Ok(Prepared {

@@ -1,4 +1,4 @@
-ghost use Rattle.std.specs.Prelude.{◌≡◌, IfOk, IfSome, None, Some, map};
+ghost use Rattle.std.specs.Prelude.{◌≡◌, IfOk, IfSome, None, Some};
 ghost use Rattle.ids.specs.Slots.{numbers_in};
 ghost use Rattle.victim_records.specs.Records.{record_in};
 ghost use Rattle.sub_rules.specs.Content.{first_frame, granted_content, ready_in};
@@ -84,7 +84,8 @@ pub fn prepare_grant_out(
 ) -> Result<Option<Opening>, AllocError>
     requires sound { IsSound content.now }
     ensures opening { IfOk result (λ o. o ≡ opening_of grant thief (ready_in number content.now)) }
-    ensures sound { record_in grant content.now.records ≡ None → IfOk result (λ o. IfSome o (λ p. IsSound (opened_in p.opened content.now))) }
+    ensures sound { record_in grant content.now.records ≡ None
+        → IfOk result (λ o. IfSome o (λ p. IsSound (opened_in p.opened content.now))) }
 {
     content.frames.law_stand_in_order();
     let Some(frame) = content.frames.get(number) else {
@@ -134,7 +135,8 @@ pub fn prepare_close(
     outcome: Outcome,
 ) -> Result<Option<Prepared>, AllocError>
     requires sound { IsSound content.now }
-    ensures { IfOk result (λ o. IsPreparedIn content.now (closed_in outcome content.now (record_in grant content.now.records)) o) }
+    ensures { IfOk result (λ o. IsPreparedIn content.now
+        (closed_in outcome content.now (record_in grant content.now.records)) o) }
 {
     let Some(taken) = content.records.get(grant) else {
         return Ok(None);

@@ -31,7 +31,8 @@ pub fn prepare_join(
     requires number { frame.now.number < content.now.next }
     requires lacks { LacksDebtor frame.now.returns (left_by (FrameOf frame.now.number) content.now) }
     requires slots { SlotsFew slots.now }
-    ensures { IsPreparedFor content.now (within_numbers (join_left frame.now thread slots.now (left_by (FrameOf frame.now.number) content.now))) result }
+    ensures { IsPreparedFor content.now (within_numbers
+        (join_left frame.now thread slots.now (left_by (FrameOf frame.now.number) content.now))) result }
 {
     let leaver = Leaver::FrameOf(frame.number);
     if frame.place.len() >= MOST_STEPS {
@@ -106,7 +107,13 @@ fn kid_frame(
 ) -> Result<Frame, AllocError>
     requires short { length place.now < 1024 }
     requires hole { kid.now.hole ≤ 8 }
-    ensures { IfOk result (λ f. f ≡ record { number = number; place = kid.now.hole ∷ place.now; thread = kid.now.thread; slots = map Some kid.now.arguments; returns = Return.Local successor slot }) }
+    ensures { IfOk result (λ f. f ≡ record {
+      number = number;
+      place = kid.now.hole ∷ place.now;
+      thread = kid.now.thread;
+      slots = map Some kid.now.arguments;
+      returns = Return.Local successor slot;
+    }) }
 {
     Ok(Frame {
         number: FrameNo::of(number),

@@ -60,7 +60,7 @@ impl Content {
             }
             Replacement::Fills(number, slot, value) => {
                 self.leave(leaver);
-                self.frames.fill(number, slot, value);
+                self.frames.put(number, slot, value);
                 Ok(Records::new(alloc))
             }
             Replacement::Adds(made, next) => {

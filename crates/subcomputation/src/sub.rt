@@ -1,4 +1,4 @@
-ghost use Rattle.std.specs.Prelude.{◌≡◌, ◌<◌, false, IsErrOf, IfOk, OnOk, OnErr, IfSome, IsTrue, Some, None, is_some, map, [], ◌∷◌};
+ghost use Rattle.std.specs.Prelude.{◌≡◌, ◌<◌, false, IsErrOf, IfOk, OnOk, OnErr, IfSome, IsTrue, Some, None, is_some, [], ◌∷◌};
 ghost use Rattle.ids.specs.Slots.{numbers_in};
 ghost use Rattle.task_tree.specs.declared.tree.Program.{Program};
 ghost use Rattle.kind_check.specs.Total.{TurnFits};
@@ -7,7 +7,7 @@ ghost use Rattle.frames.specs.Frames.{frame_in};
 ghost use Rattle.sub_rules.specs.Carrying.{exec_content, is_stale_of};
 ghost use Rattle.sub_rules.specs.declared.change.SubError.TheVariants.{Memory};
 ghost use Rattle.sub_rules.specs.Changes.{closed_in, given_away, done_again, with_parent, with_thief};
-ghost use Rattle.sub_rules.specs.Content.{first_frame, ready_in};
+ghost use Rattle.sub_rules.specs.Content.{ready_in};
 ghost use Rattle.sub_rules.specs.Debts.{IsSound};
 ghost use Rattle.subcomputation.specs.Subs.{IsBegun, granted_sub, name_of_sub, with_content};
 ghost use Rattle.subcomputation.specs.Fitting.{Fits, task_fits};
@@ -153,11 +153,14 @@ impl Sub {
         done: &Done,
     ) -> Result<Prepared, SubError>
         ensures answer { IsPreparedAs self.now (exec_content done.now number self.now.content) result }
-        ensures out_of_memory { IsErrOf result Memory → is_stale_of done.now (frame_in number self.now.content.frames) ≡ false }
+        ensures out_of_memory { IsErrOf result Memory → is_stale_of done.now
+            (frame_in number self.now.content.frames) ≡ false }
         ensures may { IfOk result (λ p. MayChange self.now p) }
         ensures ready { IfOk result (λ p. TellsReady self.now.content (changed_of self.now p).after.content p.ready) }
-        ensures records { IfOk result (λ p. HasNoOthers self.now.content.records (changed_of self.now p).after.content.records) }
-        ensures fits { (p : Program) → Fits p self.now.content → TurnFits p done.now.turn → IfOk result (λ q. Fits p (changed_of self.now q).after.content) }
+        ensures records { IfOk result (λ p. HasNoOthers self.now.content.records
+            (changed_of self.now p).after.content.records) }
+        ensures fits { (p : Program) → Fits p self.now.content → TurnFits p done.now.turn
+            → IfOk result (λ q. Fits p (changed_of self.now q).after.content) }
     {
         if sub_rules::is_stale(&self.content, number, done) {
             return Err(SubError::Stale);
@@ -175,11 +178,16 @@ impl Sub {
         grant: GrantId,
         outcome: Outcome,
     ) -> Result<Option<Prepared>, AllocError>
-        ensures change { IfOk result (λ o. changed_of_some self.now o ≡ changed_by self.now (closed_in outcome self.now.content (record_in grant self.now.content.records))) }
+        ensures change { IfOk result (λ o. changed_of_some self.now o
+            ≡ changed_by self.now (closed_in outcome self.now.content
+            (record_in grant self.now.content.records))) }
         ensures may { IfOk result (λ o. IfSome o (λ p. MayChange self.now p)) }
-        ensures ready { IfOk result (λ o. IfSome o (λ p. TellsReady self.now.content (changed_of self.now p).after.content p.ready)) }
-        ensures records { IfOk result (λ o. IfSome o (λ p. HasNoOthers self.now.content.records (changed_of self.now p).after.content.records)) }
-        ensures fits { (p : Program) → Fits p self.now.content → IfOk result (λ o. IfSome o (λ q. Fits p (changed_of self.now q).after.content)) }
+        ensures ready { IfOk result (λ o. IfSome o (λ p. TellsReady self.now.content
+            (changed_of self.now p).after.content p.ready)) }
+        ensures records { IfOk result (λ o. IfSome o (λ p. HasNoOthers self.now.content.records
+            (changed_of self.now p).after.content.records)) }
+        ensures fits { (p : Program) → Fits p self.now.content
+            → IfOk result (λ o. IfSome o (λ q. Fits p (changed_of self.now q).after.content)) }
     {
         self.content.frames.law_stand_in_order();
         self.content.records.law_stand_in_order();
@@ -210,12 +218,17 @@ impl Sub {
         thief: Incarnation,
     ) -> Result<Option<Opening>, AllocError>
         requires { record_in grant self.now.content.records ≡ None }
-        ensures given { IfOk result (λ o. given_of_some self.now o ≡ given_by self.now (given_away grant thief self.now.content (ready_in number self.now.content))) }
+        ensures given { IfOk result (λ o. given_of_some self.now o
+            ≡ given_by self.now (given_away grant thief self.now.content (ready_in number self.now.content))) }
         ensures begun { IfOk result (λ o. IfSome o (λ p. IsBegun (opened_in p.opened self.now.content))) }
-        ensures ready { IfOk result (λ o. IfSome o (λ p. TellsReady self.now.content (opened_in p.opened self.now.content) [])) }
-        ensures records { IfOk result (λ o. IfSome o (λ p. HasNoOthersBut grant self.now.content.records (opened_in p.opened self.now.content).records)) }
-        ensures fits { (p : Program) → Fits p self.now.content → IfOk result (λ o. IfSome o (λ q. Fits p (opened_in q.opened self.now.content))) }
-        ensures task { (p : Program) → Fits p self.now.content → IfOk result (λ o. IfSome o (λ q. IsTrue (task_fits p q.task))) }
+        ensures ready { IfOk result (λ o. IfSome o (λ p. TellsReady self.now.content
+            (opened_in p.opened self.now.content) [])) }
+        ensures records { IfOk result (λ o. IfSome o (λ p. HasNoOthersBut grant self.now.content.records
+            (opened_in p.opened self.now.content).records)) }
+        ensures fits { (p : Program) → Fits p self.now.content
+            → IfOk result (λ o. IfSome o (λ q. Fits p (opened_in q.opened self.now.content))) }
+        ensures task { (p : Program) → Fits p self.now.content
+            → IfOk result (λ o. IfSome o (λ q. IsTrue (task_fits p q.task))) }
     {
         sub_rules::law_grants_tell_what_is_ready();
         self.content.frames.law_stand_in_order();
@@ -239,10 +252,13 @@ impl Sub {
     /// Closes a record without an outcome, beside this subcomputation: its frame is ready again, under its old number. None
     /// where there is no record of the grant; refused only when out of memory.
     pub fn redo(&self, alloc: Global, grant: GrantId) -> Result<Option<SubRedo>, AllocError>
-        ensures again { IfOk result (λ o. o ≡ again_by self.now (done_again self.now.content (record_in grant self.now.content.records))) }
+        ensures again { IfOk result (λ o. o ≡ again_by self.now
+            (done_again self.now.content (record_in grant self.now.content.records))) }
         ensures ready { IfOk result (λ o. IfSome o (λ a. TellsReady self.now.content a.after.content (a.ready ∷ []))) }
-        ensures records { IfOk result (λ o. IfSome o (λ a. HasNoOthers self.now.content.records a.after.content.records)) }
-        ensures fits { (p : Program) → Fits p self.now.content → IfOk result (λ o. IfSome o (λ a. Fits p a.after.content)) }
+        ensures records { IfOk result (λ o.
+            IfSome o (λ a. HasNoOthers self.now.content.records a.after.content.records)) }
+        ensures fits { (p : Program) → Fits p self.now.content
+            → IfOk result (λ o. IfSome o (λ a. Fits p a.after.content)) }
     {
         if self.content.records.get(grant).is_none() {
             return Ok(None);
@@ -252,7 +268,8 @@ impl Sub {
 
     /// The same of a subcomputation that isn't kept, with no copy of it.
     pub fn redone(self, alloc: Global, grant: GrantId) -> Result<Option<SubRedo>, AllocError>
-        ensures again { IfOk result (λ o. o ≡ again_by self (done_again self.content (record_in grant self.content.records))) }
+        ensures again { IfOk result (λ o. o ≡ again_by self
+            (done_again self.content (record_in grant self.content.records))) }
         ensures ready { IfOk result (λ o. IfSome o (λ a. TellsReady self.content a.after.content (a.ready ∷ []))) }
         ensures records { IfOk result (λ o. IfSome o (λ a. HasNoOthers self.content.records a.after.content.records)) }
         ensures fits { (p : Program) → Fits p self.content → IfOk result (λ o. IfSome o (λ a. Fits p a.after.content)) }

@@ -32,7 +32,8 @@ pub fn parse(alloc: Global, text: &[u8]) -> Result<Program, ParseError>
 
 /// The place of the first byte over 7F.
 fn beyond_ascii(text: &[u8]) -> Option<usize>
-    ensures { MatchOption result (All (λ b. b < 128) text.now) (λ i. (i < length text.now) × All (λ b. b < 128) (take i text.now) × (128 ≤ slice_index text.now i)) }
+    ensures { MatchOption result (All (λ b. b < 128) text.now) (λ i. (i < length text.now)
+        × All (λ b. b < 128) (take i text.now) × (128 ≤ slice_index text.now i)) }
 {
     text.iter().position(|b| *b >= 128)
 }
@@ -42,5 +43,6 @@ fn beyond_ascii(text: &[u8]) -> Option<usize>
 pub fn answers_are_exact()
     ensures one_refusal { (text : List ℕ) (e f : ParseError) → MeetsText text e → MeetsText text f → e ≡ f }
     ensures not_both { (text : List ℕ) (p : Program) (e : ParseError) → ReadsAsProgram text p → MeetsText text e → ⊥ }
-    ensures one_program { (text : List ℕ) (p q : Program) → ReadsAsProgram text p → ReadsAsProgram text q → EqualProgram p q }
+    ensures one_program { (text : List ℕ) (p q : Program) → ReadsAsProgram text p → ReadsAsProgram text q
+        → EqualProgram p q }
 {}

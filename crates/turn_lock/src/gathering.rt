@@ -31,7 +31,10 @@ impl<T: KeepsHistory + Drop> Gathering<T> {
     pub fn add(&mut self, lock: &TurnLock<T>, seat: LockSeat<T>)
         requires lock { self.old.table ≡ lock.now.table }
         requires seat { (seat.table ≡ lock.now.table) × (seat.taken ≡ None) }
-        ensures { self.new ≡ record { table = self.old.table; claims = claim seat.actor seat.entries ∷ self.old.claims } }
+        ensures { self.new ≡ record {
+          table = self.old.table;
+          claims = claim seat.actor seat.entries ∷ self.old.claims;
+        } }
     {
         let LockSeat { seat, actor: _ } = seat;
         lock.table.shared.join_seat::<Gather>(&mut self.all, seat);

@@ -126,7 +126,10 @@ impl<T: KeepsHistory + Drop> TurnLock<T> {
         requires seat { IsSeatOf self.now seat.old }
         requires grown { GivesBack T.actor_of seat.old (T.history kept) }
         requires fixed { T.fixed kept ≡ self.now.fixed }
-        ensures put { seat.new ≡ record seat.old { entries = own T.actor_of seat.old.actor (T.history kept); taken = None } }
+        ensures put { seat.new ≡ record seat.old {
+          entries = own T.actor_of seat.old.actor (T.history kept);
+          taken = None;
+        } }
     {
         let _ = self.table.shared.exchange(&mut seat.seat, 0, Some(kept));
         self.table.shared.store::<PutBack>(&mut seat.seat, 0, 0);
@@ -236,10 +239,12 @@ fn deal<T: KeepsHistory + Drop>(
     requires free { (all.old.me.0.taken ≡ None) × (all.old.me.1 ≡ []) }
     ensures table { all.new.table_id ≡ all.old.table_id }
     ensures terms { (all.new.me.0.actors ≡ all.old.me.0.actors) × (all.new.me.0.fixed ≡ all.old.me.0.fixed) }
-    ensures next { (left : ℕ) → all.old.me.0.claims ≡ empty_claims actor (suc left) → all.new.me.0.claims ≡ empty_claims (suc actor) left }
+    ensures next { (left : ℕ) → all.old.me.0.claims ≡ empty_claims actor (suc left)
+        → all.new.me.0.claims ≡ empty_claims (suc actor) left }
     ensures free { (all.new.me.0.taken ≡ None) × (all.new.me.1 ≡ []) }
     ensures actor { result.actor ≡ actor }
-    ensures seat { (result.table ≡ all.old.table_id) × (result.actors ≡ all.old.me.0.actors) × (result.fixed ≡ all.old.me.0.fixed) }
+    ensures seat { (result.table ≡ all.old.table_id) × (result.actors ≡ all.old.me.0.actors)
+        × (result.fixed ≡ all.old.me.0.fixed) }
     ensures blank { (result.taken ≡ None) × (result.entries ≡ []) }
 {
     let seat = table.shared.split_seat::<Deal>(all);

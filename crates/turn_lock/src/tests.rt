@@ -1,4 +1,4 @@
-ghost use Rattle.std.specs.Prelude.{◌≡◌, ◌++◌, [], ◌∷◌, All, None, Some};
+ghost use Rattle.std.specs.Prelude.{All, None, Some};
 ghost use Rattle.turn_lock.specs.Seats.{IsFreeSeatOf};
 
 use crate::{KeepsHistory, LockSeat, TurnLock};

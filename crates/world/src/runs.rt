@@ -1,5 +1,5 @@
 //! Runs of a world, by lists of events and by scripts.
-ghost use Rattle.std.specs.Prelude.{◌≡◌, ◌+◌, ◌<◌, ◌^◌, IfErr, IfOk, Ok, Err, List, None, Some, false, true};
+ghost use Rattle.std.specs.Prelude.{◌≡◌, ◌+◌, ◌<◌, ◌^◌, IfOk, Ok, Err, List, None, Some, false, true};
 ghost use Rattle.disk.specs.Device.{Device};
 ghost use Rattle.event_script.specs.Scripts.{script};
 ghost use Rattle.event_script.specs.declared.event.Event.{Event as EventOf};
@@ -56,7 +56,8 @@ pub fn run<'a>(alloc: Global, job: &'a Job, events: &[Event]) -> Result<RunEnd<'
 /// world (E9). E9 may stop it at a Cut too, for which there is no memory; then nothing changes.
 pub fn replay<'a>(alloc: Global, job: &'a Job, text: &[u8]) -> Result<RunEnd<'a>, ReplayError>
     ensures job { IfOk result (λ r. r.world.job ≡ job.now) }
-    ensures run { IfOk result (λ r. (events : List EventOf) × (script text.now ≡ Ok events) × IsReplay job.now events r.done r.stopped r.world) }
+    ensures run { IfOk result (λ r. (events : List EventOf) × (script text.now ≡ Ok events)
+        × IsReplay job.now events r.done r.stopped r.world) }
     ensures line { (l : _) → result ≡ Err (replay_error.Line l) → script text.now ≡ Err l }
     ensures memory { result ≡ Err replay_error.Memory → (events : List EventOf) × (script text.now ≡ Ok events) }
 {
@@ -71,7 +72,8 @@ pub fn replay_watched<'a, W: Watch>(
     watch: &mut W,
 ) -> Result<RunEnd<'a>, ReplayError>
     ensures job { IfOk result (λ r. r.world.job ≡ job.now) }
-    ensures run { IfOk result (λ r. (events : List EventOf) × (script text.now ≡ Ok events) × IsReplay job.now events r.done r.stopped r.world) }
+    ensures run { IfOk result (λ r. (events : List EventOf) × (script text.now ≡ Ok events)
+        × IsReplay job.now events r.done r.stopped r.world) }
     ensures line { (l : _) → result ≡ Err (replay_error.Line l) → script text.now ≡ Err l }
     ensures memory { result ≡ Err replay_error.Memory → (events : List EventOf) × (script text.now ≡ Ok events) }
 {
@@ -101,7 +103,8 @@ fn script_carried_out<'a, W: Watch>(
     watch: &mut W,
 ) -> Result<RunEnd<'a>, ReplayError>
     ensures job { IfOk result (λ r. r.world.job ≡ job.now) }
-    ensures run { IfOk result (λ r. (events : List EventOf) × (script text.now ≡ Ok events) × IsRunTo (StopsReading job.now) job.now events r.done r.stopped r.world) }
+    ensures run { IfOk result (λ r. (events : List EventOf) × (script text.now ≡ Ok events)
+        × IsRunTo (StopsReading job.now) job.now events r.done r.stopped r.world) }
     ensures line { (l : _) → result ≡ Err (replay_error.Line l) → script text.now ≡ Err l }
     ensures memory { result ≡ Err replay_error.Memory → (events : List EventOf) × (script text.now ≡ Ok events) }
 {
@@ -146,8 +149,13 @@ impl<'a> RunEnd<'a> {
     fn carry_on<W: Watch>(&mut self, alloc: Global, event: &Event, watch: &mut W) -> bool
         requires { self.old.done + 1 < 2 ^ 64 }
         ensures job { self.new.world.job ≡ self.old.world.job }
-        ensures carried { result ≡ true → (o : StepResult) × StepOf self.old.world.job event.now self.old.world.world o × (self.new.world.world ≡ o.world) × (self.new.done ≡ self.old.done + 1) × (self.new.stopped ≡ self.old.stopped) }
-        ensures out_of_memory { result ≡ false → (o : StepResult) × IsOutOfMemory event.now self.old.world self.new.world.is_placed o × (self.new.world.world ≡ o.world) × (self.new.done ≡ self.old.done) × (lacks : NoMemoryOf) × (self.new.stopped ≡ Some lacks) }
+        ensures carried { result ≡ true → (o : StepResult)
+            × StepOf self.old.world.job event.now self.old.world.world o × (self.new.world.world ≡ o.world)
+            × (self.new.done ≡ self.old.done + 1) × (self.new.stopped ≡ self.old.stopped) }
+        ensures out_of_memory { result ≡ false → (o : StepResult)
+            × IsOutOfMemory event.now self.old.world self.new.world.is_placed o
+            × (self.new.world.world ≡ o.world) × (self.new.done ≡ self.old.done) × (lacks : NoMemoryOf)
+            × (self.new.stopped ≡ Some lacks) }
     {
         match self.world.step(alloc, event, None) {
             Ok(told) => {

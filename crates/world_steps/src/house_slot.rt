@@ -106,8 +106,12 @@ impl<'a> HouseSlot<'a> {
 
     /// Whether an event applies, with the packet that it delivers.
     pub fn applies(&self, event: HouseEvent, packet: Option<&Datagram>) -> bool
-        ensures yes { result ≡ true → (w : WorldOf) → Seats self.now w → DeliversPacket event (option_copied packet.entry) w → Applies self.now.job event self.now.house w }
-        ensures no { result ≡ false → (w : WorldOf) → Seats self.now w → DeliversPacket event (option_copied packet.entry) w → Applies self.now.job event self.now.house w → ⊥ }
+        ensures yes { result ≡ true → (w : WorldOf) → Seats self.now w
+            → DeliversPacket event (option_copied packet.entry) w
+            → Applies self.now.job event self.now.house w }
+        ensures no { result ≡ false → (w : WorldOf) → Seats self.now w
+            → DeliversPacket event (option_copied packet.entry) w → Applies self.now.job event self.now.house w
+            → ⊥ }
     {
         let open = is_open(&self.stand);
         match event {
@@ -125,10 +129,14 @@ impl<'a> HouseSlot<'a> {
         event: HouseEvent,
         packet: Option<&Datagram>,
     ) -> Result<HouseReply, NoMemory>
-        ensures ok { IfOk result (λ r. (w : WorldOf) → Seats self.old w → DeliversPacket event (option_copied packet.entry) w → Happens self.old.job event w (replied r self.new w)) }
+        ensures ok { IfOk result (λ r. (w : WorldOf) → Seats self.old w
+            → DeliversPacket event (option_copied packet.entry) w
+            → Happens self.old.job event w (replied r self.new w)) }
         ensures job { self.new.job ≡ self.old.job }
         ensures stopped { OnErr result (self.new ≡ record self.old { house = IsUp (Stopped by.Memory) }) }
-        ensures applied { OnErr result ((w : WorldOf) → Seats self.old w → DeliversPacket event (option_copied packet.entry) w → Applies self.old.job event self.old.house w) }
+        ensures applied { OnErr result ((w : WorldOf) → Seats self.old w
+            → DeliversPacket event (option_copied packet.entry) w
+            → Applies self.old.job event self.old.house w) }
     {
         come(alloc, self.job, &mut self.stand, event, packet)
     }
@@ -144,10 +152,15 @@ impl<'a> HouseSlot<'a> {
         event: HouseEvent,
         packet: Option<&Datagram>,
     ) -> Result<HouseReply, NoMemory>
-        ensures ok { IfOk result (λ r. (w : WorldOf) → Seats self.old w → DeliversPacket event (option_copied packet.entry) w → CutHappens self.old.job (record { calls = calls; bytes = bytes.items; event = event }) w (replied r self.new w)) }
+        ensures ok { IfOk result (λ r. (w : WorldOf) → Seats self.old w
+            → DeliversPacket event (option_copied packet.entry) w
+            → CutHappens self.old.job (record { calls = calls; bytes = bytes.items; event = event }) w
+            (replied r self.new w)) }
         ensures job { self.new.job ≡ self.old.job }
         ensures stopped { OnErr result (self.new ≡ record self.old { house = IsUp (Stopped by.Memory) }) }
-        ensures applied { OnErr result ((w : WorldOf) → Seats self.old w → DeliversPacket event (option_copied packet.entry) w → Applies self.old.job event self.old.house w) }
+        ensures applied { OnErr result ((w : WorldOf) → Seats self.old w
+            → DeliversPacket event (option_copied packet.entry) w
+            → Applies self.old.job event self.old.house w) }
     {
         if !self.applies(event, packet) {
             return Ok(silent(alloc));
@@ -295,7 +308,8 @@ fn hear(
     packet: &Datagram,
 ) -> Result<HouseReply, NoMemory>
     requires stands { IsHouseOn house.old house.old.state }
-    ensures { (h : HouseOf) → house.old.state ≡ Open h → Answered h (on_packet house.old.job packet.now h) result house.old house.new }
+    ensures { (h : HouseOf) → house.old.state ≡ Open h
+        → Answered h (on_packet house.old.job packet.now h) result house.old house.new }
 {
     let answer = house.on_bytes(alloc, packet.as_bytes());
     reply_of(alloc, answer)
@@ -304,7 +318,8 @@ fn hear(
 /// A moment comes to an open clearinghouse.
 fn wake(alloc: Global, house: &mut House<'_, MemDisk>, now: u64) -> Result<HouseReply, NoMemory>
     requires stands { IsHouseOn house.old house.old.state }
-    ensures { (h : HouseOf) → house.old.state ≡ Open h → Answered h (Does (passes house.old.job now h)) result house.old house.new }
+    ensures { (h : HouseOf) → house.old.state ≡ Open h
+        → Answered h (Does (passes house.old.job now h)) result house.old house.new }
 {
     let answer = house.tick(alloc, now);
     reply_of(alloc, answer)
@@ -355,7 +370,9 @@ fn come_open(
     packet: Option<&Datagram>,
 ) -> Result<HouseReply, NoMemory>
     requires stands { IsHouseOn house.old house.old.state }
-    ensures { (h : HouseOf) → house.old.state ≡ Open h → AnsweredIf h (answer_to house.old.job event (option_copied packet.entry) h) result house.old house.new }
+    ensures { (h : HouseOf) → house.old.state ≡ Open h
+        → AnsweredIf h (answer_to house.old.job event (option_copied packet.entry) h)
+        result house.old house.new }
 {
     match event {
         HouseEvent::Deliver(_) => match packet {

@@ -1,5 +1,5 @@
 //! The world, and its steps.
-ghost use Rattle.std.specs.Prelude.{◌≡◌, ◌++◌, ◌&&◌, [], true, false, if◌then◌else◌, is_some, length, IfOk, Option, OnErr, OnOk, Some, None, option_copied, replicate, slice_get};
+ghost use Rattle.std.specs.Prelude.{◌≡◌, ◌++◌, ◌&&◌, true, false, if◌then◌else◌, is_some, length, IfOk, Option, OnErr, OnOk, Some, None, option_copied, replicate, slice_get};
 ghost use Rattle.disk.specs.Device.{Device};
 ghost use Rattle.node_core.specs.Cases.{Candidate};
 ghost use Rattle.node_core.specs.Choosing.{IsCandidate};
@@ -69,7 +69,8 @@ impl<'a> World<'a> {
     /// and isn't armed, and nothing was sent.
     /// Refused only when out of memory (E9).
     pub fn new(alloc: Global, job: &'a Job) -> Result<World<'a>, NoMemory>
-        ensures { IfOk result (λ w. (d : Device) × IsFormattedFor job.now d × (w ≡ record { job = job.now; world = first_over d; is_placed = true })) }
+        ensures { IfOk result (λ w. (d : Device) × IsFormattedFor job.now d
+            × (w ≡ record { job = job.now; world = first_over d; is_placed = true })) }
     {
         Ok(World {
             job,
@@ -231,7 +232,10 @@ impl<'a> World<'a> {
     fn did(&mut self, step: Step) -> EventAnswer
         requires { self.old.is_placed ≡ true }
         ensures job { self.new.job ≡ self.old.job }
-        ensures kept { self.new.world ≡ record self.old.world { net = self.old.world.net ++ step.sent; fills = self.old.world.fills ++ step.fills } }
+        ensures kept { self.new.world ≡ record self.old.world {
+          net = self.old.world.net ++ step.sent;
+          fills = self.old.world.fills ++ step.fills;
+        } }
         ensures told { result ≡ told.Did (length step.sent) (length step.fills) }
     {
         let told = EventAnswer::Did(step.sent.len(), step.fills.len());
@@ -273,7 +277,8 @@ impl<'a> World<'a> {
         requires { node.job ≡ self.old.job }
         ensures job { self.new.job ≡ self.old.job }
         ensures placed { self.new.is_placed ≡ self.old.is_placed }
-        ensures ok { OnOk result (self.new.world ≡ record (with_used word self.old.world) { nodes = put_node place node.entry.node self.old.world.nodes }) }
+        ensures ok { OnOk result (self.new.world ≡ record (with_used word self.old.world)
+            { nodes = put_node place node.entry.node self.old.world.nodes }) }
         ensures err { OnErr result (self.new.world ≡ self.old.world) }
     {
         self.used.put(Word::of(word))?;
@@ -284,7 +289,8 @@ impl<'a> World<'a> {
     /// A node starts at a place with a start word, if it can.
     fn start(&mut self, alloc: Global, place: NodePlace, word: u64) -> Result<EventAnswer, NoMemory>
         ensures job { self.new.job ≡ self.old.job }
-        ensures step { IfOk result (λ t. StepsTo self.old.job (events.Start place word) self.old.world self.new.world t) }
+        ensures step { IfOk result (λ t. StepsTo self.old.job (events.Start place word)
+            self.old.world self.new.world t) }
         ensures out_of_memory { OnErr result (RanOutOfMemory (events.Start place word) self.old self.new) }
     {
         let Some(incarnation) = self.starts(place, word) else {
@@ -308,7 +314,8 @@ impl<'a> World<'a> {
     ) -> Result<EventAnswer, NoMemory>
         requires { IsOfJob self.old.job (option_copied turn) }
         ensures job { self.new.job ≡ self.old.job }
-        ensures step { IfOk result (λ t. StepsTo self.old.job (events.AtNode place event) self.old.world self.new.world t) }
+        ensures step { IfOk result (λ t. StepsTo self.old.job (events.AtNode place event)
+            self.old.world self.new.world t) }
         ensures out_of_memory { OnErr result (RanOutOfMemory (events.AtNode place event) self.old self.new) }
     {
         self.law_may_choose(place);
@@ -361,7 +368,8 @@ impl<'a> World<'a> {
 
     /// A node that is up may be asked to choose a frame. Does nothing.
     fn law_may_choose(&self, place: NodePlace)
-        ensures { (n : NodeOf) → node_in place self.now.world.nodes ≡ Some n → (choice : Option Candidate) × IsCandidate n choice }
+        ensures { (n : NodeOf) → node_in place self.now.world.nodes ≡ Some n → (choice : Option Candidate)
+            × IsCandidate n choice }
     {
         if let Some(node) = &self.nodes[usize::from(place.index())] {
             node.law_may_choose();

@@ -63,7 +63,8 @@ impl Named for Chain {
 
 /// The chains of a roster after their first step; of a worker that is listed twice, the first counts.
 pub fn first_step(alloc: Global, members: &[Member]) -> Result<SortedMap<Chain>, AllocError>
-    ensures { IfOk result (λ table. (n : Name) → item_in name_of_chain n table ≡ option_map chain_of (item_in name_of_member n members.now)) }
+    ensures { IfOk result (λ table. (n : Name) → item_in name_of_chain n table
+        ≡ option_map chain_of (item_in name_of_member n members.now)) }
 {
     let mut table = SortedMap::new(alloc);
     for member in members {

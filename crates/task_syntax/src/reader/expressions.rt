@@ -120,7 +120,8 @@ fn joined(
     right: Measured,
 ) -> Result<Measured, ParseError>
     ensures joins { IfOk result (λ x. Joins op left.tree right.tree x.tree) }
-    ensures met { IfErr result (λ e. e ≢ ParseError.Memory → (e ≡ ParseError.TooDeepNest at) × (64 < 1 + max (height_of left.tree) (height_of right.tree))) }
+    ensures met { IfErr result (λ e. e ≢ ParseError.Memory → (e ≡ ParseError.TooDeepNest at)
+        × (64 < 1 + max (height_of left.tree) (height_of right.tree))) }
 {
     let height = 1 + left.height.max(right.height);
     if height > DEEPEST {

@@ -1,7 +1,7 @@
 ghost use Rattle.std.specs.Prelude.{◌≡◌, ◌≢◌, ◌<◌, [], ◌∷◌, length, MatchBool, IfSome, IfNone, IfOk, IfErr, Some};
 ghost use Rattle.task_tokens.specs.declared.kinds.TokenKind.TheVariants as kind;
 ghost use Rattle.task_tokens.specs.declared.kinds.Sign.TheVariants as sign;
-ghost use Rattle.task_syntax.specs.Grammar.{Begins, BeginsAt, IsMark, IsWord, IsName, level_of};
+ghost use Rattle.task_syntax.specs.Grammar.{BeginsAt, IsMark, IsWord, IsName, level_of};
 ghost use Rattle.task_syntax.specs.Refusals.{offset_of, Lacks, Misses, Stands, IsInfix, LacksInfix, name_refusal, first_refusal};
 
 use crate::error::ParseError;

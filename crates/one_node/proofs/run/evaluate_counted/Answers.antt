@@ -7,20 +7,20 @@ use Rattle.one_node.proofs.run.evaluate_counted.Goals as goal
 
 pub returns-in-Finished : goal.returns-in-Finished
 returns-in-Finished g c =
-    let follows = c.in_ok-run-2.ensures.follows in
+    let follows = c.in_ok-turn.ensures.follows in
     let end : IsRunEnd c.args.job.now c.args.turns c.in-Finished.outcome = record {
       n = c.loop-taken.taken + 1;
       within = omega arith;
-      run = run_of c.in_ok-run-2.run';
-      reached = reached_next c.args.job.now c.loop-taken.taken (run_of c.loop-taken.run) (run_of c.in_ok-run-2.run') c.loop-taken.invariant.reached c.in_ok-run-2.ensures.next;
+      run = run_of c.turn.new.run;
+      reached = reached_next c.args.job.now c.loop-taken.taken (run_of c.loop-taken.run) (run_of c.turn.new.run) c.loop-taken.invariant.reached c.in_ok-turn.ensures.next;
       ended = c.in-Finished.is;
     } in
-    (end, c.finished_roots_mean.ensures c.args.job.now c.in_ok-run-2.run'.content c.in-Finished.outcome follows.agrees follows.rooted c.in-Finished.is)
+    (end, c.finished_roots_mean.ensures c.args.job.now c.turn.new.run.content c.in-Finished.outcome follows.agrees follows.rooted c.in-Finished.is)
 
 pub loop-taken-preserved : goal.loop-taken-preserved
 loop-taken-preserved g c = record {
-  reached = reached_next c.args.job.now c.loop-taken.taken (run_of c.loop-taken.run) (run_of c.in_ok-run-2.run') c.loop-taken.invariant.reached c.in_ok-run-2.ensures.next;
-  holds = c.in_ok-run-2.ensures.follows.goes_on c.in_default.is;
+  reached = reached_next c.args.job.now c.loop-taken.taken (run_of c.loop-taken.run) (run_of c.turn.new.run) c.loop-taken.invariant.reached c.in_ok-turn.ensures.next;
+  holds = c.in_ok-turn.ensures.follows.goes_on c.in_default.is;
 }
 
 pub returns : goal.returns

@@ -1,4 +1,4 @@
-use Rattle.std.proofs.Common.{rules, ◌≡◌, ◌∙◌, true}
+use Rattle.std.proofs.Common.{rules, ◌≡◌, true}
 use Rattle.ids.specs.Place.{is_place}
 use Rattle.packet_fields.specs.Fields as field
 use Rattle.packet_fields.proofs.Loop.{is_place_read}
@@ -8,5 +8,4 @@ pub returns : goal.returns
 unfolding field.place field.steps
 returns c =
     let test : is_place c.in_ok-steps.steps.now ≡ true = is_place_read c.in_ok-count.count c.u16.new.self c.in_ok-steps.steps.now c.steps.new.input c.if-count-gt-MOST_STEPS.false c.in_ok-steps.ensures in
-    let copied : c.from_vec-steps.result ≡ c.in_ok-steps.steps.now = c.from_vec-steps.ensures ∙ c.in_ok-from_slice.ensures.items in
     search rules

@@ -12,4 +12,4 @@ put-requires-clause-grown g c =
 
 pub returns-clause-entry : goal.returns-clause-entry
 returns-clause-entry g c =
-    gains c.enter-answer.result c.args.event c.args.seat.now.actor c.take-kept.result.entries c.enter-answer.new.self.entries c.args.seat.now.entries c.put.new.seat.entries c.requires.owns c.enter-answer.ensures.history (search rules) (search rules)
+    rw c.in_ok-committed.was at (gains c.enter-answer.result c.args.event c.args.seat.now.actor c.take-kept.result.entries c.enter-answer.new.self.entries c.args.seat.now.entries c.put.new.seat.entries c.requires.owns c.enter-answer.ensures.history (search rules) (search rules))

@@ -1,27 +1,13 @@
 use Rattle.std.proofs.Common.{◌≡◌, refl, ap, ◌∙◌, FitsSigned, w64, rules}
 use Rattle.std.proofs.Math.Facts.{to_z-of_z}
-use Rattle.ids.specs.Named.{Name, changed_in}
-use Rattle.ids.specs.Naming.{name_of_frame}
-use Rattle.frames.specs.Frames.{frame_in, with_slot, readiness_of}
-use Rattle.frames.proofs.Filling.{state_filled, changed_is_fill, fits_there}
+use Rattle.frames.specs.Frames.{fill_of, frame_in, readiness_of}
+use Rattle.frames.proofs.Filling.{state_filled}
 use Rattle.frames.proofs.store.Frames.fill.Goals as goal
-
-pub change-requires : goal.change-requires
-change-requires c =
-    let fits : FitsSigned w64 c.args.value = search rules in
-    rw (c.name.ensures, to_z-of_z fits) (fits_there c.args.slot (frame_in c.args.number c.self.inside.frames) (rw c.self.view_is c.requires))
-
-pub returns-clause-filled : goal.returns-clause-filled
-returns-clause-filled c =
-    let fits : FitsSigned w64 c.args.value = search rules in
-    let changed : c.change.new.self ≡ changed_in name_of_frame (with_slot c.args.slot c.args.value) c.name.result c.self.inside.frames = rw (to_z-of_z fits) at c.change.ensures in
-    changed
-    ∙ ap (λ (name : Name). changed_in name_of_frame (with_slot c.args.slot c.args.value) name c.self.inside.frames) c.name.ensures
-    ∙ ap (λ frames. changed_in name_of_frame (with_slot c.args.slot c.args.value) (c.args.number, 0) frames) c.self.view_is
-    ∙ changed_is_fill c.args.slot c.args.value c.args.self.now (frame_in c.args.number c.args.self.now)
 
 pub returns-clause-ready : goal.returns-clause-ready
 returns-clause-ready c =
+    let fits : FitsSigned w64 c.args.value = search rules in
+    let put : c.put.new.self ≡ fill_of c.args.slot c.args.value c.args.self.now (frame_in c.args.number c.args.self.now) = rw (to_z-of_z fits) at c.put.ensures in
     c.state.ensures
-    ∙ ap (λ frames. readiness_of (frame_in c.args.number frames)) (returns-clause-filled c)
+    ∙ ap (λ frames. readiness_of (frame_in c.args.number frames)) put
     ∙ state_filled c.args.number c.args.slot c.args.value c.args.self.now (frame_in c.args.number c.args.self.now) refl

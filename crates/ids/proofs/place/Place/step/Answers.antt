@@ -4,4 +4,4 @@ use Rattle.std.proofs.lemmas.List.{reverse-reverse}
 use Rattle.ids.proofs.place.Place.step.Goals as goal
 
 pub returns : goal.returns
-returns c = c.item_at.ensures ∙ rw c.as_slice.ensures.value (sym (rw (← c.self.view_is, reverse-reverse) refl))
+returns c = c.item_at.ensures ∙ rw c.as_slice.ensures (sym (rw (← c.self.view_is, reverse-reverse) refl))
