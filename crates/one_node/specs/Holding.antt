@@ -83,7 +83,7 @@ TurnFails job run NumbersSpent = IsSpent job run
 TurnFails job run Memory = Unit {0}
 
 -- a change that was to be made leads to this content, and to these ready frames
-pub record LeadsTo (expected : Result ContentChange SubError) (after : Content) (ready : List Readied) : Type 0 where
+pub record CarriedTo (expected : Result ContentChange SubError) (after : Content) (ready : List Readied) : Type 0 where
   pub change : ContentChange
   pub done : expected ≡ Ok change
   pub led : change.after ≡ after
@@ -91,7 +91,7 @@ pub record LeadsTo (expected : Result ContentChange SubError) (after : Content) 
 
 -- a frame's turn that is carried out, or needs too great a number
 abbrev pub IsCarried : Result ContentChange SubError → Content → Result (List Readied) RunFault → Type 0
-IsCarried expected after (Ok ready) = LeadsTo expected after ready
+IsCarried expected after (Ok ready) = CarriedTo expected after ready
 IsCarried expected after (Err TurnsSpent) = ⊥
 IsCarried expected after (Err NumbersSpent) = expected ≡ Err Spent
 IsCarried expected after (Err Memory) = Unit {0}
