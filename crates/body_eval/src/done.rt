@@ -2,7 +2,7 @@ ghost use Rattle.std.specs.Prelude.{◌≡◌, length, IfOk};
 ghost use Rattle.kind_check.specs.Total.{Takes};
 
 use crate::body;
-use ids::Listed;
+use ids::Numbers;
 use kind_check::{Checked, Turn};
 use std::alloc::{AllocError, Global};
 use std::marker::Model;
@@ -15,7 +15,7 @@ pub struct Done {
     // It has no bytes. `of` takes it from the program itself, and nothing else makes a `Done`.
     program: Snapshot<Checked>,
     thread: u8,
-    numbers: Listed<i64>,
+    numbers: Numbers,
     turn: Turn,
 }
 
@@ -52,12 +52,26 @@ impl Done {
             × (d.numbers ≡ numbers.items)) }
         ensures evaluated { IfOk result IsEvaluated }
     {
+        Done::on(alloc, checked, thread, Numbers::from_vec(numbers))
+    }
+
+    /// Evaluates a turn, as `of` does, on a short list of numbers.
+    pub fn on(
+        alloc: Global,
+        checked: &Checked,
+        thread: u8,
+        numbers: Numbers,
+    ) -> Result<Done, AllocError>
+        requires { Takes checked.now thread (length numbers) }
+        ensures same { IfOk result (λ d. (d.program ≡ checked.now) × (d.thread ≡ thread) × (d.numbers ≡ numbers)) }
+        ensures evaluated { IfOk result IsEvaluated }
+    {
         let _program = checked.program();
-        let turn = body::turn(alloc, checked, thread, &numbers)?;
+        let turn = body::turn(alloc, checked, thread, numbers.as_slice())?;
         Ok(Done {
             program: Snapshot::of(checked),
             thread,
-            numbers: Listed::from_vec(numbers),
+            numbers,
             turn,
         })
     }

@@ -2,7 +2,7 @@ ghost use Rattle.std.specs.Prelude.{◌≡◌, IfOk, IsSome, Some};
 ghost use Rattle.kind_check.specs.Value.{result_of};
 ghost use Rattle.kind_check.specs.Code.{code_value, code_values};
 
-use ids::Listed;
+use ids::{Listed, Numbers};
 use kind_check::Code;
 use std::alloc::{AllocError, Global};
 use task_tree::Operator;
@@ -61,15 +61,11 @@ pub fn value(values: &[i64], code: &Code) -> i64
 }
 
 /// The values of expressions, where the environment is these numbers.
-pub fn values(
-    alloc: Global,
-    values: &[i64],
-    codes: &Listed<Code>,
-) -> Result<Listed<i64>, AllocError>
+pub fn values(alloc: Global, values: &[i64], codes: &Listed<Code>) -> Result<Numbers, AllocError>
     requires { IsSome (code_values values.now codes.now) }
     ensures { IfOk result (λ vs. code_values values.now codes.now ≡ Some vs) }
 {
-    let mut numbers = Listed::with_capacity(alloc, codes.len())?;
+    let mut numbers = Numbers::with_capacity(alloc, codes.len())?;
     for code in codes.as_slice() {
         numbers.push(value(values, code))?;
     }

@@ -1,3 +1,4 @@
+pub mod Deliveries
 pub mod History
 pub mod Kept
 pub mod Seats

@@ -7,14 +7,16 @@ ghost use Rattle.world_steps.specs.Answers.{StepResult};
 ghost use Rattle.world_steps.specs.Calls.{IsOfJob, told_of};
 ghost use Rattle.world_steps.specs.Steps.{Step as StepOf};
 ghost use Rattle.world_steps.specs.World.{WorldOf};
-ghost use Rattle.chronicle.specs.History.{IsSafeHistory, entry, actor_number, outcome_told};
+ghost use Rattle.turn_lock.specs.Histories.{own};
+ghost use Rattle.chronicle.specs.Deliveries.{delivery, entered, told_in};
+ghost use Rattle.chronicle.specs.History.{IsSafeHistory, actor_of, entry, actor_number, outcome_told};
 ghost use Rattle.chronicle.specs.Seats.{IsBlankSeatIn, IsSeatIn, TellsOf, first_last, seat_of};
 
 use crate::kept::{Committed, Kept};
 use crate::seat::ActorSeat;
 use crate::trace::Trace;
 use body_eval::Done;
-use event_script::{Event, FrameOf, NodePlace};
+use event_script::{Event, FrameOf, HouseEvent, NodeEvent, NodePlace};
 use kind_check::Checked;
 use node_core::Work;
 use serial_meaning::Job;
@@ -56,6 +58,13 @@ pub struct Arrived {
 pub struct Continued {
     pub committed: Committed,
     pub next: Option<Work>,
+}
+
+/// What a look for a packet came to: one that came, with what was told of it, or how many packets were looked at in all.
+#[derive(Drop)]
+pub enum Delivery {
+    Came(Arrived, Committed),
+    Looked(u64),
 }
 
 /// Where a ready frame is looked for: at the node of a place, besides these frames.
@@ -168,6 +177,36 @@ impl<'a> Chronicle<'a> {
             besides,
         };
         self.enter(rt, seat, event, Some(turn), Some(&wanted))
+    }
+
+    /// The first packet from the one of a number on that is addressed to a receiver comes to the node of a place, or where there is no
+    /// place to the clearinghouse, in the turn of the lock in which it is found: its delivery is committed, as by `commit`. Where none is
+    /// found nothing is committed, and it is told how many packets were looked at, as by `packet_for`.
+    pub fn commit_delivery<R: Wait>(
+        &self,
+        rt: &R,
+        alloc: Global,
+        seat: &mut ActorSeat<'a>,
+        from: u64,
+        receiver: Receiver,
+        place: Option<NodePlace>,
+    ) -> Result<Delivery, NoMemory>
+        requires seat { IsSeatIn self.now seat.old }
+        requires owns { actor_number (delivery place 0) ≡ seat.old.actor }
+        ensures same { IsSeatIn self.now seat.new × (seat.new.actor ≡ seat.old.actor) }
+        ensures entry { IfOk result (λ d. seat.new.entries ≡ seat.old.entries ++ entered place d) }
+        ensures step { IfOk result (λ d. IfSome (told_in place d) (λ e. (w : WorldOf) × (o : StepResult)
+            × StepOf self.now.job e.event w o × (e.told ≡ told_of o.answer))) }
+        ensures outcome { IfOk result (λ d. IfSome (told_in place d) (λ e. (o : Outcome)
+            → outcome_told e.told ≡ Some o → o ≡ meaning_of self.now.job)) }
+        ensures err { OnErr result (seat.new ≡ seat.old) }
+    {
+        let mut kept = self.lock.take(rt, &mut seat.seat);
+        let found = first_for(alloc, &kept, from, receiver);
+        let answer = comes(&mut kept, seat, place, found);
+        self.sent.store(kept.world().packets() as u64, SeqCst);
+        self.lock.put(&mut seat.seat, kept);
+        answer
     }
 
     // An event is carried out under the lock, with the turn that is at hand, if one is, and then a ready frame is looked for, if one is wanted.
@@ -305,6 +344,48 @@ fn by_place<'a>(
     }
     seats.push(ActorSeat { seat: first })?;
     Ok(seats)
+}
+
+/// A packet that was found comes, as the next entry of the history; where none was found nothing does.
+fn comes<'a>(
+    kept: &mut Kept<'a>,
+    seat: &mut ActorSeat<'a>,
+    place: Option<NodePlace>,
+    found: Result<Arrived, u64>,
+) -> Result<Delivery, NoMemory>
+    requires seat { seat.old.taken ≡ Some kept.old.entries }
+    requires owns { actor_number (delivery place 0) ≡ seat.old.actor }
+    ensures seat { seat.new ≡ seat.old }
+    ensures own { own actor_of seat.old.actor kept.old.entries ≡ seat.old.entries }
+    ensures job { kept.new.on.job ≡ kept.old.on.job }
+    ensures history { IfOk result (λ d. kept.new.entries ≡ kept.old.entries ++ entered place d) }
+    ensures step { IfOk result (λ d. IfSome (told_in place d) (λ e. (w : WorldOf) × (o : StepResult)
+        × StepOf kept.old.on.job e.event w o × (e.told ≡ told_of o.answer))) }
+    ensures outcome { IfOk result (λ d. IfSome (told_in place d) (λ e. (o : Outcome)
+        → outcome_told e.told ≡ Some o → o ≡ meaning_of kept.old.on.job)) }
+    ensures err { OnErr result (kept.new.entries ≡ kept.old.entries) }
+{
+    match found {
+        Ok(arrived) => {
+            let committed = kept.enter(seat, delivery_to(place, arrived.index), None)?;
+            Ok(Delivery::Came(arrived, committed))
+        }
+        Err(seen) => {
+            let _ = seat.actor();
+            Ok(Delivery::Looked(seen))
+        }
+    }
+}
+
+/// The delivery of a packet to the node of a place, or where there is no place to the clearinghouse.
+pub fn delivery_to(place: Option<NodePlace>, index: u64) -> Event
+    ensures same { result ≡ delivery place index }
+    ensures actor { actor_number result ≡ actor_number (delivery place 0) }
+{
+    match place {
+        Some(place) => Event::AtNode(place, NodeEvent::Deliver(index)),
+        None => Event::AtHouse(HouseEvent::Deliver(index)),
+    }
 }
 
 impl Wanted<'_> {

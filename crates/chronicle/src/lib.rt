@@ -21,8 +21,8 @@
 //!
 //! A chronicle may be shared by threads, and a seat may go to another one (`proofs/Crossing`).
 //!
-//! **Shown by runs alone**: that `new` and a commit succeed while there is memory, and that `ready`, `commit_turn` and `packet_for`
-//! find what is there.
+//! **Shown by runs alone**: that `new` and a commit succeed while there is memory, and that `ready`, `commit_turn`, `packet_for` and
+//! `commit_delivery` find what is there.
 //!
 //! **Not promised**: that a commit ever gets its turn, and in which order actors do, beyond each actor's own; of `ready`, `packet_for`
 //! and `sent`, and of a frame that `commit_turn` hands out, which are hints, that they tell what the world has, by the time that
@@ -35,7 +35,9 @@ mod kept;
 mod seat;
 mod trace;
 
-pub use chronicle::{Arrived, Chronicle, Continued, Receiver, frame_of, takes_its_numbers};
+pub use chronicle::{
+    Arrived, Chronicle, Continued, Delivery, Receiver, delivery_to, frame_of, takes_its_numbers,
+};
 pub use kept::{Committed, Entry, Kept};
 pub use seat::ActorSeat;
 pub use trace::Trace;

@@ -21,7 +21,7 @@ use crate::sending::{roster_alone, send_abort};
 use codec::{
     Beat, Body, Datagram, Grant, Join, Leave, Packet, Refuse, ResultAck, Steal, TaskResult, alone,
 };
-use ids::{Address, GrantId, Incarnation, Listed, Outcome, Place, Status, Task};
+use ids::{Address, GrantId, Incarnation, Listed, Numbers, Outcome, Place, Status, Task};
 use kind_check::accepted_threads_are_few;
 use serial_meaning::Job;
 use std::alloc::{AllocError, Global};
@@ -38,7 +38,7 @@ fn root_task(alloc: Global, job: &Job) -> Result<Task, AllocError>
     Ok(Task {
         place: Place::root(alloc),
         thread: job.main(),
-        numbers: Listed::from_vec(Vec::from_slice(alloc, job.input())?),
+        numbers: Numbers::copy_of(alloc, job.input())?,
     })
 }
 

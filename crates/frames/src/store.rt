@@ -148,6 +148,13 @@ impl Frames {
         self.frames.take(name(number))
     }
 
+    /// Takes the frame of a number away, ready or not, if there is one, and lets it go. Takes no memory.
+    pub fn discard(&mut self, number: FrameNo)
+        ensures { self.new ≡ without_frame number self.old }
+    {
+        self.frames.discard(name(number));
+    }
+
     /// Whether a frame waits; so it is said of a frame that isn't there.
     fn state(&self, number: FrameNo) -> Filled
         ensures { result ≡ readiness_of (frame_in number self.now) }

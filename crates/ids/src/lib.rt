@@ -8,6 +8,7 @@ mod names;
 mod outcome;
 mod place;
 mod returns;
+mod short_list;
 mod sorted_map;
 mod work;
 
@@ -17,5 +18,6 @@ pub use names::{Actor, Address, Count, Epoch, FrameNo, GrantId, Hop, Incarnation
 pub use outcome::{Outcome, Progress};
 pub use place::{Place, PlaceError, are_steps};
 pub use returns::Return;
+pub use short_list::{Numbers, ShortList, Slots};
 pub use sorted_map::{Exact, ItemChange, Named, SortedMap, TryItemChange, Values, item_of};
 pub use work::{Frame, Record, Task};

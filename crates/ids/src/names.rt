@@ -215,7 +215,7 @@ impl PartialOrd for GrantId {
 }
 
 /// The number of a frame in its subcomputation.
-#[derive(Clone, Copy, PartialEq, Eq, Debug)]
+#[derive(Clone, Copy, PartialEq, Eq, Debug, Default)]
 pub struct FrameNo {
     number: u32,
 }

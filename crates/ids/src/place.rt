@@ -33,11 +33,11 @@ impl PlaceError {
 }
 
 /// Where a task stands in the tree of a run: the steps from the root, at most 1,024 of them. Step 0 goes to the
-/// successor of a task, step i of 1 to 8 to the kid of its hole i. Up to 32 steps lie in the place itself, and more in memory of
+/// successor of a task, step i of 1 to 8 to the kid of its hole i. Up to 24 steps lie in the place itself, and more in memory of
 /// their own; beside them stands how many go to kids. Contracts see the list of steps, the last step first.
 #[derive(Drop)]
 pub struct Place {
-    steps: SmallVec<u8, 32>,
+    steps: SmallVec<u8, 24>,
     level: u16,
 }
 
@@ -80,7 +80,7 @@ impl Place {
         }
     }
 
-    /// The place that a copy of these steps leads to from the root; none where `of` gives none. Up to 32 steps take no memory.
+    /// The place that a copy of these steps leads to from the root; none where `of` gives none. Up to 24 steps take no memory.
     pub fn copy_of(alloc: Global, steps: &[u8]) -> Result<Option<Place>, AllocError>
         ensures { IfOk result (λ p. p ≡ (if is_place steps.now then Some (reverse steps.now) else None)) }
     {

@@ -292,6 +292,19 @@ impl<X: Named + Drop> SortedMap<X> {
             Err(_) => None,
         }
     }
+
+    /// Takes an item away, as `take` does, and lets it go where it stands.
+    pub fn discard(&mut self, name: (u64, u64))
+        ensures { self.new ≡ without_in X.name_of name self.old }
+    {
+        match find(self.entries.as_slice(), name) {
+            Ok((at, key)) => {
+                self.entries.remove(at);
+                let _gone = self.items.remove(key);
+            }
+            Err(_) => {}
+        }
+    }
 }
 
 impl<X: Named + Exact> Clone for SortedMap<X> {
@@ -319,6 +332,7 @@ pub fn item_of<X: Named>(items: &[X], name: (u64, u64)) -> Option<&X>
 
 /// Where the entry of a name stands, and its key; where there is none, where it would stand. Those that came last are looked at first,
 /// since they are what is mostly looked for.
+#[inline(always)]
 fn find(entries: &[Entry], name: (u64, u64)) -> Result<(usize, usize), usize>
     requires { AreInOrder (λ e. e.name) entries.now }
     ensures found { IfOk result (λ found. IsFound name entries.now found.0 found.1) }

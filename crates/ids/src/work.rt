@@ -1,10 +1,10 @@
 ghost use Rattle.std.specs.Prelude.{◌≡◌};
 ghost use Rattle.ids.specs.Naming.{name_of_frame, name_of_record};
 
-use crate::listed::Listed;
 use crate::names::{FrameNo, GrantId, Incarnation};
 use crate::place::Place;
 use crate::returns::Return;
+use crate::short_list::{Numbers, Slots};
 use crate::sorted_map::{Exact, Named};
 use std::alloc::AllocError;
 
@@ -13,18 +13,18 @@ use std::alloc::AllocError;
 pub struct Task {
     pub place: Place,
     pub thread: u8,
-    pub numbers: Listed<i64>,
+    pub numbers: Numbers,
 }
 
-/// A frame of a subcomputation: its number there, its place, its thread, its slots, of which the empty ones wait for
+/// A frame of a subcomputation: its number there, its thread, its place, its slots, of which the empty ones wait for
 /// their value, and where its own value goes. In a packet the number is below the subcomputation's next one, as is that
 /// of the frame that its value goes to; the thread is below 64, and there are at most 8 slots.
 #[derive(Drop)]
 pub struct Frame {
     pub number: FrameNo,
-    pub place: Place,
     pub thread: u8,
-    pub slots: Listed<Option<i64>>,
+    pub place: Place,
+    pub slots: Slots,
     pub returns: Return,
 }
 

@@ -1,11 +1,11 @@
-use ids::Listed;
+use ids::{Listed, Numbers};
 
 /// A spawned task: the hole that awaits its value (1 to 8), its thread and its numbers.
 #[derive(Drop)]
 pub struct Kid {
     pub hole: u8,
     pub thread: u8,
-    pub arguments: Listed<i64>,
+    pub arguments: Numbers,
 }
 
 /// A slot of a successor: a given number, or a hole that awaits the value of a kid.

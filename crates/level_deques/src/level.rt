@@ -1,5 +1,5 @@
-ghost use Rattle.std.specs.Prelude.{◌≡◌, OnOk, OnErr, IfOk, length, slice_get, [], ◌∷◌, ◌++◌};
-ghost use Rattle.std.specs.List.{filter};
+ghost use Rattle.std.specs.Prelude.{◌≡◌, ◌<◌, OnOk, OnErr, IfOk, length, slice_get, [], ◌∷◌, ◌++◌};
+ghost use Rattle.std.specs.List.{filter, remove};
 ghost use Rattle.level_deques.specs.Levels.{newest};
 ghost use Rattle.level_deques.specs.Posts.{is_post, without_post};
 
@@ -79,7 +79,7 @@ impl Level {
         while 0 < left {
             left -= 1;
             if is_post(post, &self.posts[left]) {
-                self.posts.remove(left);
+                take_at(&mut self.posts, left);
                 return;
             }
         }
@@ -113,4 +113,16 @@ fn is_post(post: &Post, other: &Post) -> bool
         && other.grant.minter().word() == post.grant.minter().word()
         && other.grant.number() == post.grant.number()
         && other.frame.number() == post.frame.number()
+}
+
+/// Takes the post of an index away. Most often that is the newest, behind which none moves.
+fn take_at(posts: &mut VecDeque<Post>, index: usize)
+    requires { index < length posts.old.items }
+    ensures { posts.new.items ≡ remove posts.old.items index }
+{
+    if index + 1 == posts.len() {
+        posts.pop_back();
+    } else {
+        posts.remove(index);
+    }
 }

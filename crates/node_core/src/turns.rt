@@ -45,7 +45,7 @@ impl<'a> Node<'a> {
         let Some(work) = work_in(alloc, grant, sub, frame)? else {
             return Err(NodeError::Stale);
         };
-        let done = Done::of(alloc, checked, work.thread, work.numbers.into_vec())?;
+        let done = Done::on(alloc, checked, work.thread, work.numbers)?;
         self.exec(alloc, grant, frame, &done)
     }
 

@@ -7,7 +7,7 @@ ghost use Rattle.node_core.specs.declared.error.NodeError.TheVariants.{Memory};
 use crate::error::NodeError;
 use crate::node::Node;
 use frames::Frames;
-use ids::{FrameNo, GrantId, Hop, Incarnation, Listed, Outcome, Progress};
+use ids::{FrameNo, GrantId, Hop, Incarnation, Listed, Numbers, Outcome, Progress};
 use node_state::{Parts, State};
 use std::alloc::{AllocError, Global};
 use sub_rules::numbers_in;
@@ -21,7 +21,7 @@ pub struct Work {
     pub grant: GrantId,
     pub frame: FrameNo,
     pub thread: u8,
-    pub numbers: Listed<i64>,
+    pub numbers: Numbers,
 }
 
 /// The state of a subcomputation, as it is shown: active; frozen for the heir to which the node leaves, with how far it was then; or

@@ -26,6 +26,7 @@ use Rattle.node_runner.specs.contracts.crew.NodeContext as NodeContext
 use Rattle.node_runner.specs.contracts.crew.WorkerContext as WorkerContext
 use Rattle.body_eval.specs.contracts.done.Done as Done
 use Rattle.ids.proofs.listed.Listed.TheSendSync as listed
+use Rattle.ids.proofs.short_list.ShortList.TheSendSync as short
 use Rattle.local_pool.specs.contracts.owner.Owner as Owner
 use Rattle.local_pool.specs.contracts.worker.BodyWorker as BodyWorker
 use Rattle.node_runner.specs.contracts.desk.Desk as Desk
@@ -82,10 +83,10 @@ captured l m n o p R G r g =
 -- tickets, and turns that come back; what a node and a body worker begin with
 
 ticket : IsSend Ticket.the_row
-ticket = search (sendable, crosses) depth 25
+ticket = search (sendable, short.the_send, crosses) depth 25
 
 done : IsSend Done.the_row
-done = search (sendable, listed.the_send, crosses) depth 25
+done = search (sendable, listed.the_send, short.the_send, crosses) depth 25
 
 evaluated : IsSend Evaluated.the_row
 evaluated = search (sendable, done) depth 25

@@ -1,5 +1,7 @@
-ghost use Rattle.std.specs.Prelude.{◌≡◌};
+ghost use Rattle.std.specs.Prelude.{◌≡◌, Some};
+ghost use Rattle.ids.specs.declared.outcome.Outcome.{Outcome as OutcomeOf};
 ghost use Rattle.serial_meaning.specs.Job.{meaning_of};
+ghost use Rattle.chronicle.specs.History.{outcome_told};
 ghost use Rattle.chronicle.specs.Seats.{IsSeatIn};
 
 use crate::counts::End;
@@ -9,7 +11,7 @@ use crate::inbox::Inbox;
 use crate::resting::rest;
 use crate::shared::{Shared, commit};
 use board::Note;
-use chronicle::{ActorSeat, Receiver};
+use chronicle::{ActorSeat, Committed, Receiver};
 use clearinghouse::HouseError;
 use event_script::{Event, HouseEvent};
 use std::alloc::Global;
@@ -48,7 +50,7 @@ pub(crate) fn run_house<'a, R: Wait + Clock, G: Gate + Sync>(
     let faults = shared.config.faults();
     let fates = Fates::new(faults.word, PLACE, faults.lose, faults.repeat);
     let mut house = House {
-        inbox: Inbox::new(Receiver::Clearinghouse, fates),
+        inbox: Inbox::new(None, Receiver::Clearinghouse, fates),
         ticked: 0,
         ticks: 0,
         idle: 0,
@@ -81,16 +83,24 @@ fn turn<'a, R: Wait + Clock, G: Gate + Sync>(
     ensures seat { IsSeatIn shared.entry.now.chronicle.now seat.new }
     ensures note { note.new.board ≡ note.old.board }
 {
-    let arrived = house.inbox.take(rt, alloc, shared.chronicle, seat);
+    let came = house.inbox.take(rt, alloc, shared.chronicle, seat);
     shared.pace.sees(house.inbox.seen());
-    if let Some(arrived) = arrived {
-        house.idle = 0;
-        if !goes_on(rt, shared, seat, note, HouseEvent::Deliver(arrived.index)) {
+    match came {
+        Ok(Some(delivered)) => {
+            house.idle = 0;
+            shared.counts.commits();
+            if !follows(shared, note, &delivered.committed) {
+                return false;
+            }
+        }
+        Ok(None) => {
+            house.idle = house.idle.saturating_add(1);
+            rest(rt, 1, house.idle);
+        }
+        Err(_) => {
+            shared.counts.ends(End::Memory);
             return false;
         }
-    } else {
-        house.idle = house.idle.saturating_add(1);
-        rest(rt, 1, house.idle);
     }
     let events = shared.counts.events();
     if events < house.ticked.saturating_add(TICK) {
@@ -103,8 +113,7 @@ fn turn<'a, R: Wait + Clock, G: Gate + Sync>(
     goes_on(rt, shared, seat, note, HouseEvent::Tick(moment))
 }
 
-/// An event of the clearinghouse is committed. The run goes on, unless an outcome is told, which is published, or the clearinghouse
-/// can't go on with its disk, or there is no memory.
+/// An event of the clearinghouse is committed. Whether the run goes on: not where there is no memory, nor where `follows` ends it.
 fn goes_on<'a, R: Wait, G: Gate + Sync>(
     rt: &R,
     shared: &Shared<'_, 'a, G>,
@@ -122,6 +131,21 @@ fn goes_on<'a, R: Wait, G: Gate + Sync>(
     let Some(committed) = commit(rt, shared.chronicle, shared.counts, seat, event) else {
         return false;
     };
+    follows(shared, note, &committed)
+}
+
+/// What follows from what was told of an event of the clearinghouse. The run goes on, unless an outcome is told, which is published, or the
+/// clearinghouse can't go on with its disk.
+fn follows<G: Gate + Sync>(
+    shared: &Shared<'_, '_, G>,
+    note: &mut Note,
+    committed: &Committed,
+) -> bool
+    requires tie { shared.now.board.now.outcome ≡ meaning_of shared.now.chronicle.now.job }
+    requires note { note.old.board ≡ shared.now.board.now.board }
+    requires outcome { (o : OutcomeOf) → outcome_told committed.now.told ≡ Some o → o ≡ meaning_of shared.now.chronicle.now.job }
+    ensures { note.new.board ≡ note.old.board }
+{
     if let Some(outcome) = committed.outcome() {
         if shared.board.publish(note, outcome).is_err() {
             shared.counts.ends(End::Memory);

@@ -1,60 +1,82 @@
-ghost use Rattle.std.specs.Prelude.{◌≡◌};
+ghost use Rattle.std.specs.Prelude.{◌≡◌, IfOk, IfSome, Some};
+ghost use Rattle.ids.specs.declared.outcome.Outcome.{Outcome as OutcomeOf};
+ghost use Rattle.serial_meaning.specs.Job.{meaning_of};
+ghost use Rattle.chronicle.specs.Deliveries.{delivery};
+ghost use Rattle.chronicle.specs.History.{actor_number, outcome_told};
 ghost use Rattle.chronicle.specs.Seats.{IsSeatIn};
 
 use crate::fates::{Fate, Fates};
-use chronicle::{ActorSeat, Arrived, Chronicle, Receiver};
+use chronicle::{ActorSeat, Chronicle, Committed, Delivery, Receiver, delivery_to};
+use event_script::NodePlace;
 use std::alloc::Global;
 use std::sync::Wait;
+use world_steps::NoMemory;
 
-/// The packets that come to an actor: whose they are, what becomes of them, from which one on they are still to be looked at, and the
-/// one that comes a second time.
+/// The packets that come to an actor: where it acts, the node's place or, where there is none, the clearinghouse; whose packets they are;
+/// what becomes of them, and of the next one, where that was drawn; from which one on they are still to be looked at; and the one that
+/// comes a second time.
 #[derive(Drop)]
 pub(crate) struct Inbox {
+    place: Option<NodePlace>,
     pub(crate) receiver: Receiver,
     fates: Fates,
+    fate: Option<Fate>,
     next: u64,
     again: Option<u64>,
 }
 
+/// A packet that came: its bytes, none where it came a second time, and what was told of it.
+#[derive(Drop)]
+pub(crate) struct Delivered {
+    pub(crate) bytes: Vec<u8>,
+    pub(crate) committed: Committed,
+}
+
 impl Inbox {
     /// None of the packets was looked at.
-    pub(crate) fn new(receiver: Receiver, fates: Fates) -> Inbox {
+    pub(crate) fn new(place: Option<NodePlace>, receiver: Receiver, fates: Fates) -> Inbox {
         Inbox {
+            place,
             receiver,
             fates,
+            fate: None,
             next: 0,
             again: None,
         }
     }
 
-    /// The packet that comes in this turn, if one does: one that comes a second time, without its bytes, or else the next one that is
-    /// addressed to the actor, if it isn't lost.
+    /// The packet that comes in this turn, if one does: one that comes a second time, or else the next one that is addressed to the
+    /// actor, if it isn't lost. Its delivery is committed. Refused only when out of memory.
     pub(crate) fn take<'a, R: Wait>(
         &mut self,
         rt: &R,
         alloc: Global,
         chronicle: &Chronicle<'a>,
         seat: &mut ActorSeat<'a>,
-    ) -> Option<Arrived>
+    ) -> Result<Option<Delivered>, NoMemory>
         requires { IsSeatIn chronicle.now seat.old }
-        ensures { seat.new ≡ seat.old }
+        ensures same { IsSeatIn chronicle.entry.now seat.new }
+        ensures outcome { IfOk result (λ d. IfSome d (λ came. (o : OutcomeOf)
+            → outcome_told came.committed.told ≡ Some o → o ≡ meaning_of chronicle.entry.now.job)) }
     {
+        if !seat.owns(&delivery_to(self.place, 0)) {
+            return Ok(None);
+        }
         if let Some(index) = self.again {
             self.again = None;
-            return Some(Arrived {
-                index,
-                bytes: Vec::new(alloc),
-            });
+            let committed = chronicle.commit(rt, seat, delivery_to(self.place, index))?;
+            let bytes = Vec::new(alloc);
+            return Ok(Some(Delivered { bytes, committed }));
         }
         if chronicle.sent() <= self.next {
-            return None;
+            return Ok(None);
         }
-        match chronicle.packet_for(rt, alloc, seat, self.next, self.receiver) {
-            Ok(arrived) => self.comes(arrived),
-            Err(seen) => {
-                self.next = seen;
-                None
+        match self.next_fate() {
+            Fate::Lost => {
+                self.loses(rt, alloc, chronicle, seat);
+                Ok(None)
             }
+            fate => self.comes(rt, alloc, chronicle, seat, fate),
         }
     }
 
@@ -63,16 +85,72 @@ impl Inbox {
         self.next
     }
 
-    /// A packet that was found, if it isn't lost.
-    fn comes(&mut self, arrived: Arrived) -> Option<Arrived> {
-        self.next = arrived.index.saturating_add(1);
-        match self.fates.next() {
-            Fate::Lost => None,
-            Fate::Once => Some(arrived),
-            Fate::Twice => {
-                self.again = Some(arrived.index);
-                Some(arrived)
+    /// What becomes of the next packet, which is drawn once for each.
+    fn next_fate(&mut self) -> Fate
+        ensures { self.new.place ≡ self.old.place }
+    {
+        match self.fate {
+            Some(fate) => fate,
+            None => {
+                let fate = self.fates.next();
+                self.fate = Some(fate);
+                fate
             }
         }
+    }
+
+    /// The next packet is looked for, and passed over.
+    fn loses<'a, R: Wait>(
+        &mut self,
+        rt: &R,
+        alloc: Global,
+        chronicle: &Chronicle<'a>,
+        seat: &mut ActorSeat<'a>,
+    )
+        requires { IsSeatIn chronicle.now seat.old }
+        ensures { seat.new ≡ seat.old }
+    {
+        match chronicle.packet_for(rt, alloc, seat, self.next, self.receiver) {
+            Ok(arrived) => self.passes(arrived.index),
+            Err(seen) => self.next = seen,
+        }
+    }
+
+    /// The next packet is looked for, and comes in the same turn of the lock.
+    fn comes<'a, R: Wait>(
+        &mut self,
+        rt: &R,
+        alloc: Global,
+        chronicle: &Chronicle<'a>,
+        seat: &mut ActorSeat<'a>,
+        fate: Fate,
+    ) -> Result<Option<Delivered>, NoMemory>
+        requires seat { IsSeatIn chronicle.now seat.old }
+        requires owns { actor_number (delivery self.old.place 0) ≡ seat.old.actor }
+        ensures same { IsSeatIn chronicle.entry.now seat.new }
+        ensures outcome { IfOk result (λ d. IfSome d (λ came. (o : OutcomeOf)
+            → outcome_told came.committed.told ≡ Some o → o ≡ meaning_of chronicle.entry.now.job)) }
+    {
+        let place = self.place;
+        match chronicle.commit_delivery(rt, alloc, seat, self.next, self.receiver, place)? {
+            Delivery::Came(arrived, committed) => {
+                self.passes(arrived.index);
+                if fate == Fate::Twice {
+                    self.again = Some(arrived.index);
+                }
+                let bytes = arrived.bytes;
+                Ok(Some(Delivered { bytes, committed }))
+            }
+            Delivery::Looked(seen) => {
+                self.next = seen;
+                Ok(None)
+            }
+        }
+    }
+
+    /// A packet was found: the next one is looked for behind it.
+    fn passes(&mut self, index: u64) {
+        self.next = index.saturating_add(1);
+        self.fate = None;
     }
 }

@@ -6,13 +6,13 @@ use crate::counts::End;
 use crate::desk::Desk;
 use crate::fates::Fates;
 use crate::gate::Gate;
-use crate::inbox::Inbox;
+use crate::inbox::{Delivered, Inbox};
 use crate::members::Members;
 use crate::plans::Plans;
 use crate::resting::{YIELDS, nap, pause, pauses, rest, rest_idle, sleeps};
 use crate::shared::{Shared, commit, commit_turn};
 use crate::turn::Evaluated;
-use chronicle::{ActorSeat, Arrived, Continued, Receiver};
+use chronicle::{ActorSeat, Continued, Receiver};
 use event_script::{Event, NodeEvent, NodePlace};
 use node_core::NodeError;
 use start_words::Pen;
@@ -85,7 +85,7 @@ pub(crate) fn run_node<'a, R: Wait + Clock, G: Gate + Sync>(
     let mut node = Node {
         place,
         word: 0,
-        inbox: Inbox::new(Receiver::Worker(0), fates),
+        inbox: Inbox::new(Some(place), Receiver::Worker(0), fates),
         members: Members::new(alloc, faults.word, number),
         plans: Plans::new(shared.config, place),
         may_be_ready: false,
@@ -180,8 +180,13 @@ fn goes_on<'a, R: Wait + Clock, G: Gate + Sync>(
     ensures line { IsLineOf shared.entry.now.chronicle.now.job.program desk.new.line }
 {
     let returned = desk.bells().returned();
-    if let Some(arrived) = node.inbox.take(rt, alloc, shared.chronicle, seat) {
-        return delivers(rt, alloc, shared, seat, node, &arrived);
+    match node.inbox.take(rt, alloc, shared.chronicle, seat) {
+        Ok(Some(delivered)) => return takes(alloc, shared, node, &delivered),
+        Ok(None) => {}
+        Err(_) => {
+            shared.counts.ends(End::Memory);
+            return false;
+        }
     }
     if let Some(evaluated) = desk.take(rt, shared.chronicle.job().checked()) {
         return executes(rt, alloc, shared, seat, desk, node, &evaluated);
@@ -347,23 +352,18 @@ fn sends_again<'a, R: Wait, G: Gate + Sync>(
     }
 }
 
-/// A packet comes to the node. Whether there was memory.
-fn delivers<'a, R: Wait, G: Gate + Sync>(
-    rt: &R,
+/// A packet came to the node. Whether there was memory.
+fn takes<G: Gate + Sync>(
     alloc: Global,
-    shared: &Shared<'_, 'a, G>,
-    seat: &mut ActorSeat<'a>,
+    shared: &Shared<'_, '_, G>,
     node: &mut Node,
-    arrived: &Arrived,
-) -> bool
-    requires { IsSeatIn shared.now.chronicle.now seat.old }
-    ensures { IsSeatIn shared.entry.now.chronicle.now seat.new }
-{
-    let Some(told) = does(rt, shared, seat, node, NodeEvent::Deliver(arrived.index)) else {
-        return false;
-    };
+    delivered: &Delivered,
+) -> bool {
+    let told = delivered.committed.told;
+    shared.counts.commits();
+    node.notes(told);
     node.has_asked = false;
-    if matches!(told, EventAnswer::Did(_, _)) && !node.members.take(alloc, &arrived.bytes) {
+    if matches!(told, EventAnswer::Did(_, _)) && !node.members.take(alloc, &delivered.bytes) {
         shared.counts.ends(End::Memory);
         return false;
     }

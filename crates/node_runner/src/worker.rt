@@ -98,7 +98,7 @@ fn works<R: Wait + Clock, G: Gate + Sync>(
         return false;
     }
     let frame = frame_of(&work);
-    let Ok(turn) = Done::of(alloc, checked, work.thread, work.numbers.into_vec()) else {
+    let Ok(turn) = Done::on(alloc, checked, work.thread, work.numbers) else {
         shared.counts.ends(End::Memory);
         return false;
     };

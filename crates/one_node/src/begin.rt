@@ -5,7 +5,7 @@ ghost use Rattle.one_node.specs.Runs.{own_grant, post_of, root_task, run_of, sta
 ghost use Rattle.one_node.specs.Holding.{Holds};
 
 use agreement::{granted_content_agrees, root_content_agrees};
-use ids::{Actor, Epoch, FrameNo, GrantId, Listed, Place, Task};
+use ids::{Actor, Epoch, FrameNo, GrantId, Numbers, Place, Task};
 use level_deques::{Post, Posts};
 use serial_meaning::Job;
 use std::alloc::{AllocError, Global};
@@ -45,7 +45,7 @@ fn root_task(alloc: Global, job: &Job) -> Result<Task, AllocError>
     Ok(Task {
         place: Place::root(alloc),
         thread: job.main(),
-        numbers: Listed::from_vec(Vec::from_slice(alloc, job.input())?),
+        numbers: Numbers::copy_of(alloc, job.input())?,
     })
 }
 

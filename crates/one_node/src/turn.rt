@@ -8,11 +8,11 @@ use crate::begin::{Run, post_of};
 use crate::fault::RunFault;
 use agreement::turn_keeps_agreement;
 use body_eval::Done;
-use ids::{FrameNo, Listed};
+use ids::FrameNo;
 use level_deques::Posts;
 use serial_meaning::{CountsTurns, Job};
 use std::alloc::{AllocError, Global};
-use sub_rules::{Content, Prepared, Readied, SubError, numbers_in, prepare_exec};
+use sub_rules::{Content, Prepared, Readied, ReadyList, SubError, numbers_in, prepare_exec};
 
 /// One turn of a run that goes on, where it stands: the newest ready frame of the greatest level runs, and is counted.
 pub fn turn<C: CountsTurns>(
@@ -51,7 +51,7 @@ fn evaluated(
 {
     let frame = content.frames.get(frame).unwrap();
     let numbers = numbers_in(alloc, frame.slots.as_slice())?.unwrap();
-    Done::of(alloc, job.checked(), frame.thread, numbers.into_vec())
+    Done::on(alloc, job.checked(), frame.thread, numbers)
 }
 
 /// Carries out a frame by a turn of it, where its content stands. The frames that became ready.
@@ -60,7 +60,7 @@ fn carry_out(
     content: &mut Content,
     frame: FrameNo,
     done: &Done,
-) -> Result<Listed<Readied>, RunFault>
+) -> Result<ReadyList, RunFault>
     requires sound { IsSound content.old }
     requires turn { IsTurnOf content.old frame done.now }
     ensures answer { IsCarried (exec_content done.now frame content.old) content.new result }

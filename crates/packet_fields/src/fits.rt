@@ -7,8 +7,8 @@ ghost use Rattle.packet_fields.specs.Fields as field;
 
 use ids::limits::{MOST_MEMBERS, MOST_NUMBERS, MOST_SLOTS, MOST_STEPS, MOST_THREADS};
 use ids::{
-    Actor, Count, Epoch, Frame, FrameNo, GrantId, Hop, Incarnation, Listed, Member, Outcome, Place,
-    Progress, Record, Return, Status, Task,
+    Actor, Count, Epoch, Frame, FrameNo, GrantId, Hop, Incarnation, Listed, Member, Numbers,
+    Outcome, Place, Progress, Record, Return, Slots, Status, Task,
 };
 
 /// A worker's incarnation: always.
@@ -133,7 +133,7 @@ fn each_number(numbers: &[i64]) -> bool
 
 /// At most 8 numbers.
 #[tactic(auto, using(crate::proofs::Fitting::numbers_fits))]
-pub fn numbers(value: &Listed<i64>) -> bool
+pub fn numbers(value: &Numbers) -> bool
     ensures fits { result ≡ field.numbers.fits value.now }
     ensures short { length value.now ≤ 8 → IsTrue result }
 {
@@ -195,7 +195,7 @@ fn each_slot(slots: &[Option<i64>]) -> bool
 
 /// At most 8 slots.
 #[tactic(auto, using(crate::proofs::Fitting::slots_fits))]
-pub fn slots(value: &Listed<Option<i64>>) -> bool
+pub fn slots(value: &Slots) -> bool
     ensures { result ≡ field.slots.fits value.now }
 {
     value.len() <= MOST_SLOTS as usize && each_slot(value.as_slice())

@@ -10,16 +10,10 @@ use crate::fault::{Fault, ReadError};
 use crate::input::Input;
 use ids::limits::{MOST_MEMBERS, MOST_NUMBERS, MOST_SLOTS, MOST_STEPS, MOST_THREADS};
 use ids::{
-    Actor, Count, Epoch, Frame, FrameNo, GrantId, Hop, Incarnation, Listed, Member, Outcome, Place,
-    Progress, Record, Return, Status, Task, are_steps,
+    Actor, Count, Epoch, Frame, FrameNo, GrantId, Hop, Incarnation, Listed, Member, Numbers,
+    Outcome, Place, Progress, Record, Return, Slots, Status, Task, are_steps,
 };
 use std::alloc::AllocError;
-
-/// A signed number has so many bytes.
-const NUMBER_BYTES: usize = 8;
-
-/// A slot has at least so many bytes.
-const LEAST_SLOT: usize = 1;
 
 /// A member has at least so many bytes: 8 of its incarnation and 1 of its status.
 const LEAST_MEMBER: usize = 9;
@@ -185,10 +179,10 @@ pub fn thread(input: &mut Input<'_>) -> Result<u8, Fault>
     Ok(thread)
 }
 
-fn numbers_of(count: u8, input: &mut Input<'_>) -> Result<Listed<i64>, ReadError>
+fn numbers_of(count: u8, input: &mut Input<'_>) -> Result<Numbers, ReadError>
     ensures { Gives (λ x. (x, input.new)) result ((plain field.signed count).read input.old) }
 {
-    let mut numbers = with_room(count as usize, NUMBER_BYTES, input)?;
+    let mut numbers = Numbers::with_capacity(input.alloc(), usize::from(count))?;
     for _ in 0..count {
         let next = input.signed()?;
         numbers.push(next)?;
@@ -198,7 +192,7 @@ fn numbers_of(count: u8, input: &mut Input<'_>) -> Result<Listed<i64>, ReadError
 
 /// At most 8 numbers.
 #[tactic(auto, unfolding(crate::specs::Fields::numbers))]
-pub fn numbers(input: &mut Input<'_>) -> Result<Listed<i64>, ReadError>
+pub fn numbers(input: &mut Input<'_>) -> Result<Numbers, ReadError>
     ensures { Gives (λ x. (x, input.new)) result (field.numbers.read input.old) }
 {
     let count = input.byte()?;
@@ -264,10 +258,10 @@ pub(crate) fn slot(input: &mut Input<'_>) -> Result<Option<i64>, Fault>
     }
 }
 
-fn slots_of(count: u8, input: &mut Input<'_>) -> Result<Listed<Option<i64>>, ReadError>
+fn slots_of(count: u8, input: &mut Input<'_>) -> Result<Slots, ReadError>
     ensures { Gives (λ x. (x, input.new)) result ((plain field.slot count).read input.old) }
 {
-    let mut slots = with_room(count as usize, LEAST_SLOT, input)?;
+    let mut slots = Slots::with_capacity(input.alloc(), usize::from(count))?;
     for _ in 0..count {
         let next = slot(input)?;
         slots.push(next)?;
@@ -277,7 +271,7 @@ fn slots_of(count: u8, input: &mut Input<'_>) -> Result<Listed<Option<i64>>, Rea
 
 /// At most 8 slots.
 #[tactic(auto, unfolding(crate::specs::Fields::slots))]
-pub fn slots(input: &mut Input<'_>) -> Result<Listed<Option<i64>>, ReadError>
+pub fn slots(input: &mut Input<'_>) -> Result<Slots, ReadError>
     ensures { Gives (λ x. (x, input.new)) result (field.slots.read input.old) }
 {
     let count = input.byte()?;

@@ -9,8 +9,8 @@ ghost use Rattle.packet_fields.specs.Fields as field;
 
 use byteorder::{BigEndian, ByteOrder};
 use ids::{
-    Actor, Count, Epoch, Frame, FrameNo, GrantId, Hop, Incarnation, Listed, Member, Outcome, Place,
-    Progress, Record, Return, Status, Task,
+    Actor, Count, Epoch, Frame, FrameNo, GrantId, Hop, Incarnation, Listed, Member, Numbers,
+    Outcome, Place, Progress, Record, Return, Slots, Status, Task,
 };
 use std::alloc::AllocError;
 
@@ -196,7 +196,7 @@ fn each_number(out: &mut Vec<u8>, numbers: &[i64]) -> Result<(), AllocError>
 
 /// Numbers behind their count.
 #[tactic(auto, using(crate::proofs::Writing::numbers_write, std::proofs::Common::append_assoc))]
-pub fn numbers(out: &mut Vec<u8>, value: &Listed<i64>) -> Result<(), AllocError>
+pub fn numbers(out: &mut Vec<u8>, value: &Numbers) -> Result<(), AllocError>
     ensures { OnOk result (out.new.items ≡ out.old.items ++ field.numbers.write value.now) }
 {
     low_byte(out, value.len())?;
@@ -269,7 +269,7 @@ fn each_slot(out: &mut Vec<u8>, slots: &[Option<i64>]) -> Result<(), AllocError>
 
 /// Slots behind their count.
 #[tactic(auto, using(crate::proofs::Writing::slots_write, std::proofs::Common::append_assoc))]
-pub fn slots(out: &mut Vec<u8>, value: &Listed<Option<i64>>) -> Result<(), AllocError>
+pub fn slots(out: &mut Vec<u8>, value: &Slots) -> Result<(), AllocError>
     ensures { OnOk result (out.new.items ≡ out.old.items ++ field.slots.write value.now) }
 {
     low_byte(out, value.len())?;

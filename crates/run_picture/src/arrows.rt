@@ -47,22 +47,28 @@ fn write_arrow<O: Write>(
     let look = sent.kind.family().look();
     let again = if delivery.is_again { " again" } else { "" };
     let ignored = if delivery.is_ignored { "-ignored" } else { "" };
-    let event = delivery.at.saturating_add(1);
-    write!(
-        out,
-        "<g><title>{}, {} event {event}{}</title><path class=\"hit\" d=\"",
-        PacketText(delivery.packet, *sent),
-        if delivery.is_again {
-            "comes again at"
-        } else {
-            "comes at"
-        },
-        if delivery.is_ignored { ", ignored" } else { "" }
-    )?;
+    write_coming(out, sent, delivery)?;
+    write!(out, "<path class=\"hit\" d=\"")?;
     write_way(out, layout, sent, delivery)?;
     write!(out, "\"/><path class=\"arrow {look}{again}\" d=\"")?;
     write_way(out, layout, sent, delivery)?;
     writeln!(out, "\" marker-end=\"url(#{look}{ignored})\"/></g>")
+}
+
+/// Writes the title of an arrow: which packet comes, and when.
+fn write_coming<O: Write>(out: &mut O, sent: &Sent, delivery: &Delivery) -> io::Result<()> {
+    let packet = PacketText(delivery.packet, *sent);
+    let comes = if delivery.is_again {
+        "comes again at"
+    } else {
+        "comes at"
+    };
+    let ignored = if delivery.is_ignored { ", ignored" } else { "" };
+    let event = delivery.at.saturating_add(1);
+    write!(
+        out,
+        "<g><title>{packet}, {comes} event {event}{ignored}</title>"
+    )
 }
 
 /// Writes the way of an arrow: straight, or within one lane as an arc above its line.

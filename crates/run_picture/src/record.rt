@@ -4,11 +4,11 @@ use crate::deed::{Deed, Effect, Site, Step, read_event};
 use crate::held::{Bar, Lane};
 use crate::kind::Kind;
 use crate::shown::{Death, Delivery, Life, Lost, Sent, Turn, Worker, keep};
-use codec::{Body, Roster, decode};
+use world::{EventAnswer, Watch, World};
+use codec::{Body, Packet, Roster, decode};
 use event_script::{Event, HouseEvent, NodePlace};
 use ids::{Outcome, Status};
 use std::alloc::Global;
-use world::{EventAnswer, Watch, World};
 
 /// The error of a device call that failed, which stops the clearinghouse.
 const DEVICE: u8 = 72;
@@ -274,24 +274,29 @@ impl Recorder {
             let Some(datagram) = world.packet(index as u64) else {
                 return Err(Lost);
             };
-            let Ok(packet) = decode(alloc, datagram.as_bytes()) else {
-                return Err(Lost);
-            };
-            if let Body::Roster(roster) = packet.body() {
-                self.say(at, roster)?;
+            match decode(alloc, datagram.as_bytes()) {
+                Ok(packet) => self.keep_packet(at, step.site, &packet)?,
+                Err(_) => return Err(Lost),
             }
-            let (kind, grant) = Kind::of(packet.body());
-            let sent = Sent {
-                at,
-                site: step.site,
-                to: packet.to().word(),
-                kind,
-                grant,
-                is_delivered: false,
-            };
-            keep(&mut self.packets, sent)?;
         }
         Ok(())
+    }
+
+    /// Keeps a packet that was sent, and what it says where it is a roster.
+    fn keep_packet(&mut self, at: usize, site: Site, packet: &Packet) -> Result<(), Lost> {
+        if let Body::Roster(roster) = packet.body() {
+            self.say(at, roster)?;
+        }
+        let (kind, grant) = Kind::of(packet.body());
+        let sent = Sent {
+            at,
+            site,
+            to: packet.to().word(),
+            kind,
+            grant,
+            is_delivered: false,
+        };
+        keep(&mut self.packets, sent)
     }
 
     /// A roster is sent: whom it is the first one to show dead.

@@ -12,7 +12,9 @@ mod leaving;
 mod readiness;
 mod updates;
 
-pub use change::{ContentChange, ContentGrant, ContentRedo, Filling, Opening, Readied, SubError};
+pub use change::{
+    ContentChange, ContentGrant, ContentRedo, Filling, Opening, Readied, ReadyList, SubError,
+};
 pub use content::Content;
 pub use executing::{exec, is_stale, prepare_exec};
 pub use granting::{close, grant_out, granted, numbers_in, prepare_close, prepare_grant_out, redo};

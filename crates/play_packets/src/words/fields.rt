@@ -1,7 +1,7 @@
 use crate::words::unread::Unread;
 use ids::{
     Actor, Address, Count, Epoch, FrameNo, GrantId, Hop, Incarnation, Listed, Member, Outcome,
-    Place, Progress, Return, Status,
+    Place, Progress, Return, Slots, Status,
 };
 use std::alloc::Global;
 
@@ -140,8 +140,8 @@ fn slot(text: &str) -> Option<Option<i64>> {
     }
 }
 
-pub fn slots(alloc: Global, text: &str) -> Result<Listed<Option<i64>>, Unread> {
-    let mut list = Listed::new(alloc);
+pub fn slots(alloc: Global, text: &str) -> Result<Slots, Unread> {
+    let mut list = Slots::new(alloc);
     if text == "-" {
         return Ok(list);
     }

@@ -4,7 +4,7 @@ use codec::{
     Abort, Beat, Body, Grant, Join, Leave, Offer, OfferAck, Packet, Refuse, ResultAck, Roster,
     Steal, TaskResult,
 };
-use ids::{Frame, FrameNo, GrantId, Listed, Record, Task};
+use ids::{Frame, FrameNo, GrantId, Listed, Numbers, Record, Task};
 use play_words::CommandLine;
 use std::alloc::{AllocError, Global};
 
@@ -136,7 +136,7 @@ fn task(alloc: Global, words: &mut Words<'_>) -> Result<Task, Unread> {
     Ok(Task {
         place: fields::place(alloc, words.value("at")?)?,
         thread,
-        numbers: fields::numbers(alloc, words.value("on")?)?,
+        numbers: Numbers::from_vec(fields::numbers(alloc, words.value("on")?)?.into_vec()),
     })
 }
 
@@ -266,7 +266,7 @@ fn record(alloc: Global, grant: GrantId, text: &str) -> Result<Record, Unread> {
         task: Task {
             place: fields::place(alloc, place)?,
             thread: read(fields::byte(thread))?,
-            numbers: fields::numbers(alloc, numbers)?,
+            numbers: Numbers::from_vec(fields::numbers(alloc, numbers)?.into_vec()),
         },
         returns: read(fields::returned(returns))?,
     })

@@ -1,4 +1,4 @@
-use Rattle.std.proofs.Common.{◌≡◌, Some, rules, inl, inr, refl, subst, sym, ap, false, true}
+use Rattle.std.proofs.Common.{◌≡◌, Some, rules, inl, inr, refl, subst, sym, true}
 use Rattle.ids.specs.declared.outcome.Outcome.{Outcome}
 use Rattle.serial_meaning.specs.Job.{meaning_of}
 use Rattle.world_steps.specs.Calls.{WorldOn}

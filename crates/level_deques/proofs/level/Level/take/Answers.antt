@@ -1,7 +1,6 @@
 use Rattle.std.proofs.Common.{ℕ, ◌≡◌, ◌≤◌, ◌<◌, ◌+◌, ◌-◌, List, false, length, drop, ap, sym, ◌∙◌, arith}
 use Rattle.level_deques.specs.declared.posts.Post.{Post}
 use Rattle.level_deques.specs.Posts.{is_posted}
-use Rattle.level_deques.proofs.Lists.{on_some}
 use Rattle.level_deques.proofs.Reading.{same_level, without_here}
 use Rattle.level_deques.proofs.Taking.{no_post}
 use Rattle.level_deques.proofs.level.Level.take.Goals as goal
@@ -18,8 +17,8 @@ returns-then-is_post c =
     let items = c.loop-left.self-inside.posts.items in
     let within : c.loop-left.left - 1 < length items = omega (arith, c.loop-left.invariant.0, some) in
     let none = rest c.args.post.now items c.loop-left.left some c.loop-left.invariant.1 in
-    let left = without_here c.args.post.now items c.remove.new.self.items (c.loop-left.left - 1) c.index.result.now within c.index.ensures (sym c.is_post.ensures ∙ c.if-is_post.true) none (on_some c.remove.result _ c.remove.ensures.items (c.remove.ensures.variant.1 (omega (arith, within, c.loop-left.self-inside.posts.ok.0)))) in
-    same_level c.loop-left.self-inside.level c.args.self.now.level c.remove.new.self.items items c.args.self.now.posts c.args.post.now c.loop-left.invariant.2 left c.loop-left.invariant.3
+    let left = without_here c.args.post.now items c.take_at.new.posts.items (c.loop-left.left - 1) c.index.result.now within c.index.ensures (sym c.is_post.ensures ∙ c.if-is_post.true) none c.take_at.ensures in
+    same_level c.loop-left.self-inside.level c.args.self.now.level c.take_at.new.posts.items items c.args.self.now.posts c.args.post.now c.loop-left.invariant.2 left c.loop-left.invariant.3
 
 pub returns : goal.returns
 returns c =

@@ -1,4 +1,4 @@
-use Rattle.std.proofs.Common.{◌≡◌, Some, is_some, true, rules}
+use Rattle.std.proofs.Common.{◌≡◌, Some, is_some, true, refl, rules}
 use Rattle.kind_check.specs.Total.{IsTotal}
 use Rattle.sub_rules.specs.Content.{ready_in}
 use Rattle.subcomputation.specs.Subs.{sub_in}
@@ -17,14 +17,13 @@ returns-in_err-work-clause-out_of_memory c =
     let some : is_some (ready_in c.args.frame c.in-Some.sub.now.content) ≡ true = search rules in
     λ _. ready_lacks_memory c.args.self.now.job c.args.grant c.args.frame c.args.self.now.node c.in-Some.sub.now member there total (is.fits c.args.grant c.in-Some.sub.now there) some
 
-pub of-requires : goal.of-requires
-of-requires c =
+pub on-requires : goal.on-requires
+on-requires c =
     let there : sub_in c.args.grant c.args.self.now.node.subs ≡ Some c.in-Some.sub.now = search rules in
     let is : IsNode c.args.self.now = rw (← c.self.view_is) c.self.invariant in
     let told : Some c.in-Some-2.work ≡ work_in c.args.grant c.args.frame c.in-Some.sub.now.content = search rules in
     let program : c.checked-checked.result.now ≡ c.args.self.now.job.program = search rules in
-    let numbers : c.into_vec.result.items ≡ c.in-Some-2.work.numbers = search rules in
-    work_takes c.args.self.now.job.program c.checked-checked.result.now c.args.grant c.args.frame c.in-Some.sub.now.content c.in-Some-2.work c.into_vec.result.items (is.fits c.args.grant c.in-Some.sub.now there) told program numbers
+    work_takes c.args.self.now.job.program c.checked-checked.result.now c.args.grant c.args.frame c.in-Some.sub.now.content c.in-Some-2.work c.in-Some-2.work.numbers (is.fits c.args.grant c.in-Some.sub.now there) told program refl
 
 pub returns-in_err-done-clause-out_of_memory : goal.returns-in_err-done-clause-out_of_memory
 returns-in_err-done-clause-out_of_memory c =

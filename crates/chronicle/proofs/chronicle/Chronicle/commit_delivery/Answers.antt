@@ -1,0 +1,15 @@
+use Rattle.std.proofs.Common.{rules}
+use Rattle.chronicle.proofs.Seats.{free_seat}
+use Rattle.chronicle.proofs.Commits.{grows_by, gains_by}
+use Rattle.chronicle.proofs.chronicle.Chronicle.commit_delivery.Goals as goal
+
+pub take-kept-requires : goal.take-kept-requires
+take-kept-requires g c = record { seat = free_seat c.self.inside.lock c.seat.inside.seat c.args.self.now c.args.seat.now c.self.view_is c.seat.view_is c.requires.seat }
+
+pub put-requires-clause-grown : goal.put-requires-clause-grown
+put-requires-clause-grown g c =
+    grows_by c.args.place c.comes-answer.result c.seat-2.inside.seat.actor c.take-kept.result.entries c.comes-answer.new.kept.entries c.seat-2.inside.seat.taken (search rules) (search rules) c.comes-answer.ensures.history c.comes-answer.ensures.err
+
+pub returns-clause-entry : goal.returns-clause-entry
+returns-clause-entry g c =
+    gains_by c.args.place c.comes-answer.result c.args.seat.now.actor c.take-kept.result.entries c.comes-answer.new.kept.entries c.args.seat.now.entries c.put.new.seat.entries c.requires.owns c.comes-answer.ensures.history (search rules) (search rules)
