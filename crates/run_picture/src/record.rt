@@ -4,11 +4,11 @@ use crate::deed::{Deed, Effect, Site, Step, read_event};
 use crate::held::{Bar, Lane};
 use crate::kind::Kind;
 use crate::shown::{Death, Delivery, Life, Lost, Sent, Turn, Worker, keep};
-use world::{EventAnswer, Watch, World};
 use codec::{Body, Packet, Roster, decode};
 use event_script::{Event, HouseEvent, NodePlace};
 use ids::{Outcome, Status};
 use std::alloc::Global;
+use world::{EventAnswer, Watch, World};
 
 /// The error of a device call that failed, which stops the clearinghouse.
 const DEVICE: u8 = 72;
