@@ -143,7 +143,8 @@ fn follows<G: Gate + Sync>(
 ) -> bool
     requires tie { shared.now.board.now.outcome ≡ meaning_of shared.now.chronicle.now.job }
     requires note { note.old.board ≡ shared.now.board.now.board }
-    requires outcome { (o : OutcomeOf) → outcome_told committed.now.told ≡ Some o → o ≡ meaning_of shared.now.chronicle.now.job }
+    requires outcome { (o : OutcomeOf) → outcome_told committed.now.told ≡ Some o
+        → o ≡ meaning_of shared.now.chronicle.now.job }
     ensures { note.new.board ≡ note.old.board }
 {
     if let Some(outcome) = committed.outcome() {
