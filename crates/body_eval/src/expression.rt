@@ -1,4 +1,4 @@
-ghost use Rattle.std.specs.Prelude.{◌≡◌, IfOk, IsSome, Some};
+ghost use Rattle.std.specs.Prelude.{◌≡◌, IfOk, IfSome, IsSome, Some};
 ghost use Rattle.kind_check.specs.Value.{result_of};
 ghost use Rattle.kind_check.specs.Code.{code_value, code_values};
 
@@ -44,6 +44,19 @@ fn remainder(a: i64, b: i64) -> i64
     if b == 0 { 0 } else { a.wrapping_rem(b) }
 }
 
+/// The value of an expression without an operator. It is compiled into the call that asks: most operands are such.
+#[inline(always)]
+fn plain_value(values: &[i64], code: &Code) -> Option<i64>
+    requires { IsSome (code_value values.now code.now) }
+    ensures { IfSome result (λ number. code_value values.now code.now ≡ Some number) }
+{
+    match code {
+        Code::Number(number) => Some(*number),
+        Code::Local(place) => Some(values[*place]),
+        Code::Binary(_, _, _) => None,
+    }
+}
+
 /// The value of an expression, where the environment is these numbers.
 pub fn value(values: &[i64], code: &Code) -> i64
     requires { IsSome (code_value values.now code.now) }
@@ -53,8 +66,14 @@ pub fn value(values: &[i64], code: &Code) -> i64
         Code::Number(number) => *number,
         Code::Local(place) => values[*place],
         Code::Binary(operator, a, b) => {
-            let left = value(values, a);
-            let right = value(values, b);
+            let left = match plain_value(values, a) {
+                Some(number) => number,
+                None => value(values, a),
+            };
+            let right = match plain_value(values, b) {
+                Some(number) => number,
+                None => value(values, b),
+            };
             operate(*operator, left, right)
         }
     }

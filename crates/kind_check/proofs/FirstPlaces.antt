@@ -2,13 +2,10 @@
 use Rattle.std.proofs.Common.{◌≡◌, ◌∙◌, ◌≢◌, sym, refl, ap, arith, ℕ, suc, Bool, true, false, cond, List, [], ◌∷◌, ◌++◌, ◌==◌, length, map, Option, Some, None, if◌then◌else◌}
 use Rattle.std.proofs.lemmas.Bool.Decides.{nat_tests}
 use Rattle.std.specs.Borrow.{Bor}
-use Rattle.std.specs.BTreeMap.{BTreeMap, get_by}
-use Rattle.std.specs.Cmp.Lexicographic.{slice_cmp}
-use Rattle.std.specs.Ordering.{nat_cmp, is_eq}
+use Rattle.std.specs.HashMap.{HashMap, get_by}
 use Rattle.std.specs.Str.{bytes_eq}
 use Rattle.std.specs.Option.{is_some}
 use Rattle.std.proofs.lemmas.List.{map-append, length-map}
-use Rattle.std.proofs.lemmas.Map.Text.{is_eq-slice_cmp}
 use Rattle.std.proofs.lemmas.Slice.Eq.{bytes_eq-Decides}
 use Rattle.kind_check.specs.Places.{place_of, further}
 use Rattle.kind_check.specs.FindsFirst.{FindsFirst}
@@ -92,11 +89,11 @@ names_more : (items more : List (Bor (List ℕ))) (n : Bor (List ℕ)) → more 
 names_more items more n e = rw (e, map-append) refl
 
 -- what is found of a name
-abbrev found_of : BTreeMap (Bor (List ℕ)) ℕ → Bor (List ℕ) → Option ℕ
-found_of first name = get_by (λ k. slice_cmp nat_cmp name.now k.now) first
+abbrev found_of : {S : Type 0} → HashMap (Bor (List ℕ)) ℕ S → Bor (List ℕ) → Option ℕ
+found_of first name = get_by (λ k. bytes_eq name.now k.now) first
 
 -- a name that the map knows is added
-pub known_added : (first : BTreeMap (Bor (List ℕ)) ℕ) (items more : List (Bor (List ℕ))) (n : Bor (List ℕ)) → FindsFirst first (map (λ x. x.now) items) → more ≡ items ++ n ∷ [] → is_some (found_of first n) ≡ true → FindsFirst first (map (λ x. x.now) more)
+pub known_added : {S : Type 0} (first : HashMap (Bor (List ℕ)) ℕ S) (items more : List (Bor (List ℕ))) (n : Bor (List ℕ)) → FindsFirst first (map (λ x. x.now) items) → more ≡ items ++ n ∷ [] → is_some (found_of first n) ≡ true → FindsFirst first (map (λ x. x.now) more)
 known_added first items more n f e h = record { found = λ name. f.found name ∙ at_place (place_of names n.now) refl (rw (f.found n) at h) name ∙ ap (λ ns. place_of ns name.now) (sym (names_more items more n e)) }
   where
     names : List (List ℕ)
@@ -107,8 +104,8 @@ known_added first items more n f e h = record { found = λ name. f.found name �
     at_place (Some i) g h name = sym (known_same names n.now name.now i g)
 
 -- a name that the map doesn't know is added
-pub new_added : (first next : BTreeMap (Bor (List ℕ)) ℕ) (items more : List (Bor (List ℕ))) (n : Bor (List ℕ)) (place : ℕ) → FindsFirst first (map (λ x. x.now) items) → more ≡ items ++ n ∷ [] → is_some (found_of first n) ≡ false → place ≡ length items → ((name : Bor (List ℕ)) → found_of next name ≡ cond (is_eq (slice_cmp nat_cmp n.now name.now)) (Some place) (found_of first name)) → FindsFirst next (map (λ x. x.now) more)
-new_added first next items more n place f e h p u = record { found = λ name. u name ∙ rw (is_eq-slice_cmp, f.found name, p, ← length-map items (λ x. x.now)) (new_place names n.now name.now (absent (place_of names n.now) (rw (f.found n) at h))) ∙ ap (λ ns. place_of ns name.now) (sym (names_more items more n e)) }
+pub new_added : {S : Type 0} (first next : HashMap (Bor (List ℕ)) ℕ S) (items more : List (Bor (List ℕ))) (n : Bor (List ℕ)) (place : ℕ) → FindsFirst first (map (λ x. x.now) items) → more ≡ items ++ n ∷ [] → is_some (found_of first n) ≡ false → place ≡ length items → ((name : Bor (List ℕ)) → found_of next name ≡ cond (bytes_eq n.now name.now) (Some place) (found_of first name)) → FindsFirst next (map (λ x. x.now) more)
+new_added first next items more n place f e h p u = record { found = λ name. u name ∙ rw (f.found name, p, ← length-map items (λ x. x.now)) (new_place names n.now name.now (absent (place_of names n.now) (rw (f.found n) at h))) ∙ ap (λ ns. place_of ns name.now) (sym (names_more items more n e)) }
   where
     names : List (List ℕ)
     names = map (λ x. x.now) items
@@ -118,8 +115,8 @@ new_added first next items more n place f e h p u = record { found = λ name. u 
     absent (Some i) h = absurd cc
 
 -- the last name is taken away, where it stands first
-pub first_gone : (first next : BTreeMap (Bor (List ℕ)) ℕ) (items rest : List (Bor (List ℕ))) (n : Bor (List ℕ)) → FindsFirst first (map (λ x. x.now) items) → items ≡ rest ++ n ∷ [] → found_of first n ≡ Some (length rest) → ((name : Bor (List ℕ)) → found_of next name ≡ cond (is_eq (slice_cmp nat_cmp n.now name.now)) None (found_of first name)) → FindsFirst next (map (λ x. x.now) rest)
-first_gone first next items rest n f e h u = record { found = λ name. u name ∙ rw (is_eq-slice_cmp, f.found name, names_more rest items n e) (place_away names n.now name.now (last_place names n.now at_last)) }
+pub first_gone : {S : Type 0} (first next : HashMap (Bor (List ℕ)) ℕ S) (items rest : List (Bor (List ℕ))) (n : Bor (List ℕ)) → FindsFirst first (map (λ x. x.now) items) → items ≡ rest ++ n ∷ [] → found_of first n ≡ Some (length rest) → ((name : Bor (List ℕ)) → found_of next name ≡ cond (bytes_eq n.now name.now) None (found_of first name)) → FindsFirst next (map (λ x. x.now) rest)
+first_gone first next items rest n f e h u = record { found = λ name. u name ∙ rw (f.found name, names_more rest items n e) (place_away names n.now name.now (last_place names n.now at_last)) }
   where
     names : List (List ℕ)
     names = map (λ x. x.now) rest
@@ -128,7 +125,7 @@ first_gone first next items rest n f e h u = record { found = λ name. u name �
     at_last = ap (λ ns. place_of ns n.now) (sym (names_more rest items n e)) ∙ sym (f.found n) ∙ h ∙ ap Some (sym (length-map rest (λ x. x.now)))
 
 -- the last name is taken away, where it doesn't stand first
-pub later_gone : (first : BTreeMap (Bor (List ℕ)) ℕ) (items rest : List (Bor (List ℕ))) (n : Bor (List ℕ)) → FindsFirst first (map (λ x. x.now) items) → items ≡ rest ++ n ∷ [] → found_of first n ≢ Some (length rest) → FindsFirst first (map (λ x. x.now) rest)
+pub later_gone : {S : Type 0} (first : HashMap (Bor (List ℕ)) ℕ S) (items rest : List (Bor (List ℕ))) (n : Bor (List ℕ)) → FindsFirst first (map (λ x. x.now) items) → items ≡ rest ++ n ∷ [] → found_of first n ≢ Some (length rest) → FindsFirst first (map (λ x. x.now) rest)
 later_gone first items rest n f e h = record { found = λ name. f.found name ∙ ap (λ ns. place_of ns name.now) (names_more rest items n e) ∙ not_last names n.now name.now apart }
   where
     names : List (List ℕ)

@@ -2,14 +2,14 @@ ghost use Rattle.std.specs.Prelude.{◌≡◌, ◌-◌, [], ◌∷◌, ◌++◌,
 ghost use Rattle.kind_check.specs.Places.{place_of};
 
 use std::alloc::{AllocError, Global};
-use std::collections::BTreeMap;
+use std::collections::HashMap;
 use std::marker::Model;
 
-/// Names in the order of a text, found by their first place in logarithmic time.
+/// Names in the order of a text, found by their first place in a time that doesn't grow with their count.
 #[derive(Drop)]
 pub struct Index<'a> {
     names: Vec<&'a [u8]>,
-    first: BTreeMap<&'a [u8], usize>,
+    first: HashMap<&'a [u8], usize>,
 }
 
 impl<'a> Model for Index<'a> {
@@ -31,7 +31,7 @@ impl<'a> Index<'a> {
     {
         Index {
             names: Vec::new(alloc),
-            first: BTreeMap::new(alloc),
+            first: HashMap::new(alloc),
         }
     }
 

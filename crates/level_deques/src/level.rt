@@ -24,14 +24,22 @@ impl Model for Level {
 }
 
 impl Level {
-    /// One post, and its level; refused only when out of memory.
-    pub fn of(alloc: Global, post: Post) -> Result<Level, AllocError>
+    /// One post, in a deque that is empty, and its level; refused only when out of memory.
+    pub fn of(deque: VecDeque<Post>, post: Post) -> Result<Level, AllocError>
+        requires { deque.items ≡ [] }
         ensures { IfOk result (λ l. l ≡ record { level = post.level; posts = post ∷ [] }) }
     {
         let level = post.level;
-        let mut posts = VecDeque::new(alloc);
+        let mut posts = deque;
         posts.push_back(post)?;
         Ok(Level { level, posts })
+    }
+
+    /// Its posts, in their deque.
+    pub fn into_posts(self) -> VecDeque<Post>
+        ensures { result.items ≡ self.posts }
+    {
+        self.posts
     }
 
     /// The level.

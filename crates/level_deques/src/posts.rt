@@ -6,7 +6,9 @@ ghost use Rattle.std.specs.List.{filter};
 use crate::level::Level;
 use ids::{FrameNo, GrantId};
 use std::alloc::{AllocError, Global};
+use std::collections::VecDeque;
 use std::marker::Model;
+use std::mem;
 
 /// A ready frame, and the level of its place.
 #[derive(Clone, Copy, PartialEq, Eq, Debug)]
@@ -34,11 +36,13 @@ pub trait PostTest {
 pub struct Posts {
     alloc: Global,
     levels: Vec<Level>,
+    // an empty deque, kept of a level that lost its last post: the next new level has it, and takes no memory
+    spare: VecDeque<Post>,
     count: usize,
 }
 
 impl Model for Posts {
-    ghost use Rattle.std.specs.Prelude.{◌≡◌, List, length};
+    ghost use Rattle.std.specs.Prelude.{◌≡◌, List, [], length};
     ghost use Rattle.level_deques.specs.declared.posts.Post.{Post};
     ghost use Rattle.level_deques.specs.Levels.{AreLevels, all_posts};
 
@@ -46,7 +50,7 @@ impl Model for Posts {
 
     ghost view = { λ p. all_posts p.levels.items };
 
-    ghost invariant = { λ p. AreLevels p.levels.items × (p.count ≡ length (all_posts p.levels.items)) };
+    ghost invariant = { λ p. AreLevels p.levels.items × (p.spare.items ≡ []) × (p.count ≡ length (all_posts p.levels.items)) };
 }
 
 impl Posts {
@@ -57,6 +61,7 @@ impl Posts {
         Posts {
             alloc,
             levels: Vec::new(alloc),
+            spare: VecDeque::new(alloc),
             count: 0,
         }
     }
@@ -83,7 +88,7 @@ impl Posts {
         let Some(count) = self.count.checked_add(1) else {
             return Err(AllocError);
         };
-        put(self.alloc, &mut self.levels, post)?;
+        put(self.alloc, &mut self.levels, &mut self.spare, post)?;
         self.count = count;
         Ok(())
     }
@@ -134,7 +139,7 @@ impl Posts {
     pub fn take(&mut self, post: &Post)
         ensures { self.new ≡ without_post post.now self.old }
     {
-        if take(&mut self.levels, post) {
+        if take(&mut self.levels, &mut self.spare, post) {
             self.count -= 1;
         }
     }
@@ -163,6 +168,7 @@ impl Clone for Posts {
         Ok(Posts {
             alloc: self.alloc,
             levels: self.levels.clone()?,
+            spare: VecDeque::new(self.alloc),
             count: self.count,
         })
     }
@@ -180,9 +186,17 @@ fn levels_below(levels: &[Level], level: u16) -> usize
     count
 }
 
-/// Puts a post behind those of its level; refused only when out of memory, which changes nothing.
-fn put(alloc: Global, levels: &mut Vec<Level>, post: Post) -> Result<(), AllocError>
-    requires { AreLevels levels.old.items }
+/// Puts a post behind those of its level; refused only when out of memory, which changes nothing. A new level has the spare
+/// deque.
+fn put(
+    alloc: Global,
+    levels: &mut Vec<Level>,
+    spare: &mut VecDeque<Post>,
+    post: Post,
+) -> Result<(), AllocError>
+    requires levels { AreLevels levels.old.items }
+    requires empty { spare.old.items ≡ [] }
+    ensures spare { spare.new.items ≡ [] }
     ensures ok { OnOk result (all_posts levels.new.items ≡ posted post (all_posts levels.old.items)) }
     ensures levels { AreLevels levels.new.items }
     ensures err { OnErr result (levels.new.items ≡ levels.old.items) }
@@ -191,14 +205,18 @@ fn put(alloc: Global, levels: &mut Vec<Level>, post: Post) -> Result<(), AllocEr
     if below < levels.len() && levels[below].level() == post.level {
         levels[below].post(post)?;
     } else {
-        levels.insert(below, Level::of(alloc, post)?)?;
+        let deque = mem::replace(spare, VecDeque::new(alloc));
+        levels.insert(below, Level::of(deque, post)?)?;
     }
     Ok(())
 }
 
-/// Takes the newest of those posts away that are this one, and says whether there was one.
-fn take(levels: &mut Vec<Level>, post: &Post) -> bool
-    requires { AreLevels levels.old.items }
+/// Takes the newest of those posts away that are this one, and says whether there was one. The deque of a level that has none
+/// left is kept as the spare one.
+fn take(levels: &mut Vec<Level>, spare: &mut VecDeque<Post>, post: &Post) -> bool
+    requires levels { AreLevels levels.old.items }
+    requires empty { spare.old.items ≡ [] }
+    ensures spare { spare.new.items ≡ [] }
     ensures taken { all_posts levels.new.items ≡ without_post post.now (all_posts levels.old.items) }
     ensures levels { AreLevels levels.new.items }
     ensures count { length (all_posts levels.old.items) ≡ length (all_posts levels.new.items) +
@@ -212,7 +230,7 @@ fn take(levels: &mut Vec<Level>, post: &Post) -> bool
     levels[below].take(post);
     let left = levels[below].len();
     if left == 0 {
-        levels.remove(below);
+        *spare = levels.remove(below).into_posts();
     }
     left < before
 }

@@ -19,9 +19,9 @@ returns-then-below-len-clause-taken c =
     let above : AllByRecursion (λ m. c.args.post.now.level < m.level) (drop c.levels_below-below.result c.args.levels.now.items) =
     elim c.then-below-len.branch [
       | then-below-len-via-then-below-len w ↦ none_above c.args.post.now.level c.args.levels.now.items c.levels_below-below.result (omega (arith, c.args.levels.now.ok, c.len.ensures, w.if-below-len.true))
-      | then-below-len-via-else-below-len+then-level-post w ↦ others_above c.args.post.now.level c.args.levels.now.items c.levels_below-below.result w.index.result.now (less c.levels_below-below.result (length c.args.levels.now.items) parted.within (λ same. w.if-below-len.false (omega (arith, c.args.levels.now.ok, c.len.ensures, same)))) w.index.ensures (λ same. w.if-level-post.true (w.level.ensures ∙ same)) parted.rest c.requires.stand.rising
+      | then-below-len-via-else-below-len+then-level-post w ↦ others_above c.args.post.now.level c.args.levels.now.items c.levels_below-below.result w.index.result.now (less c.levels_below-below.result (length c.args.levels.now.items) parted.within (λ same. w.if-below-len.false (omega (arith, c.args.levels.now.ok, c.len.ensures, same)))) w.index.ensures (λ same. w.if-level-post.true (w.level.ensures ∙ same)) parted.rest c.requires.levels.stand.rising
     ] in
-    taken_none c.args.post.now c.args.levels.now.items c.levels_below-below.result c.requires parted.below above
+    taken_none c.args.post.now c.args.levels.now.items c.levels_below-below.result c.requires.levels parted.below above
 
 -- the level
 within : (c : goal.Joined-left-eq0) → c.levels_below-below.result < length c.args.levels.now.items
@@ -41,8 +41,8 @@ left c = c.len-left.ensures ∙ ap (λ (l : LevelOf). length l.posts) (c.index-3
 changed : (c : goal.Joined-left-eq0) → Changed (without_post c.args.post.now (all_posts c.args.levels.now.items)) c.if-left-eq0.levels.items
 changed c =
     elim c.if-left-eq0.branch [
-      | then-left-eq0 w ↦ taken_last c.args.post.now c.args.levels.now.items c.levels_below-below.result c.index_mut.result.now c.take.new.self c.if-left-eq0.levels.items c.requires (within c) c.index_mut.ensures.value (level c) c.take.ensures (nil_from_length c.take.new.self.posts (sym (left c) ∙ w.if-left-eq0.true)) (ap (λ (v : Vec LevelOf Global). v.items) w.levels-is ∙ w.remove.ensures.items)
-      | else-left-eq0 w ↦ rw w.levels-is (taken_here c.args.post.now c.args.levels.now.items c.levels_below-below.result c.index_mut.result.now c.take.new.self c.requires (within c) c.index_mut.ensures.value (level c) c.take.ensures (λ none. w.if-left-eq0.false (left c ∙ ap length none)))
+      | then-left-eq0 w ↦ taken_last c.args.post.now c.args.levels.now.items c.levels_below-below.result c.index_mut.result.now c.take.new.self c.if-left-eq0.levels.items c.requires.levels (within c) c.index_mut.ensures.value (level c) c.take.ensures (nil_from_length c.take.new.self.posts (sym (left c) ∙ w.if-left-eq0.true)) (ap (λ (v : Vec LevelOf Global). v.items) w.levels-is ∙ w.remove.ensures.items)
+      | else-left-eq0 w ↦ rw w.levels-is (taken_here c.args.post.now c.args.levels.now.items c.levels_below-below.result c.index_mut.result.now c.take.new.self c.requires.levels (within c) c.index_mut.ensures.value (level c) c.take.ensures (λ none. w.if-left-eq0.false (left c ∙ ap length none)))
     ]
 
 pub returns-clause-taken : goal.returns-clause-taken
@@ -59,4 +59,4 @@ returns-clause-count c =
     (changed c).posts
     (left c ∙ ap (λ (l : LevelOf). length l.posts) c.take.ensures)
     before
-    (counted_here c.args.post.now items c.levels_below-below.result c.index_mut.result.now c.requires (within c) c.index_mut.ensures.value (level c))
+    (counted_here c.args.post.now items c.levels_below-below.result c.index_mut.result.now c.requires.levels (within c) c.index_mut.ensures.value (level c))

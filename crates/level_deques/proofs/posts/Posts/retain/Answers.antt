@@ -11,6 +11,7 @@ pub invariant_of-self : goal.invariant_of-self
 invariant_of-self g c =
     rw (left g c) (
       levels_kept c.retain-self-inside.new.levels.items c.retain-self-inside.ensures.stand,
+      c.self.invariant.1,
       c.retain-self-inside.ensures.count ∙ ap length (sym (same_posts c.retain-self-inside.new.levels.items)),
     )
 
