@@ -7,7 +7,7 @@ ghost use Rattle.chronicle.specs.History.{IsSafeHistory, first_outcome};
 ghost use Rattle.chronicle.specs.Texts.{ended, events_of, text_of};
 
 use crate::kept::{Entry, outcome_of};
-use event_script::{Event, line};
+use event_script::{Event, add_line};
 use ids::Outcome;
 use std::alloc::{AllocError, Global};
 use std::marker::Model;
@@ -83,18 +83,17 @@ fn text(alloc: Global, entries: &[Entry]) -> Result<Vec<u8>, AllocError>
 {
     let mut text = Vec::from_slice(alloc, FIRST_LINE)?;
     for entry in entries {
-        add_line(alloc, &mut text, &entry.event)?;
+        add_ended(&mut text, &entry.event)?;
     }
     Ok(text)
 }
 
 /// Adds the line of an event, which is read as this event, with its end.
-fn add_line(alloc: Global, text: &mut Vec<u8>, event: &Event) -> Result<(), AllocError>
+fn add_ended(text: &mut Vec<u8>, event: &Event) -> Result<(), AllocError>
     ensures written { IfOk result (λ _. text.new.items ≡ text.old.items ++ ended (written event.now)) }
     ensures read { IfOk result (λ _. IsRead event.now) }
 {
-    let line = line(alloc, event)?;
-    text.extend_from_slice(line.as_slice())?;
+    add_line(text, event)?;
     text.push(b'\n')?;
     Ok(())
 }

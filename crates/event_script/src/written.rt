@@ -153,8 +153,8 @@ fn cut(out: &mut Vec<u8>, cut: &Cut) -> Result<(), AllocError>
     Ok(())
 }
 
-/// Adds the words of an event.
-fn each(out: &mut Vec<u8>, event: &Event) -> Result<(), AllocError>
+/// Adds the line of an event behind other bytes, as `line` gives it.
+pub fn add_line(out: &mut Vec<u8>, event: &Event) -> Result<(), AllocError>
     ensures read { IfOk result (λ _. IsRead event.now) }
     ensures written { IfOk result (λ _. out.new.items ≡ out.old.items ++ written event.now) }
 {
@@ -176,6 +176,6 @@ pub fn line(alloc: Global, event: &Event) -> Result<Vec<u8>, AllocError>
     ensures read { IfOk result (λ bytes. line_of 64 bytes.items ≡ Says event.now) }
 {
     let mut out = Vec::with_capacity(alloc, SHORT)?;
-    each(&mut out, event)?;
+    add_line(&mut out, event)?;
     Ok(out)
 }

@@ -3,7 +3,7 @@
 use crate::names::{GrantName, OutcomeWords};
 use crate::packet::write_packet;
 use codec::{Datagram, decode};
-use event_script::{Event, line};
+use event_script::{Event, add_line};
 use ids::Outcome;
 use node_core::Fill;
 use std::alloc::Global;
@@ -24,7 +24,7 @@ impl Telling {
     pub(crate) fn of(alloc: Global, number: u64, event: &Event) -> io::Result<Telling> {
         let mut text = Vec::new(alloc);
         write!(text, "{number}  ")?;
-        text.extend_from_slice(line(alloc, event)?.as_slice())?;
+        add_line(&mut text, event)?;
         Ok(Telling {
             text,
             has_deed: false,

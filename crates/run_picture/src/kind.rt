@@ -90,15 +90,6 @@ impl Kind {
 }
 
 impl Family {
-    /// All of them, as a legend lists them.
-    pub(crate) const ALL: [Family; 5] = [
-        Family::Work,
-        Family::Outcome,
-        Family::Asking,
-        Family::Answer,
-        Family::Members,
-    ];
-
     /// The name of its look.
     pub(crate) fn look(self) -> &'static str {
         match self {
@@ -107,17 +98,6 @@ impl Family {
             Family::Asking => "asking",
             Family::Answer => "answer",
             Family::Members => "members",
-        }
-    }
-
-    /// The kinds that are in it.
-    pub(crate) fn kinds(self) -> &'static str {
-        match self {
-            Family::Work => "Grant, Offer",
-            Family::Outcome => "Result",
-            Family::Asking => "Steal, Refuse",
-            Family::Answer => "ResultAck, OfferAck, Abort",
-            Family::Members => "Join, Roster, Beat, Leave",
         }
     }
 }

@@ -1,14 +1,46 @@
 //! What stands below the lanes: what the looks mean.
 
-use crate::kind::Family;
 use crate::layout::{Arrows, Layout};
-use crate::marks::{Shape, write_shape};
 use crate::px::Px;
 use crate::record::Recorder;
 use std::io::{self, Write};
 
-/// Where the columns of the legend stand.
-const LEFT: Px = Px(140);
+/// The rows of the legend, from the middle of the first one on: bars, marks, the families of packets, and what becomes of a packet.
+const ROWS: &str = "<rect class=\"live\" x=\"14\" y=\"-6\" width=\"30\" height=\"12\"/>
+<text x=\"52\" y=\"4\">subcomputation, live</text>
+<rect class=\"frozen\" x=\"206\" y=\"-6\" width=\"30\" height=\"12\"/>
+<text x=\"244\" y=\"4\">frozen, for an heir</text>
+<rect class=\"finished\" x=\"391.3\" y=\"-6\" width=\"30\" height=\"12\"/>
+<text x=\"429.3\" y=\"4\">finished</text>
+<path class=\"turn\" d=\"M502.9 0m4 -4v8m6 -8v8m6 -8v8\"/>
+<text x=\"528.9\" y=\"4\">thread bodies that ran</text>
+<path class=\"start\" d=\"M20 24m-4 -6.5v13l10 -6.5z\"/><text x=\"32\" y=\"28\">start, restart</text>
+<path class=\"stop\" d=\"M151.8 24m-5 -5l10 10m0 -10l-10 10\"/><text x=\"163.8\" y=\"28\">crash</text>
+<path class=\"stop\" d=\"M223.3 24m3 -9l-6 8h6l-6 9\"/><text x=\"235.3\" y=\"28\">cut</text>
+<path class=\"leave\" d=\"M281.4 24m-6 -6h5v3h3v-3.5l7 6.5l-7 6.5v-3.5h-3v3h-5z\"/><text x=\"293.4\" y=\"28\">departure</text>
+<path class=\"dead\" d=\"M379.7 24m-1.6 -8h3.2v4h4v3.2h-4v9h-3.2v-9h-4v-3.2h4z\"/><text x=\"391.7\" y=\"28\">dead, by a roster</text>
+<path class=\"done\" d=\"M531.6 24m0 -9l2.6 5.6l6.1 .7l-4.5 4.2l1.2 6l-5.4 -3l-5.4 3l1.2 -6l-4.5 -4.2l6.1 -.7z\"/><text x=\"543.6\" y=\"28\">outcome recorded</text>
+<path class=\"line work\" d=\"M14 48h30\" marker-end=\"url(#work)\"/>
+<text x=\"49\" y=\"52\">Grant, Offer</text>
+<path class=\"line outcome\" d=\"M147.4 48h30\" marker-end=\"url(#outcome)\"/>
+<text x=\"182.4\" y=\"52\">Result</text>
+<path class=\"line asking\" d=\"M240.6 48h30\" marker-end=\"url(#asking)\"/>
+<text x=\"275.6\" y=\"52\">Steal, Refuse</text>
+<path class=\"line answer\" d=\"M380.7 48h30\" marker-end=\"url(#answer)\"/>
+<text x=\"415.7\" y=\"52\">ResultAck, OfferAck, Abort</text>
+<path class=\"line members\" d=\"M607.9 48h30\" marker-end=\"url(#members)\"/>
+<text x=\"642.9\" y=\"52\">Join, Roster, Beat, Leave</text>
+<path class=\"line asking again\" d=\"M14 72h30\" marker-end=\"url(#asking)\"/>
+<text x=\"49\" y=\"76\">comes again</text>
+<path class=\"line asking\" d=\"M160 72h30\" marker-end=\"url(#asking-ignored)\"/>
+<text x=\"195\" y=\"76\">comes and is ignored</text>
+<path class=\"line asking\" d=\"M370 72m0 6l9 -13m-4 -3l8 5\"/>
+<text x=\"390\" y=\"76\">never comes</text>
+<circle class=\"dot\" cx=\"500\" cy=\"72\" r=\"2.8\"/>
+<text x=\"508\" y=\"76\">event</text>
+<circle class=\"none\" cx=\"570\" cy=\"72\" r=\"2.8\"/>
+<text x=\"578\" y=\"76\">event that changes nothing, or is refused</text>
+";
 
 /// Writes the legend.
 pub(crate) fn write_legend<O: Write>(
@@ -17,118 +49,17 @@ pub(crate) fn write_legend<O: Write>(
     run: &Recorder,
 ) -> io::Result<()> {
     let top = layout.lanes_end.plus(Px(260));
-    writeln!(out, "<g class=\"legend\">")?;
-    write_bar_row(out, top)?;
-    write_mark_row(out, top.plus(Px(240)))?;
-    write_family_row(out, top.plus(Px(480)))?;
-    write_arrow_row(out, top.plus(Px(720)))?;
-    write_note(out, layout, run, top.plus(Px(940)))?;
-    writeln!(out, "</g>")
+    write!(
+        out,
+        "<g class=\"legend\" transform=\"translate(0 {top})\">\n{ROWS}"
+    )?;
+    write_note(out, layout, run)
 }
 
-/// Writes a word of the legend, in the middle of a row.
-fn write_word<O: Write>(out: &mut O, x: Px, y: Px, word: &str) -> io::Result<()> {
-    let below = y.plus(Px(40));
-    writeln!(out, "<text x=\"{x}\" y=\"{below}\">{word}</text>")
-}
-
-/// Writes the row of bars.
-fn write_bar_row<O: Write>(out: &mut O, y: Px) -> io::Result<()> {
-    let mut x = LEFT;
-    let bars = [
-        ("live", "subcomputation, live"),
-        ("frozen", "frozen, for an heir"),
-        ("finished", "finished"),
-    ];
-    for (look, word) in bars {
-        let top = y.minus(Px(60));
-        writeln!(
-            out,
-            "<rect class=\"{look}\" x=\"{x}\" y=\"{top}\" width=\"30\" height=\"12\"/>"
-        )?;
-        write_word(out, x.plus(Px(380)), y, word)?;
-        x = x.plus(Px(580)).plus(Px(67).times(word.len()));
-    }
-    writeln!(
-        out,
-        "<path class=\"turn\" d=\"M{x} {y}m4 -4v8m6 -8v8m6 -8v8\"/>"
-    )?;
-    write_word(out, x.plus(Px(260)), y, "thread bodies that ran")
-}
-
-/// Writes the row of marks.
-fn write_mark_row<O: Write>(out: &mut O, y: Px) -> io::Result<()> {
-    let mut x = LEFT;
-    let marks = [
-        (Shape::Start, "start, restart"),
-        (Shape::Crash, "crash"),
-        (Shape::Cut, "cut"),
-        (Shape::Leave, "departure"),
-        (Shape::Dead, "dead, by a roster"),
-        (Shape::Outcome, "outcome recorded"),
-    ];
-    for (shape, word) in marks {
-        write_shape(out, shape, x.plus(Px(60)), y)?;
-        write_word(out, x.plus(Px(180)), y, word)?;
-        x = x.plus(Px(380)).plus(Px(67).times(word.len()));
-    }
-    Ok(())
-}
-
-/// Writes the row of the families of packets.
-fn write_family_row<O: Write>(out: &mut O, y: Px) -> io::Result<()> {
-    let mut x = LEFT;
-    for family in Family::ALL {
-        let (look, kinds) = (family.look(), family.kinds());
-        writeln!(
-            out,
-            "<path class=\"line {look}\" d=\"M{x} {y}h30\" marker-end=\"url(#{look})\"/>"
-        )?;
-        write_word(out, x.plus(Px(350)), y, kinds)?;
-        x = x.plus(Px(530)).plus(Px(67).times(kinds.len()));
-    }
-    Ok(())
-}
-
-/// Writes the row of what becomes of a packet.
-fn write_arrow_row<O: Write>(out: &mut O, y: Px) -> io::Result<()> {
-    writeln!(
-        out,
-        "<path class=\"line asking again\" d=\"M14 {y}h30\" marker-end=\"url(#asking)\"/>"
-    )?;
-    write_word(out, LEFT.plus(Px(350)), y, "comes again")?;
-    writeln!(
-        out,
-        "<path class=\"line asking\" d=\"M160 {y}h30\" marker-end=\"url(#asking-ignored)\"/>"
-    )?;
-    write_word(out, Px(1950), y, "comes and is ignored")?;
-    writeln!(
-        out,
-        "<path class=\"line asking\" d=\"M370 {y}m0 6l9 -13m-4 -3l8 5\"/>"
-    )?;
-    write_word(out, Px(3900), y, "never comes")?;
-    writeln!(
-        out,
-        "<circle class=\"dot\" cx=\"500\" cy=\"{y}\" r=\"2.8\"/>"
-    )?;
-    write_word(out, Px(5080), y, "event")?;
-    writeln!(
-        out,
-        "<circle class=\"none\" cx=\"570\" cy=\"{y}\" r=\"2.8\"/>"
-    )?;
-    write_word(
-        out,
-        Px(5780),
-        y,
-        "event that changes nothing, or is refused",
-    )
-}
-
-/// Writes which arrows there are, and what a name means.
-fn write_note<O: Write>(out: &mut O, layout: &Layout, run: &Recorder, y: Px) -> io::Result<()> {
+/// Writes which arrows there are, and what a name means, and ends the legend.
+fn write_note<O: Write>(out: &mut O, layout: &Layout, run: &Recorder) -> io::Result<()> {
     let packets = run.packets.len();
-    let below = y.plus(Px(40));
-    write!(out, "<text x=\"14\" y=\"{below}\">")?;
+    write!(out, "<text x=\"14\" y=\"98\">")?;
     match layout.arrows {
         Arrows::All => {}
         Arrows::Work => write!(
@@ -139,6 +70,6 @@ fn write_note<O: Write>(out: &mut O, layout: &Layout, run: &Recorder, y: Px) -> 
     }
     writeln!(
         out,
-        "G1 is the clearinghouse of epoch 1; a grant is named by who minted it and its number.</text>"
+        "G1 is the clearinghouse of epoch 1; a grant is named by who minted it and its number.</text>\n</g>"
     )
 }

@@ -14,7 +14,7 @@ const CHAR: Px = Px(67);
 
 /// The shape of a mark.
 #[derive(Clone, Copy)]
-pub(crate) enum Shape {
+enum Shape {
     Start,
     Crash,
     Cut,
@@ -78,7 +78,7 @@ fn mark_of(step: &Step) -> Option<(Shape, Words)> {
 }
 
 /// Writes a shape at a point.
-pub(crate) fn write_shape<O: Write>(out: &mut O, shape: Shape, x: Px, y: Px) -> io::Result<()> {
+fn write_shape<O: Write>(out: &mut O, shape: Shape, x: Px, y: Px) -> io::Result<()> {
     let (look, way) = shape.drawn();
     write!(out, "<path class=\"{look}\" d=\"M{x} {y}{way}\"/>")
 }

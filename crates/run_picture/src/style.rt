@@ -1,6 +1,5 @@
 //! How a picture looks.
 
-use crate::kind::Family;
 use crate::layout::Layout;
 use std::io::{self, Write};
 
@@ -40,71 +39,31 @@ const LOOKS: &str =
 .done{fill:#f2b701;stroke:#5c4500;stroke-width:1}
 ";
 
+/// What is referred to: the hatching, and for each family of packets the heads of its arrows, a full one, and an open one for packets that
+/// are ignored. The shape of its heads tells a family apart without colours.
+const PARTS: &str =
+    "<pattern id=\"hatch\" width=\"5\" height=\"5\" patternUnits=\"userSpaceOnUse\" patternTransform=\"rotate(45)\"><rect width=\"5\" height=\"5\" fill=\"#fff\"/><rect width=\"2\" height=\"5\" fill=\"#e09a3e\"/></pattern>
+<marker id=\"work\" markerWidth=\"14\" markerHeight=\"10\" refX=\"12\" refY=\"5\" orient=\"auto\" markerUnits=\"userSpaceOnUse\"><path d=\"M0.5 0.5L10 5L0.5 9.5z\" fill=\"#c2410c\"/></marker>
+<marker id=\"work-ignored\" markerWidth=\"14\" markerHeight=\"10\" refX=\"12\" refY=\"5\" orient=\"auto\" markerUnits=\"userSpaceOnUse\"><path d=\"M0.5 0.5L10 5L0.5 9.5z\" fill=\"#fff\" stroke=\"#c2410c\"/></marker>
+<marker id=\"outcome\" markerWidth=\"14\" markerHeight=\"10\" refX=\"12\" refY=\"5\" orient=\"auto\" markerUnits=\"userSpaceOnUse\"><path d=\"M0.5 5L5.5 1L10.5 5L5.5 9z\" fill=\"#0a7d50\"/></marker>
+<marker id=\"outcome-ignored\" markerWidth=\"14\" markerHeight=\"10\" refX=\"12\" refY=\"5\" orient=\"auto\" markerUnits=\"userSpaceOnUse\"><path d=\"M0.5 5L5.5 1L10.5 5L5.5 9z\" fill=\"#fff\" stroke=\"#0a7d50\"/></marker>
+<marker id=\"asking\" markerWidth=\"14\" markerHeight=\"10\" refX=\"12\" refY=\"5\" orient=\"auto\" markerUnits=\"userSpaceOnUse\"><path d=\"M1 1L10 5L1 9L4 5z\" fill=\"#2563b0\"/></marker>
+<marker id=\"asking-ignored\" markerWidth=\"14\" markerHeight=\"10\" refX=\"12\" refY=\"5\" orient=\"auto\" markerUnits=\"userSpaceOnUse\"><path d=\"M1 1L10 5L1 9L4 5z\" fill=\"#fff\" stroke=\"#2563b0\"/></marker>
+<marker id=\"answer\" markerWidth=\"14\" markerHeight=\"10\" refX=\"12\" refY=\"5\" orient=\"auto\" markerUnits=\"userSpaceOnUse\"><path d=\"M10 5a3.5 3.5 0 1 1 -7 0a3.5 3.5 0 1 1 7 0z\" fill=\"#a0459b\"/></marker>
+<marker id=\"answer-ignored\" markerWidth=\"14\" markerHeight=\"10\" refX=\"12\" refY=\"5\" orient=\"auto\" markerUnits=\"userSpaceOnUse\"><path d=\"M10 5a3.5 3.5 0 1 1 -7 0a3.5 3.5 0 1 1 7 0z\" fill=\"#fff\" stroke=\"#a0459b\"/></marker>
+<marker id=\"members\" markerWidth=\"14\" markerHeight=\"10\" refX=\"12\" refY=\"5\" orient=\"auto\" markerUnits=\"userSpaceOnUse\"><path d=\"M3 2L10 5L3 8z\" fill=\"#8a8a8a\"/></marker>
+<marker id=\"members-ignored\" markerWidth=\"14\" markerHeight=\"10\" refX=\"12\" refY=\"5\" orient=\"auto\" markerUnits=\"userSpaceOnUse\"><path d=\"M3 2L10 5L3 8z\" fill=\"#fff\" stroke=\"#8a8a8a\"/></marker>
+";
+
 /// Writes the beginning of a picture: its size, its looks, the hatching and the heads of arrows.
 pub(crate) fn write_beginning<O: Write>(out: &mut O, layout: &Layout) -> io::Result<()> {
     let (width, height) = (layout.width(), layout.height());
     write!(
         out,
-        "<svg xmlns=\"http://www.w3.org/2000/svg\" width=\"{width}\" height=\"{height}\""
+        "<svg xmlns=\"http://www.w3.org/2000/svg\" width=\"{width}\" height=\"{height}\" viewBox=\"0 0 {width} {height}\">\n"
     )?;
     write!(
         out,
-        " viewBox=\"0 0 {width} {height}\">\n<style>\n{LOOKS}</style>\n<defs>\n"
-    )?;
-    out.write_all(
-        b"<pattern id=\"hatch\" width=\"5\" height=\"5\" patternUnits=\"userSpaceOnUse\" patternTransform=\"rotate(45)\">",
-    )?;
-    out.write_all(
-        b"<rect width=\"5\" height=\"5\" fill=\"#fff\"/><rect width=\"2\" height=\"5\" fill=\"#e09a3e\"/></pattern>\n",
-    )?;
-    for family in Family::ALL {
-        write_heads(out, family)?;
-    }
-    write!(
-        out,
-        "</defs>\n<rect width=\"{width}\" height=\"{height}\" fill=\"#fff\"/>\n"
+        "<style>\n{LOOKS}</style>\n<defs>\n{PARTS}</defs>\n<rect width=\"{width}\" height=\"{height}\" fill=\"#fff\"/>\n"
     )
-}
-
-/// Writes the heads of the arrows of a family: a full one, and an open one for packets that are ignored.
-fn write_heads<O: Write>(out: &mut O, family: Family) -> io::Result<()> {
-    let (look, colour) = (family.look(), colour_of(family));
-    write_head(out, family, look, "")?;
-    writeln!(out, " fill=\"{colour}\"/></marker>")?;
-    write_head(out, family, look, "-ignored")?;
-    writeln!(out, " fill=\"#fff\" stroke=\"{colour}\"/></marker>")
-}
-
-/// Begins the head of an arrow, whose tip stands a little before the arrow's end.
-fn write_head<O: Write>(out: &mut O, family: Family, look: &str, kind: &str) -> io::Result<()> {
-    let way = head_of(family);
-    write!(
-        out,
-        "<marker id=\"{look}{kind}\" markerWidth=\"14\" markerHeight=\"10\" refX=\"12\" refY=\"5\""
-    )?;
-    write!(
-        out,
-        " orient=\"auto\" markerUnits=\"userSpaceOnUse\"><path d=\"{way}\""
-    )
-}
-
-/// The shape of the heads of a family, which tells it apart without colours.
-fn head_of(family: Family) -> &'static str {
-    match family {
-        Family::Work => "M0.5 0.5L10 5L0.5 9.5z",
-        Family::Outcome => "M0.5 5L5.5 1L10.5 5L5.5 9z",
-        Family::Asking => "M1 1L10 5L1 9L4 5z",
-        Family::Answer => "M10 5a3.5 3.5 0 1 1 -7 0a3.5 3.5 0 1 1 7 0z",
-        Family::Members => "M3 2L10 5L3 8z",
-    }
-}
-
-fn colour_of(family: Family) -> &'static str {
-    match family {
-        Family::Work => "#c2410c",
-        Family::Outcome => "#0a7d50",
-        Family::Asking => "#2563b0",
-        Family::Answer => "#a0459b",
-        Family::Members => "#8a8a8a",
-    }
 }

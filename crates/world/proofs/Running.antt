@@ -1,5 +1,5 @@
 -- Runs that are under way: what was carried out so far, and the world to which it led.
-use Rattle.std.proofs.Common.{◌≡◌, inl, inr, ℕ, ◌+◌, ◌<◌, ◌≤◌, add-one, append_assoc, true, refl, sym, ap, ◌∙◌, List, [], ◌∷◌, ◌++◌, length, length-append, map, take, get_or, None, Some, Result, Ok, Err, slice_get, arith}
+use Rattle.std.proofs.Common.{◌≡◌, inl, inr, ℕ, ◌+◌, ◌<◌, ◌≤◌, add-one, append-nil, append_assoc, true, refl, sym, ap, ◌∙◌, List, [], ◌∷◌, ◌++◌, length, length-append, map, take, get_or, Option, None, Some, Result, Ok, Err, slice_get, arith}
 use Rattle.std.proofs.lemmas.List.{map-append}
 use Rattle.std.proofs.Math.Seq.{take-suc, take-append_seam}
 use Rattle.event_script.specs.Lines.{Line, Skipped, Says, Refused, line_of}
@@ -144,3 +144,23 @@ room_left text past left new e done is next at =
     let most = script_length text (past ++ left) is in
     let one : length left ≡ length (e ∷ new) = ap length next in
     omega (arith, most, one, at, length-append past left)
+
+-- and ends where no event is left
+pub script_ends : (job : JobOf) (text : List ℕ) (past left : List Event) (done : ℕ) (stopped : Option NoMemory) (v : WorldOn)
+    → script text ≡ Ok (past ++ left) → left ≡ [] → length past ≡ done → stopped ≡ None → IsUnderWay job past v.world
+    → (events : List Event) × (script text ≡ Ok events) × IsRunTo (StopsReading job) job events done stopped v
+script_ends job text past left done stopped v is none at on u =
+    let all : past ++ left ≡ past = ap (λ x. past ++ x) none ∙ append-nil past in
+    let front : past ≡ take done past = take_past past [] done at ∙ ap (take done) (append-nil past) in (
+      past,
+      is ∙ ap Ok all,
+      rw on (record {
+        disk = u.disk;
+        formatted = u.formatted;
+        entries = u.entries;
+        worlds = u.worlds;
+        runs = u.runs;
+        carried = u.carried ∙ front;
+        ends = (sym at, sym u.at);
+      }),
+    )

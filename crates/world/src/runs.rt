@@ -13,7 +13,7 @@ ghost use Rattle.world.specs.Runs.{IsReplay, IsRun, IsRunTo, StopsIn, StopsReadi
 ghost use Rattle.world.specs.declared.runs.ReplayError.TheVariants as replay_error;
 
 use crate::watch::{Unwatched, Watch};
-use event_script::{Event, Line, Script};
+use event_script::{Event, KeptScript, Line};
 use serial_meaning::Job;
 use std::alloc::Global;
 use thiserror::Error;
@@ -108,7 +108,7 @@ fn script_carried_out<'a, W: Watch>(
     ensures line { (l : _) → result ≡ Err (replay_error.Line l) → script text.now ≡ Err l }
     ensures memory { result ≡ Err replay_error.Memory → (events : List EventOf) × (script text.now ≡ Ok events) }
 {
-    let mut script = match Script::new(text) {
+    let mut script = match KeptScript::new(alloc, text) {
         Ok(script) => script,
         Err(line) => return Err(ReplayError::Line(line)),
     };

@@ -1,5 +1,5 @@
 use Rattle.std.proofs.Common.{◌++◌, [], refl, sym, ◌∙◌, arith}
-use Rattle.world.proofs.Running.{bytes_out_of_memory, cut_left, first_under_way, get_left, room_left, script_goes_on, script_out_of_memory, take_past}
+use Rattle.world.proofs.Running.{bytes_out_of_memory, cut_left, first_under_way, get_left, room_left, script_ends, script_goes_on, script_out_of_memory, take_past}
 use Rattle.world.proofs.runs.script_carried_out.Goals as goal
 
 pub loop-event-init : goal.loop-event-init
@@ -51,3 +51,9 @@ returns-in-Err-next-clause-run g c =
     let left = cut_left c.loop-event.script c.in-Err-next.ensures.cut in
     let get = get_left at.2 c.loop-event.script left.1 left.0 c.loop-event.run.done at.4 left.2 in
     (events, at.3, bytes_out_of_memory c.args.job.now events at.2 c.loop-event.run.done _ left.0 c.loop-event.run.world at.5 (take_past at.2 c.loop-event.script c.loop-event.run.done at.4) get left.3)
+
+pub returns-in-Ok-None-clause-run : goal.returns-in-Ok-None-clause-run
+returns-in-Ok-None-clause-run g c =
+    let at = c.loop-event.invariant in
+    let next = rw c.in-Ok-None.field-0-is at c.in-Ok-None.ensures.next in
+    script_ends c.args.job.now c.args.text.now at.2 c.loop-event.script c.loop-event.run.done c.loop-event.run.stopped c.loop-event.run.world at.3 next.0 at.4 at.1 at.5
