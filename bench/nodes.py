@@ -38,9 +38,19 @@ def work(operations):
 
 
 def chain(operations):
-    """A program of which one frame is ready at a time: each body has about so many operations, and goes on."""
+    """A program of which one frame is ready at a time: of a tree of depth n one half is done after the other. Each second body has about
+    so many operations, and the others next to none."""
     lets, last = work(operations)
-    return f"thread main(k,n){{if n<1{{send_argument(k,0);}}else{{{lets}spawn_next main(k,n-1+0*{last});}}}}"
+    return (
+        f"thread main(k,n){{{lets}if n<1{{send_argument(k,0*{last});}}else{{spawn_next second(k,n-1,?x);spawn main(x,n-1);}}}}"
+        "thread second(k,n,x){spawn_next done(k,?y);spawn main(y,n+0*x);}"
+        "thread done(k,y){send_argument(k,y);}"
+    )
+
+
+def turns_of(depth):
+    """How many turns a chain takes."""
+    return 4 * 2**depth - 3
 
 
 def tree(operations):
@@ -54,15 +64,16 @@ def tree(operations):
 
 def idle(folder):
     """How many processors are busy while one frame is ready at a time."""
-    print("\n| one frame is ready at a time | bodies | microseconds a turn | processors busy |\n|---|---|---|---|")
-    for operations, turns in (0, 20_000), (2_000, 10_000), (12_000, 4_000):
+    print("\n| one frame is ready at a time | each second body | microseconds a turn | processors busy |\n|---|---|---|---|")
+    for operations, depth in (0, 15), (2_000, 13), (12_000, 11):
         text = f"{folder}/chain"
         with open(text, "w", encoding="utf-8") as out:
             out.write(chain(operations))
-        few, many = (timed(PROGRAM, "serial", text, str(it * turns)) for it in (1, 5))
-        body = (many[1] - few[1]) / (4 * turns)
+        turns = turns_of(depth)
+        few, many = (timed(PROGRAM, "serial", text, str(it)) for it in (0, depth))
+        body = 2 * (many[1] - few[1]) / turns
         for name, words in (("8 nodes", ["--nodes", "8"]), ("8 body workers of one node", ["--bodies", "8"]), ("one node", [])):
-            took = timed(PROGRAM, "run", text, *words, "--trace", os.devnull, str(turns))
+            took = timed(PROGRAM, "run", text, *words, "--trace", os.devnull, str(depth))
             print(f"| {name} | {body * 1e6:.1f} us | {took[0] / turns * 1e6:.1f} | {took[1] / took[0]:.2f} |")
 
 

@@ -14,6 +14,7 @@ ghost use Rattle.chronicle.specs.Seats.{IsBlankSeatIn, IsSeatIn, TellsOf, first_
 
 use crate::kept::{Committed, Kept};
 use crate::seat::ActorSeat;
+use crate::sent::Sent;
 use crate::trace::Trace;
 use body_eval::Done;
 use event_script::{Event, FrameOf, HouseEvent, NodeEvent, NodePlace};
@@ -24,8 +25,6 @@ use std::alloc::{AllocError, Global};
 use std::marker::Model;
 use std::snapshot::Snapshot;
 use std::sync::Wait;
-use std::sync::atomic::AtomicU64;
-use std::sync::atomic::Ordering::SeqCst;
 use turn_lock::{LockSeat, TurnLock};
 use world_steps::NoMemory;
 
@@ -81,7 +80,7 @@ struct Wanted<'f> {
 pub struct Chronicle<'a> {
     job: &'a Job,
     lock: TurnLock<Kept<'a>>,
-    sent: AtomicU64,
+    sent: Sent,
 }
 
 impl<'a> Model for Chronicle<'a> {
@@ -119,7 +118,7 @@ impl<'a> Chronicle<'a> {
         let actors = usize::from(nodes) + 1;
         let (lock, bare) = TurnLock::new(alloc, kept, actors, Snapshot::of(job))?;
         let seats = by_place(alloc, bare)?;
-        let sent = AtomicU64::new(0);
+        let sent = Sent::new(alloc)?;
         Ok((Chronicle { job, lock, sent }, seats))
     }
 
@@ -204,7 +203,7 @@ impl<'a> Chronicle<'a> {
         let mut kept = self.lock.take(rt, &mut seat.seat);
         let found = first_for(alloc, &kept, from, receiver);
         let answer = comes(&mut kept, seat, place, found);
-        self.sent.store(kept.world().packets() as u64, SeqCst);
+        self.sent.notes(&kept);
         self.lock.put(&mut seat.seat, kept);
         answer
     }
@@ -236,7 +235,7 @@ impl<'a> Chronicle<'a> {
             Some(wanted) => wanted.work_in(self.job, &kept),
             None => None,
         };
-        self.sent.store(kept.world().packets() as u64, SeqCst);
+        self.sent.notes(&kept);
         self.lock.put(&mut seat.seat, kept);
         let committed = answer?;
         Ok(Continued { committed, next })
@@ -296,7 +295,14 @@ impl<'a> Chronicle<'a> {
 
     /// How many packets were sent, as far as is known without the lock. A hint, which may lag behind.
     pub fn sent(&self) -> u64 {
-        self.sent.load(SeqCst)
+        self.sent.all()
+    }
+
+    /// How many packets were sent up to the last one that may be addressed to a receiver, as far as is known without the lock. Who reads
+    /// `sent` first and then this: from this number on, and below that one, no packet is addressed to the receiver. A hint, which may lag
+    /// behind.
+    pub fn sent_to(&self, receiver: Receiver) -> u64 {
+        self.sent.to(receiver)
     }
 
     /// Ends the chronicle, once all seats are back. What was committed is a safe history of the job, which has of each actor just what
@@ -459,7 +465,7 @@ fn first_for(alloc: Global, kept: &Kept, from: u64, receiver: Receiver) -> Resul
 }
 
 /// The word behind the first twelve bytes.
-fn addressee(bytes: &[u8]) -> u64 {
+pub(crate) fn addressee(bytes: &[u8]) -> u64 {
     let mut word = 0;
     for byte in bytes.iter().skip(12).take(8) {
         word = (word << 8) | u64::from(*byte);

@@ -24,15 +24,16 @@
 //! **Shown by runs alone**: that `new` and a commit succeed while there is memory, and that `ready`, `commit_turn`, `packet_for` and
 //! `commit_delivery` find what is there.
 //!
-//! **Not promised**: that a commit ever gets its turn, and in which order actors do, beyond each actor's own; of `ready`, `packet_for`
-//! and `sent`, and of a frame that `commit_turn` hands out, which are hints, that they tell what the world has, by the time that
-//! somebody acts on it. That a commit's step is one from the world that it found under the lock is said by `Kept::enter`, and of the
+//! **Not promised**: that a commit ever gets its turn, and in which order actors do, beyond each actor's own; of `ready`, `packet_for`,
+//! `sent` and `sent_to`, and of a frame that `commit_turn` hands out, which are hints, that they tell what the world has, by the time
+//! that somebody acts on it. That a commit's step is one from the world that it found under the lock is said by `Kept::enter`, and of the
 //! trace as a whole; the clause of `commit` itself can't name what a lock held.
 #![tactic(auto)]
 
 mod chronicle;
 mod kept;
 mod seat;
+mod sent;
 mod trace;
 
 pub use chronicle::{

@@ -23,6 +23,7 @@ use std::alloc::Global;
 use std::convert::AsStr;
 use std::fs::File;
 use std::io::{self, Stderr, Write};
+use std::mem::forget;
 use std::rt::Files;
 use std::sync::Wait;
 use std::thread::Threads;
@@ -324,7 +325,10 @@ fn answer<R: Files<File = File> + AllocGlobal + Threads + Wait + Clock + Sync, O
     let written = match request {
         Subcommand::Check(file) => {
             let text = text_bytes(rt, file)?;
-            let threads = program_of(alloc, text.as_slice())?.threads();
+            let checked = program_of(alloc, text.as_slice())?;
+            let threads = checked.threads();
+            // (the command ends with this line, and so does what it has of memory)
+            forget(checked);
             write_line(out, format_args!("ok {threads} threads"))
         }
         Subcommand::Print(file) => {

@@ -1,5 +1,6 @@
 //! Sleeping until there is something to do: the body workers of a node until it offers a ticket, and the node until a turn comes back.
 
+use crossbeam_utils::CachePadded;
 use std::sync::Wait;
 use std::sync::atomic::AtomicU64;
 use std::sync::atomic::Ordering::SeqCst;
@@ -48,17 +49,18 @@ impl Bell {
     }
 }
 
-/// The bells of a node: one that it rings when it offers a ticket, and one that its body workers ring when a turn comes back. Who looks for
-/// something reads how often the bell was rung, looks, and sleeps only where it wasn't rung since. So nobody sleeps beside what it waits for.
+/// The bells of a node: one that it rings for each ticket that it offers, and one that its body workers ring for each that they took and
+/// are done with. Who looks for something reads how often the bell was rung, looks, and sleeps only where it wasn't rung since. So nobody
+/// sleeps beside what it waits for. The bells and the workers' count lie on cache lines of their own.
 #[derive(Drop)]
 pub(crate) struct Bells {
     workers: u64,
-    /// How many tickets wait for a body worker.
-    queued: AtomicU64,
-    /// How many body workers have a ticket.
-    busy: AtomicU64,
-    offered: Bell,
-    returned: Bell,
+    offered: CachePadded<Bell>,
+    returned: CachePadded<Bell>,
+    /// How many tickets body workers took.
+    taken: CachePadded<AtomicU64>,
+    /// How many tickets the node took back.
+    taken_back: AtomicU64,
 }
 
 impl Bells {
@@ -66,37 +68,46 @@ impl Bells {
     pub(crate) fn new(workers: usize) -> Bells {
         Bells {
             workers: workers as u64,
-            queued: AtomicU64::new(0),
-            busy: AtomicU64::new(0),
-            offered: Bell::new(),
-            returned: Bell::new(),
+            offered: CachePadded::new(Bell::new()),
+            returned: CachePadded::new(Bell::new()),
+            taken: CachePadded::new(AtomicU64::new(0)),
+            taken_back: AtomicU64::new(0),
         }
     }
 
     /// A ticket was offered. A body worker is woken where fewer look for tickets than wait.
     pub(crate) fn offers(&self) {
-        let queued = self.queued.fetch_add(1, SeqCst).saturating_add(1);
         self.offered.rings();
-        if self.offered.asleep() > 0 && self.looking() < queued {
+        if self.offered.asleep() > 0 && self.looking() < self.queued() {
             self.offered.rung.wake_one();
         }
     }
 
     /// The node took a ticket back.
     pub(crate) fn takes_back(&self) {
-        let _ = self.queued.fetch_sub(1, SeqCst);
+        let _ = self.taken_back.fetch_add(1, SeqCst);
     }
 
     /// A body worker took a ticket.
     pub(crate) fn takes(&self) {
-        let _ = self.busy.fetch_add(1, SeqCst);
-        let _ = self.queued.fetch_sub(1, SeqCst);
+        let _ = self.taken.fetch_add(1, SeqCst);
+    }
+
+    /// How many tickets wait for a body worker.
+    fn queued(&self) -> u64 {
+        let left = self.offered.rung().saturating_sub(self.taken.load(SeqCst));
+        left.saturating_sub(self.taken_back.load(SeqCst))
+    }
+
+    /// How many body workers have a ticket.
+    fn busy(&self) -> u64 {
+        let taken = self.taken.load(SeqCst);
+        taken.saturating_sub(self.returned.rung())
     }
 
     /// How many body workers are awake and have no ticket.
     fn looking(&self) -> u64 {
-        let asleep = self.offered.asleep();
-        let others = asleep.saturating_add(self.busy.load(SeqCst));
+        let others = self.offered.asleep().saturating_add(self.busy());
         self.workers.saturating_sub(others)
     }
 
@@ -113,7 +124,7 @@ impl Bells {
 
     /// Whether more body workers look for tickets than wait, and more than one does.
     pub(crate) fn has_enough(&self) -> bool {
-        self.looking() > self.queued.load(SeqCst).max(1)
+        self.looking() > self.queued().max(1)
     }
 
     /// A body worker that found no ticket sleeps until one is offered.
@@ -123,14 +134,13 @@ impl Bells {
 
     /// A body worker gave its turn back: the node is woken, if it sleeps.
     pub(crate) fn returns(&self) {
-        let _ = self.busy.fetch_sub(1, SeqCst);
         self.returned.rings();
         if self.returned.asleep() > 0 {
             self.returned.rung.wake_one();
         }
     }
 
-    /// How often turns came back, as the node reads it before it looks for one.
+    /// How often body workers were done with a ticket, as the node reads it before it looks for a turn.
     pub(crate) fn returned(&self) -> u64 {
         self.returned.rung()
     }

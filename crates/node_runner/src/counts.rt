@@ -1,3 +1,4 @@
+use crossbeam_utils::CachePadded;
 use std::sync::atomic::AtomicU64;
 use std::sync::atomic::Ordering::SeqCst;
 
@@ -12,15 +13,35 @@ pub(crate) enum End {
     Disk(u8),
 }
 
-/// What the actors of a run count together, each number by one step of an atomic word.
+/// How many turns a thread takes at once at most.
+const BATCH: u64 = 64;
+
+/// Of so many turns of a run a thread takes one at once, and one more for each as many again.
+const SHARE: u64 = 65_536;
+
+/// What the actors of a run count together, each number by one step of an atomic word. The words lie on cache lines of their own: a thread
+/// that counts turns or bodies takes no line from one that counts events.
 #[derive(Drop)]
 pub(crate) struct Counts {
     limit: u64,
     threads: AtomicU64,
-    turns: AtomicU64,
-    events: AtomicU64,
-    bodies: AtomicU64,
-    end: AtomicU64,
+    turns: CachePadded<AtomicU64>,
+    events: CachePadded<AtomicU64>,
+    bodies: CachePadded<AtomicU64>,
+    end: CachePadded<AtomicU64>,
+}
+
+/// The turns that a thread has taken and not begun. It takes some at once, so that threads seldom wait for each other's count.
+#[derive(Drop)]
+pub(crate) struct Turns {
+    left: u64,
+}
+
+impl Turns {
+    /// None is taken.
+    pub(crate) fn new() -> Turns {
+        Turns { left: 0 }
+    }
 }
 
 /// The words of an end; 0 stands for none.
@@ -36,10 +57,10 @@ impl Counts {
         Counts {
             limit,
             threads: AtomicU64::new(0),
-            turns: AtomicU64::new(0),
-            events: AtomicU64::new(0),
-            bodies: AtomicU64::new(0),
-            end: AtomicU64::new(0),
+            turns: CachePadded::new(AtomicU64::new(0)),
+            events: CachePadded::new(AtomicU64::new(0)),
+            bodies: CachePadded::new(AtomicU64::new(0)),
+            end: CachePadded::new(AtomicU64::new(0)),
         }
     }
 
@@ -53,12 +74,24 @@ impl Counts {
         self.threads.load(SeqCst)
     }
 
-    /// Takes a turn; whether there was one left, and the run hasn't ended.
-    pub(crate) fn takes_turn(&self) -> bool {
-        if self.turns.fetch_add(1, SeqCst) >= self.limit {
+    /// A thread takes a turn, of those that it has, or else of those that are left to all. Whether there was one, and the run hasn't ended.
+    pub(crate) fn takes_turn(&self, own: &mut Turns) -> bool {
+        if own.left == 0 {
+            own.left = self.takes_turns();
+        }
+        own.left = own.left.saturating_sub(1);
+        self.end.load(SeqCst) == 0
+    }
+
+    /// How many turns a thread gets that has none. The run ends where none is left.
+    fn takes_turns(&self) -> u64 {
+        let batch = (self.limit / SHARE).max(1).min(BATCH);
+        let taken = self.turns.fetch_add(batch, SeqCst);
+        let left = self.limit.saturating_sub(taken);
+        if left == 0 {
             self.ends(End::Turns);
         }
-        self.end.load(SeqCst) == 0
+        left.min(batch)
     }
 
     /// An event was committed.

@@ -4,11 +4,11 @@ ghost use Rattle.serial_meaning.specs.Job.{meaning_of};
 ghost use Rattle.chronicle.specs.History.{outcome_told};
 ghost use Rattle.chronicle.specs.Seats.{IsSeatIn};
 
-use crate::counts::End;
+use crate::counts::{End, Turns};
 use crate::fates::Fates;
 use crate::gate::Gate;
 use crate::inbox::Inbox;
-use crate::resting::rest;
+use crate::resting::rest_idle;
 use crate::shared::{Shared, commit};
 use board::Note;
 use chronicle::{ActorSeat, Committed, Receiver};
@@ -55,11 +55,12 @@ pub(crate) fn run_house<'a, R: Wait + Clock, G: Gate + Sync>(
         ticks: 0,
         idle: 0,
     };
+    let mut turns = Turns::new();
     if !goes_on(rt, shared, &mut seat, &mut note, HouseEvent::Restart) {
         return seat;
     }
     for _ in rt.forever() {
-        if !shared.counts.takes_turn()
+        if !shared.counts.takes_turn(&mut turns)
             || !turn(rt, alloc, shared, &mut seat, &mut note, &mut house)
         {
             break;
@@ -95,7 +96,7 @@ fn turn<'a, R: Wait + Clock, G: Gate + Sync>(
         }
         Ok(None) => {
             house.idle = house.idle.saturating_add(1);
-            rest(rt, 1, house.idle);
+            rest_idle(rt, 1, house.idle);
         }
         Err(_) => {
             shared.counts.ends(End::Memory);

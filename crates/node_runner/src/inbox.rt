@@ -68,7 +68,9 @@ impl Inbox {
             let bytes = Vec::new(alloc);
             return Ok(Some(Delivered { bytes, committed }));
         }
-        if chronicle.sent() <= self.next {
+        let sent = chronicle.sent();
+        if chronicle.sent_to(self.receiver) <= self.next {
+            self.next = self.next.max(sent);
             return Ok(None);
         }
         match self.next_fate() {

@@ -2,14 +2,14 @@ ghost use Rattle.std.specs.Prelude.{◌≡◌};
 ghost use Rattle.chronicle.specs.Seats.{IsSeatIn};
 ghost use Rattle.node_runner.specs.Lines.{IsLineOf};
 
-use crate::counts::End;
+use crate::counts::{Counts, End, Turns};
 use crate::desk::Desk;
 use crate::fates::Fates;
 use crate::gate::Gate;
 use crate::inbox::{Delivered, Inbox};
 use crate::members::Members;
 use crate::plans::Plans;
-use crate::resting::{YIELDS, nap, pause, pauses, rest, rest_idle, sleeps};
+use crate::resting::{YIELDS, asks_in_vain, nap, pause, pauses, rest, rest_idle, sleeps};
 use crate::shared::{Shared, commit, commit_turn};
 use crate::turn::Evaluated;
 use chronicle::{ActorSeat, Continued, Receiver};
@@ -29,6 +29,9 @@ const MOST_PATIENCE: u64 = 4096;
 
 /// How many events may be committed until a node sends again.
 const SILENCE: u64 = 100;
+
+/// From how many events on since a node slept last others go on.
+const OTHERS: u64 = 8;
 
 /// In how many turns a node that sent again holds at most while another actor is behind.
 const HOLDS: u64 = 10_000;
@@ -61,6 +64,11 @@ struct Node {
     /// How often it asked since it ran a frame, and in how many turns it pauses until it asks once more.
     dry: u64,
     pauses: u64,
+    /// How often its body workers were done with a ticket when it last rested. It has looked for a turn since.
+    returned: u64,
+    /// How many events were committed when it last slept, and whether it was left out then.
+    passed: u64,
+    left_out: bool,
 }
 
 /// The turns of a node place, until the run ends.
@@ -100,13 +108,17 @@ pub(crate) fn run_node<'a, R: Wait + Clock, G: Gate + Sync>(
         held: 0,
         dry: 0,
         pauses: 0,
+        returned: 0,
+        passed: 0,
+        left_out: false,
     };
+    let mut turns = Turns::new();
     if !starts(rt, shared, &mut seat, &mut pen, &mut node) {
         desk.bells().ends();
         return seat;
     }
     for _ in rt.forever() {
-        if !shared.counts.takes_turn()
+        if !shared.counts.takes_turn(&mut turns)
             || shared.board.read(&mut note).is_some()
             || !turn(rt, alloc, shared, &mut seat, &mut pen, &mut desk, &mut node)
         {
@@ -179,7 +191,6 @@ fn goes_on<'a, R: Wait + Clock, G: Gate + Sync>(
     ensures pen { pen.new.table ≡ shared.entry.now.words.now.table }
     ensures line { IsLineOf shared.entry.now.chronicle.now.job.program desk.new.line }
 {
-    let returned = desk.bells().returned();
     match node.inbox.take(rt, alloc, shared.chronicle, seat) {
         Ok(Some(delivered)) => return takes(alloc, shared, node, &delivered),
         Ok(None) => {}
@@ -197,7 +208,7 @@ fn goes_on<'a, R: Wait + Clock, G: Gate + Sync>(
     if !node.has_asked && !node.plans.leaves() && !desk.is_busy() {
         if node.pauses > 0 {
             node.pauses = node.pauses.saturating_sub(1);
-            pause(rt, shared.config.nodes());
+            node.sleeps(rt, shared.counts, shared.config.nodes());
             return true;
         }
         match asks(rt, shared, seat, node) {
@@ -211,7 +222,7 @@ fn goes_on<'a, R: Wait + Clock, G: Gate + Sync>(
     }
     if node.idle < node.patience {
         node.idle = node.idle.saturating_add(1);
-        node.rests(rt, desk, returned, shared.config.nodes());
+        node.rests(rt, desk, shared.counts, shared.config.nodes());
         return true;
     }
     node.patience = node.patience.saturating_mul(2).min(MOST_PATIENCE);
@@ -429,6 +440,7 @@ fn executes<'a, R: Wait, G: Gate + Sync>(
     node.notes(committed.told);
     node.dry = 0;
     node.pauses = 0;
+    node.left_out = false;
     match next {
         Some(work) if !desk.is_full() => {
             desk.offer(work);
@@ -453,7 +465,7 @@ fn asks<'a, R: Wait + Clock, G: Gate + Sync>(
         return Some(false);
     };
     node.dry = node.dry.saturating_add(1);
-    node.pauses = pauses(node.dry);
+    node.pauses = pauses(node.dry, node.left_out);
     let told = does(rt, shared, seat, node, NodeEvent::Ask(victim))?;
     node.has_asked = match told {
         EventAnswer::Did(_, _) | EventAnswer::Refused(NodeError::Pending) => true,
@@ -496,14 +508,28 @@ impl Node {
         true
     }
 
-    /// It lets others go on, in a run of so many nodes; where its body workers have something, until a turn comes back, unless one did since so
-    /// many had.
-    fn rests<R: Wait + Clock>(&mut self, rt: &R, desk: &Desk, returned: u64, nodes: u8) {
+    /// It sleeps, and longer where it is left out: where it asks in vain, and others went on since it slept last.
+    fn sleeps<R: Clock>(&mut self, rt: &R, counts: &Counts, nodes: u8) {
+        let events = counts.events();
+        let others = events.saturating_sub(self.passed);
+        self.passed = events;
+        self.left_out = asks_in_vain(self.dry) && others >= OTHERS;
+        pause(rt, nodes, self.left_out);
+    }
+
+    /// It lets others go on, in a run of so many nodes; where its body workers have something, until a turn comes back, unless one did since
+    /// it rested last. Where it is left out it sleeps in each turn.
+    fn rests<R: Wait + Clock>(&mut self, rt: &R, desk: &Desk, counts: &Counts, nodes: u8) {
         self.rested = self.rested.saturating_add(1);
-        if !desk.is_waiting() {
+        if desk.is_waiting() {
+            if sleeps(self.rested) {
+                desk.bells().node_sleeps(rt, self.returned, nap(nodes));
+            }
+        } else if self.left_out || sleeps(self.rested) {
+            self.sleeps(rt, counts, nodes);
+        } else {
             rest_idle(rt, nodes, self.rested);
-        } else if sleeps(self.rested) {
-            desk.bells().node_sleeps(rt, returned, nap(nodes));
         }
+        self.returned = desk.bells().returned();
     }
 }

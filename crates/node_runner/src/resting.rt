@@ -15,20 +15,36 @@ const AWAKE: u64 = 32;
 /// How long an actor sleeps in a turn then in a run of few nodes, in microseconds.
 const SLEEP: u64 = 50;
 
+/// How long a node sleeps at least that asks in vain while others go on, in microseconds.
+const LONG_SLEEP: u64 = 250;
+
 /// How many nodes are few.
 const FEW: u64 = 8;
 
 /// In how many turns a node pauses at most before it asks once more.
 const LONGEST: u64 = 20;
 
-/// In how many turns a node that asked so often since it ran a frame pauses before it asks once more.
-pub(crate) fn pauses(asked: u64) -> u64 {
-    asked.min(LONGEST)
+/// The same where it sleeps long.
+const LONGEST_SLEEPING: u64 = 8;
+
+/// In how many turns a node that asked so often since it ran a frame pauses before it asks once more, where it sleeps long or doesn't.
+pub(crate) fn pauses(asked: u64, long: bool) -> u64 {
+    if long {
+        LONGEST_SLEEPING
+    } else {
+        asked.min(LONGEST)
+    }
 }
 
-/// An actor that pauses sleeps in a turn.
-pub(crate) fn pause(rt: &impl Clock, nodes: u8) {
-    sleep(rt, Duration::from_micros(nap(nodes)));
+/// Whether a node that asked so often since it ran a frame asks in vain.
+pub(crate) fn asks_in_vain(asked: u64) -> bool {
+    asked >= LONGEST
+}
+
+/// An actor that pauses sleeps in a turn, and longer where it is to.
+pub(crate) fn pause(rt: &impl Clock, nodes: u8, long: bool) {
+    let least = if long { LONG_SLEEP } else { 0 };
+    sleep(rt, Duration::from_micros(nap(nodes).max(least)));
 }
 
 /// An actor that waits for another one, and did nothing in so many turns, lets others go on.
@@ -36,7 +52,7 @@ pub(crate) fn rest(rt: &impl Clock, nodes: u8, idle: u64) {
     rest_after(rt, nodes, idle, YIELDS);
 }
 
-/// A node with nothing out, which did nothing in so many turns, lets others go on.
+/// An actor with nothing out, which did nothing in so many turns, lets others go on.
 pub(crate) fn rest_idle(rt: &impl Clock, nodes: u8, idle: u64) {
     rest_after(rt, nodes, idle, IDLE_YIELDS);
 }
@@ -50,7 +66,7 @@ fn rest_after(rt: &impl Clock, nodes: u8, idle: u64, yields: u64) {
     if idle < yields {
         yield_now();
     } else if sleeps(idle) {
-        pause(rt, nodes);
+        pause(rt, nodes, false);
     }
 }
 

@@ -37,8 +37,9 @@ pub struct Ran {
 /// another, with a clearinghouse on one more, under the faults that it says. The outcome is the job's meaning; the trace is a safe history of the job, and tells this outcome first.
 ///
 /// Refused as `TurnsSpent` (E95) where all turns were taken before there was an outcome, as `Memory` (E96) where there is no memory or a
-/// thread can't be made, and as `Disk` (E97) where the clearinghouse can't go on. Each loop turn of an actor counts as one, and so does each
-/// question to the gate that it doesn't answer by yes.
+/// thread can't be made, and as `Disk` (E97) where the clearinghouse can't go on. Each loop turn of an actor or a body worker counts as one,
+/// and so does each question to the gate that it doesn't answer by yes. Where more than 65,536 turns may be taken a thread takes several at
+/// once, at most 64, and so fewer than one in a hundred may be left to threads that don't begin them.
 pub fn run_job<'a, R: Threads + Wait + Clock + Sync, G: Gate + Sync>(
     rt: &R,
     alloc: Global,

@@ -2,7 +2,7 @@ ghost use Rattle.std.specs.Prelude.{◌≡◌};
 ghost use Rattle.node_runner.specs.Lines.{IsLineOf};
 
 use crate::bells::Bells;
-use crate::counts::End;
+use crate::counts::{End, Turns};
 use crate::crew::WorkerContext;
 use crate::desk::Ticket;
 use crate::gate::Gate;
@@ -38,16 +38,17 @@ pub(crate) fn run_worker<R: Wait + Clock, G: Gate + Sync>(
         bells,
     } = context;
     let mut note = shared.board.note();
+    let mut turns = Turns::new();
     let mut idle: u64 = 0;
     for _ in rt.forever() {
-        if !goes_on(shared, &mut note) {
+        if !goes_on(shared, &mut turns, &mut note) {
             break;
         }
         let offered = bells.offered();
         if let Some(ticket) = worker.steal() {
             idle = 0;
             bells.takes();
-            if !works(rt, alloc, shared, &mut line, &mut note, ticket) {
+            if !works(rt, alloc, shared, &mut line, &mut turns, &mut note, ticket) {
                 break;
             }
             bells.returns();
@@ -68,11 +69,11 @@ fn waits<R: Wait>(rt: &R, bells: &Bells, offered: u64, idle: u64) {
 }
 
 /// Takes a turn. Whether there was one, and the run goes on.
-fn goes_on<G: Gate + Sync>(shared: &Shared<'_, '_, G>, note: &mut Note) -> bool
+fn goes_on<G: Gate + Sync>(shared: &Shared<'_, '_, G>, turns: &mut Turns, note: &mut Note) -> bool
     requires { note.old.board ≡ shared.now.board.now.board }
     ensures { note.new.board ≡ note.old.board }
 {
-    shared.counts.takes_turn() && shared.board.read(note).is_none()
+    shared.counts.takes_turn(turns) && shared.board.read(note).is_none()
 }
 
 /// The body of a ticket is evaluated, and the turn goes back. Whether the run goes on, and there was memory.
@@ -81,6 +82,7 @@ fn works<R: Wait + Clock, G: Gate + Sync>(
     alloc: Global,
     shared: &Shared<'_, '_, G>,
     line: &mut Line,
+    turns: &mut Turns,
     note: &mut Note,
     ticket: Ticket,
 ) -> bool
@@ -94,7 +96,7 @@ fn works<R: Wait + Clock, G: Gate + Sync>(
     if !takes_its_numbers(checked, &work) {
         return true;
     }
-    if !passes(rt, shared, note) {
+    if !passes(rt, shared, turns, note) {
         return false;
     }
     let frame = frame_of(&work);
@@ -107,13 +109,21 @@ fn works<R: Wait + Clock, G: Gate + Sync>(
         frame,
         turn,
     };
-    returns(rt, shared, line, note, Finished::of(checked, evaluated))
+    returns(
+        rt,
+        shared,
+        line,
+        turns,
+        note,
+        Finished::of(checked, evaluated),
+    )
 }
 
 /// Numbers a body, and waits until the gate lets it be evaluated. Whether it did before the run ended.
 fn passes<R: Wait + Clock, G: Gate + Sync>(
     rt: &R,
     shared: &Shared<'_, '_, G>,
+    turns: &mut Turns,
     note: &mut Note,
 ) -> bool
     requires { note.old.board ≡ shared.now.board.now.board }
@@ -126,7 +136,7 @@ fn passes<R: Wait + Clock, G: Gate + Sync>(
     }
     let mut waited: u64 = 0;
     for _ in rt.forever() {
-        if !goes_on(shared, note) {
+        if !goes_on(shared, turns, note) {
             return false;
         }
         if shared.gate.may_go(body) {
@@ -143,6 +153,7 @@ fn returns<R: Wait + Clock, G: Gate + Sync>(
     rt: &R,
     shared: &Shared<'_, '_, G>,
     line: &mut Line,
+    turns: &mut Turns,
     note: &mut Note,
     finished: Finished,
 ) -> bool
@@ -160,7 +171,7 @@ fn returns<R: Wait + Clock, G: Gate + Sync>(
             Ok(()) => return true,
             Err(back) => finished = back,
         }
-        if !goes_on(shared, note) {
+        if !goes_on(shared, turns, note) {
             return false;
         }
         waited = waited.saturating_add(1);

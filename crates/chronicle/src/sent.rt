@@ -1,0 +1,79 @@
+//! How many packets were sent, as actors read it without the lock.
+
+use crate::chronicle::{Receiver, addressee};
+use crate::kept::Kept;
+use std::alloc::{AllocError, Global};
+use std::sync::atomic::AtomicU64;
+use std::sync::atomic::Ordering::SeqCst;
+
+/// In how many parts workers are told apart by their start words.
+const PARTS: u64 = 64;
+
+/// How many packets were sent in all, and up to the last one to each part of the receivers: those of workers, and then the clearinghouse.
+/// Written under the lock, and only where it changes, so that who reads it in vain has it at hand.
+#[derive(Drop)]
+pub(crate) struct Sent {
+    all: AtomicU64,
+    last: Vec<AtomicU64>,
+}
+
+impl Sent {
+    /// None was sent.
+    pub(crate) fn new(alloc: Global) -> Result<Sent, AllocError> {
+        let mut last = Vec::with_capacity(alloc, PARTS as usize + 1)?;
+        for _ in 0..=PARTS {
+            last.push(AtomicU64::new(0))?;
+        }
+        Ok(Sent {
+            all: AtomicU64::new(0),
+            last,
+        })
+    }
+
+    /// What a world sent by now. The numbers of parts are written first: who reads the number in all before one of these finds each packet
+    /// below it counted there.
+    pub(crate) fn notes(&self, kept: &Kept) {
+        let world = kept.world();
+        let sent = world.packets() as u64;
+        let before = self.all.load(SeqCst);
+        if sent == before {
+            return;
+        }
+        for index in before..sent {
+            let Some(packet) = world.packet(index) else {
+                break;
+            };
+            let part = part_of(addressee(packet.as_bytes()));
+            if let Some(last) = self.last.get(part) {
+                last.store(index.saturating_add(1), SeqCst);
+            }
+        }
+        self.all.store(sent, SeqCst);
+    }
+
+    /// How many were sent in all.
+    pub(crate) fn all(&self) -> u64 {
+        self.all.load(SeqCst)
+    }
+
+    /// How many were sent up to the last one to the part of a receiver.
+    pub(crate) fn to(&self, receiver: Receiver) -> u64 {
+        let part = match receiver {
+            Receiver::Clearinghouse => PARTS as usize,
+            Receiver::Worker(word) => part_of(word),
+        };
+        match self.last.get(part) {
+            Some(last) => last.load(SeqCst),
+            None => self.all(),
+        }
+    }
+}
+
+/// The part of an address.
+fn part_of(address: u64) -> usize {
+    if address >= 1 << 63 {
+        PARTS as usize
+    } else {
+        (address % PARTS) as usize
+    }
+}
