@@ -21,7 +21,8 @@ RESENDS = 400
 # What is called, how the line is named, and what a call is answered.
 FRAME_KINDS = [
     ("leaf", "a turn that sends", {"fill": 1}),
-    ("join", "a turn that joins with one kid", {"nothing": 1}),
+    ("join", "a turn that joins, the newest", {"nothing": 1}),
+    ("oldest", "a turn that joins, the oldest", {"nothing": 1}),
     ("steal", "a Steal answered by a Grant", {"Grant": 1}),
     ("result", "a Result that fills a slot", {"ResultAck": 1, "fill": 1}),
 ]
@@ -81,6 +82,9 @@ def calls_of(kind, size, joins, last, packets):
     if kind == "leaf":
         return [], ["run {}"] * count
     if kind == "join":
+        # (the newest frame of its level first, as a node takes them)
+        return [], [f"exec {{}} house:1/1 {frame(8 * joins - it)}" for it in range(count)]
+    if kind == "oldest":
         return [], [f"exec {{}} house:1/1 {frame(joins + it)}" for it in range(count)]
     thieves = [(4 + it, 1) if has_holders else (4, 1 + it) for it in range(count)]
     steals = [f"give {{}} {packets.made(f'Steal from={thief} seq={seq}')}" for thief, seq in thieves]
@@ -103,7 +107,7 @@ def texts(kind, size, rounds, brief):
     packets = Packets()
     listed = packets.made(f"Roster epoch=1 version=1 members=2..{last}:live")
     before, calls = calls_of(kind, size, joins, last, packets)
-    begun = built(joins, kind == "join", last) + packets.lines + brief + ["start 3", f"give 3 {listed}", "give 3 #3", *before]
+    begun = built(joins, kind in ("join", "oldest"), last) + packets.lines + brief + ["start 3", f"give 3 {listed}", "give 3 #3", *before]
     again = ["crash 3", "start 3", f"give 3 {listed}", "give 3 #3", *before]
     both = []
     for worker in (1, 3):

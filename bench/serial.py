@@ -56,6 +56,8 @@ int main(int count, char **words) {
 
 INPUT = 27
 TRIES = 5
+# As many for a check, which takes a few milliseconds.
+CHECKS = 200
 SERIAL, RUN, NODE, OPENMP, LUA_ROW = "cilknow serial", "cilknow run", "run on one node", "OpenMP tasks", "Lua 5.4"
 # The inputs whose difference is counted in instructions.
 COUNTED = (15, 20)
@@ -227,7 +229,7 @@ def show_levels(program, folder):
 def show_checks(program, folder):
     print("\ntext                    bytes    check ms")
     texts = [(name, len(text), written(folder, name, text)) for name, text in long_texts()]
-    taken = least([[program, "check", file] for _, _, file in texts])
+    taken = least([[program, "check", file] for _, _, file in texts], CHECKS)
     for (name, size, _), (busy, _) in zip(texts, taken):
         print(f"{name:20} {size:8} {busy * 1000:11.1f}")
 
