@@ -16,7 +16,7 @@ pub(crate) enum End {
 /// How many turns a thread takes at once at most.
 const BATCH: u64 = 64;
 
-/// Of so many turns of a run a thread takes one at once, and one more for each as many again.
+/// For so many turns that a run may take a thread takes one at once, and one more for each as many again.
 const SHARE: u64 = 65_536;
 
 /// What the actors of a run count together, each number by one step of an atomic word. The words lie on cache lines of their own: a thread

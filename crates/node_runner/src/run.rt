@@ -38,8 +38,8 @@ pub struct Ran {
 ///
 /// Refused as `TurnsSpent` (E95) where all turns were taken before there was an outcome, as `Memory` (E96) where there is no memory or a
 /// thread can't be made, and as `Disk` (E97) where the clearinghouse can't go on. Each loop turn of an actor or a body worker counts as one,
-/// and so does each question to the gate that it doesn't answer by yes. Where more than 65,536 turns may be taken a thread takes several at
-/// once, at most 64, and so fewer than one in a hundred may be left to threads that don't begin them.
+/// and so does each question to the gate that it doesn't answer by yes. Where 131,072 turns and more may be taken a thread takes several
+/// at once, at most 64, and so fewer than one in a hundred may be left to threads that don't begin them.
 pub fn run_job<'a, R: Threads + Wait + Clock + Sync, G: Gate + Sync>(
     rt: &R,
     alloc: Global,
