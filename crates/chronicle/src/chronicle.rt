@@ -1,4 +1,4 @@
-ghost use Rattle.std.specs.Prelude.{◌≡◌, true, ◌++◌, ◌+◌, ◌<◌, ◌≤◌, [], ◌∷◌, All, IfOk, IfSome, IfNone, OnErr, Some, length, map, vec_len, option_copied};
+ghost use Rattle.std.specs.Prelude.{◌≡◌, ℕ, Ok, Err, true, ◌++◌, ◌+◌, ◌<◌, ◌≤◌, [], ◌∷◌, All, IfOk, IfSome, IfNone, OnErr, Some, length, map, vec_len, option_copied};
 ghost use Rattle.std.specs.List.{range_with_len};
 ghost use Rattle.ids.specs.declared.outcome.Outcome.{Outcome};
 ghost use Rattle.kind_check.specs.Total.{Takes};
@@ -9,6 +9,9 @@ ghost use Rattle.world_steps.specs.Steps.{Step as StepOf};
 ghost use Rattle.world_steps.specs.World.{WorldOf};
 ghost use Rattle.turn_lock.specs.Histories.{own};
 ghost use Rattle.chronicle.specs.Deliveries.{delivery, entered, told_in};
+ghost use Rattle.chronicle.specs.declared.chronicle.Arrived.{Arrived as ArrivedOf};
+ghost use Rattle.chronicle.specs.declared.chronicle.Delivery.TheVariants.{Came, Looked};
+ghost use Rattle.chronicle.specs.declared.kept.Committed.{Committed as CommittedOf};
 ghost use Rattle.chronicle.specs.History.{IsSafeHistory, actor_of, entry, actor_number, outcome_told};
 ghost use Rattle.chronicle.specs.Seats.{IsBlankSeatIn, IsSeatIn, TellsOf, first_last, seat_of};
 
@@ -18,7 +21,9 @@ use crate::sent::Sent;
 use crate::trace::Trace;
 use body_eval::Done;
 use event_script::{Event, FrameOf, HouseEvent, NodeEvent, NodePlace};
+use ids::{FrameNo, GrantId};
 use kind_check::Checked;
+use level_deques::Posts;
 use node_core::Work;
 use serial_meaning::Job;
 use std::alloc::{AllocError, Global};
@@ -27,6 +32,9 @@ use std::snapshot::Snapshot;
 use std::sync::Wait;
 use turn_lock::{LockSeat, TurnLock};
 use world_steps::NoMemory;
+
+/// The number of the kind Roster, which stands behind the first three bytes of a packet.
+const ROSTER: u8 = 2;
 
 /// To whom a packet is addressed: the clearinghouse, in whichever epoch, or the worker of a start word.
 #[derive(Clone, Copy, Debug, PartialEq, Eq)]
@@ -45,11 +53,11 @@ impl Receiver {
     }
 }
 
-/// A packet that was sent: its number from 0 among all that were, and its bytes.
+/// A packet that was sent: its number from 0 among all that were, and its bytes if it is a Roster.
 #[derive(Drop)]
 pub struct Arrived {
     pub index: u64,
-    pub bytes: Vec<u8>,
+    pub roster: Option<Vec<u8>>,
 }
 
 /// What is told of an event that was committed, and a ready frame that was found right behind it, in the same turn of the lock.
@@ -180,7 +188,8 @@ impl<'a> Chronicle<'a> {
 
     /// The first packet from the one of a number on that is addressed to a receiver comes to the node of a place, or where there is no
     /// place to the clearinghouse, in the turn of the lock in which it is found: its delivery is committed, as by `commit`. Where none is
-    /// found nothing is committed, and it is told how many packets were looked at, as by `packet_for`.
+    /// found nothing is committed, and it is told how many packets were looked at: as by `packet_for`, or those before a Roster whose
+    /// bytes find no memory.
     pub fn commit_delivery<R: Wait>(
         &self,
         rt: &R,
@@ -201,7 +210,7 @@ impl<'a> Chronicle<'a> {
         ensures err { OnErr result (seat.new ≡ seat.old) }
     {
         let mut kept = self.lock.take(rt, &mut seat.seat);
-        let found = first_for(alloc, &kept, from, receiver);
+        let found = arrives(alloc, &kept, from, receiver);
         let answer = comes(&mut kept, seat, place, found);
         self.sent.notes(&kept);
         self.lock.put(&mut seat.seat, kept);
@@ -267,21 +276,20 @@ impl<'a> Chronicle<'a> {
         work
     }
 
-    /// The first packet from the one of a number on that is addressed to a receiver, with its bytes. Else how many packets were looked at in
-    /// all: those that were sent, or those before one whose bytes find no memory. A hint.
+    /// The number of the first packet from one on that is addressed to a receiver. Else how many packets were looked at: all that were
+    /// sent. A hint. It takes no memory.
     pub fn packet_for<R: Wait>(
         &self,
         rt: &R,
-        alloc: Global,
         seat: &mut ActorSeat<'a>,
         from: u64,
         receiver: Receiver,
-    ) -> Result<Arrived, u64>
+    ) -> Result<u64, u64>
         requires seat { IsSeatIn self.now seat.old }
         ensures same { seat.new ≡ seat.old }
     {
         let kept = self.lock.take(rt, &mut seat.seat);
-        let found = first_for(alloc, &kept, from, receiver);
+        let found = first_for(&kept, from, receiver);
         self.lock.put(&mut seat.seat, kept);
         found
     }
@@ -370,6 +378,10 @@ fn comes<'a>(
     ensures outcome { IfOk result (λ d. IfSome (told_in place d) (λ e. (o : Outcome)
         → outcome_told e.told ≡ Some o → o ≡ meaning_of kept.old.on.job)) }
     ensures err { OnErr result (kept.new.entries ≡ kept.old.entries) }
+
+    // A packet that was found comes, or there is no memory for it; where none was found nothing changes.
+    ensures came { (a : ArrivedOf) → found ≡ Ok a → IfOk result (λ d. (c : CommittedOf) × (d ≡ Came a c)) }
+    ensures none { (n : ℕ) → found ≡ Err n → (result ≡ Ok (Looked n)) × (kept.new ≡ kept.old) }
 {
     match found {
         Ok(arrived) => {
@@ -395,15 +407,22 @@ pub fn delivery_to(place: Option<NodePlace>, index: u64) -> Event
 }
 
 impl Wanted<'_> {
-    /// The first ready frame that is wanted, if its thread takes its numbers.
+    /// The first ready frame that is wanted, if its thread takes its numbers. It is found by its name, and only then looked at.
     fn work_in(&self, job: &Job, kept: &Kept) -> Option<Work>
         ensures { IfSome result (λ w. Takes job.now.program w.thread (length w.numbers)) }
     {
         let world = kept.world();
+        let index = self.index_in(world.node(self.place)?.parts().posts())?;
+        let work = world.ready(self.alloc, self.place, index).ok().flatten()?;
+        own_work(job, work)
+    }
+
+    /// How many ready frames come before the first one that is wanted. Takes no memory.
+    fn index_in(&self, posts: &Posts) -> Option<usize> {
         for index in 0..=self.besides.len() {
-            let work = world.ready(self.alloc, self.place, index).ok().flatten()?;
-            if !is_among(self.besides, frame_of(&work)) {
-                return own_work(job, work);
+            let post = posts.at(index)?;
+            if !is_among(self.besides, frame_named(post.grant, post.frame)) {
+                return Some(index);
             }
         }
         None
@@ -428,10 +447,15 @@ fn is_among(frames: &[FrameOf], frame: FrameOf) -> bool {
 
 /// A ready frame, as an event names it.
 pub fn frame_of(work: &Work) -> FrameOf {
+    frame_named(work.grant, work.frame)
+}
+
+/// A frame of the subcomputation of a grant, as an event names it.
+fn frame_named(grant: GrantId, frame: FrameNo) -> FrameOf {
     FrameOf {
-        minter: work.grant.minter().word(),
-        number: work.grant.number(),
-        frame: u64::from(work.frame.number()),
+        minter: grant.minter().word(),
+        number: grant.number(),
+        frame: u64::from(frame.number()),
     }
 }
 
@@ -445,23 +469,41 @@ pub fn takes_its_numbers(checked: &Checked, work: &Work) -> bool
     checked.program().thread(work.thread).numbers.len() == work.numbers.len()
 }
 
-/// The first packet from the one of a number on that is addressed to a receiver, or how many were looked at.
-fn first_for(alloc: Global, kept: &Kept, from: u64, receiver: Receiver) -> Result<Arrived, u64> {
+/// The first packet from the one of a number on that is addressed to a receiver, with its bytes if it is a Roster. Else how many were
+/// looked at: all, or those before a Roster whose bytes find no memory.
+fn arrives(alloc: Global, kept: &Kept, from: u64, receiver: Receiver) -> Result<Arrived, u64> {
+    let index = first_for(kept, from, receiver)?;
+    match roster_at(alloc, kept, index) {
+        Ok(roster) => Ok(Arrived { index, roster }),
+        Err(_) => Err(index),
+    }
+}
+
+/// The number of the first packet from one on that is addressed to a receiver, or how many were sent.
+fn first_for(kept: &Kept, from: u64, receiver: Receiver) -> Result<u64, u64> {
     let world = kept.world();
     let sent = world.packets() as u64;
     for index in from..sent {
         let Some(packet) = world.packet(index) else {
             return Err(index);
         };
-        let bytes = packet.as_bytes();
-        if receiver.takes(addressee(bytes)) {
-            return match Vec::from_slice(alloc, bytes) {
-                Ok(bytes) => Ok(Arrived { index, bytes }),
-                Err(_) => Err(index),
-            };
+        if receiver.takes(addressee(packet.as_bytes())) {
+            return Ok(index);
         }
     }
     Err(sent)
+}
+
+/// The bytes of the packet of a number, if it is a Roster.
+fn roster_at(alloc: Global, kept: &Kept, index: u64) -> Result<Option<Vec<u8>>, AllocError> {
+    let Some(packet) = kept.world().packet(index) else {
+        return Ok(None);
+    };
+    let bytes = packet.as_bytes();
+    if bytes.get(3) != Some(&ROSTER) {
+        return Ok(None);
+    }
+    Ok(Some(Vec::from_slice(alloc, bytes)?))
 }
 
 /// The word behind the first twelve bytes.

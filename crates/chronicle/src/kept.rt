@@ -5,7 +5,7 @@ ghost use Rattle.serial_meaning.specs.Job.{meaning_of};
 ghost use Rattle.turn_lock.specs.Histories.{own};
 ghost use Rattle.world_steps.specs.Answers.{StepResult};
 ghost use Rattle.world_steps.specs.Calls.{IsOfJob, IsOutOfMemory, told_of};
-ghost use Rattle.world_steps.specs.Runs.{CanBegin};
+ghost use Rattle.world_steps.specs.Runs.{IsFormattedFor};
 ghost use Rattle.world_steps.specs.Steps.{Step as StepOf};
 ghost use Rattle.world_steps.specs.World.{first_over};
 ghost use Rattle.chronicle.specs.History.{IsSafeHistory, actor_of, entry, actor_number, outcome_told};
@@ -101,7 +101,7 @@ impl<'a> Kept<'a> {
     /// The first world of a job, over a disk that was formatted for it, with no history. Refused only when out of memory (E9).
     pub fn new(alloc: Global, job: &'a Job) -> Result<Kept<'a>, NoMemory>
         ensures kept { IfOk result (λ k. (k.on.job ≡ job.now) × (k.entries ≡ []) × (k.out_of_memory ≡ false)) }
-        ensures world { IfOk result (λ k. (d : Device) × CanBegin job.now d × (k.on.world ≡ first_over d)) }
+        ensures world { IfOk result (λ k. (d : Device) × IsFormattedFor job.now d × (k.on.world ≡ first_over d)) }
     {
         let _checked = job.checked();
         let first = World::new(alloc, job)?;

@@ -2,6 +2,7 @@
 
 use crate::chronicle::{Receiver, addressee};
 use crate::kept::Kept;
+use crossbeam_utils::CachePadded;
 use std::alloc::{AllocError, Global};
 use std::sync::atomic::AtomicU64;
 use std::sync::atomic::Ordering::SeqCst;
@@ -10,11 +11,12 @@ use std::sync::atomic::Ordering::SeqCst;
 const PARTS: u64 = 64;
 
 /// How many packets were sent in all, and up to the last one to each part of the receivers: those of workers, and then the clearinghouse.
-/// Written under the lock, and only where it changes, so that who reads it in vain has it at hand.
+/// Written under the lock, and only where it changes, so that who reads it in vain has it at hand. Each has cache lines of its own, so that
+/// what is written for one actor doesn't take those of others away.
 #[derive(Drop)]
 pub(crate) struct Sent {
-    all: AtomicU64,
-    last: Vec<AtomicU64>,
+    all: CachePadded<AtomicU64>,
+    last: Vec<CachePadded<AtomicU64>>,
 }
 
 impl Sent {
@@ -22,10 +24,10 @@ impl Sent {
     pub(crate) fn new(alloc: Global) -> Result<Sent, AllocError> {
         let mut last = Vec::with_capacity(alloc, PARTS as usize + 1)?;
         for _ in 0..=PARTS {
-            last.push(AtomicU64::new(0))?;
+            last.push(CachePadded::new(AtomicU64::new(0)))?;
         }
         Ok(Sent {
-            all: AtomicU64::new(0),
+            all: CachePadded::new(AtomicU64::new(0)),
             last,
         })
     }

@@ -1,26 +1,28 @@
 ghost use Rattle.std.specs.Prelude.{◌≡◌};
 ghost use Rattle.cilknow.specs.Status.{of_file, of_job, of_words, status_of};
 
-use crate::explain::{Named, explain};
+use crate::explain::explain;
+use crate::failure::Failure;
 use crate::fault::SoloFault;
 use crate::form::{FormFault, form_of};
-use crate::logged::log_text;
-use crate::nodes::ran_on_nodes;
-use crate::solo::solo;
+use crate::misuse::{Misuse, NoCommand, is_command};
+use crate::named::{Named, Place, beside_of};
+use crate::output::Output;
+use crate::runs::{answer_run, tell_outcome};
 use crate::stored::info_in;
-use crate::words::{DrawWords, JobWords, RunWords, Subcommand, Words, read_words};
+use crate::words::{DrawWords, JobWords, Subcommand, Words, read_words};
 use checkpoint::Info;
-use chronicle::Trace;
 use event_words::{write_counts, write_turns};
 use jobs::{FileFault, JobFault, job_of, program_of, text_bytes};
-use node_runner::{RunConfig, RunError};
+use node_runner::RunError;
 use replaying::{
     ReplayFault, ReplayWords, WordsFault, help_of, replay_files, replay_words, write_replayed,
 };
-use run_picture::{Recorder, write_picture};
+use run_picture::{Recorder, Shows, write_picture};
 use serial_meaning::{Outcome, SerialError, TurnCounts, serial, serial_counted};
-use std::alloc::Global;
+use std::alloc::{AllocError, Global};
 use std::convert::AsStr;
+use std::fmt;
 use std::fs::File;
 use std::io::{self, Stderr, Write};
 use std::mem::forget;
@@ -28,7 +30,6 @@ use std::rt::Files;
 use std::sync::Wait;
 use std::thread::Threads;
 use std::time::Clock;
-use std::{fmt, fs};
 use thiserror::Error;
 
 /// Why a command ends without its answer.
@@ -106,6 +107,13 @@ impl From<JobFault> for CommandFault {
     }
 }
 
+/// What is told beside an answer: what was counted, and why.
+#[derive(Clone, Copy)]
+pub struct Telling {
+    pub stats: bool,
+    pub explain: bool,
+}
+
 /// Why a serial outcome isn't there.
 fn unfinished(error: SerialError) -> CommandFault {
     match error {
@@ -118,14 +126,14 @@ fn unfinished(error: SerialError) -> CommandFault {
 fn answer_serial<R: Files + AllocGlobal, O: Write, E: Write>(
     rt: &R,
     words: JobWords<'_>,
-    stats: bool,
+    telling: Telling,
     out: &mut O,
     err: &mut E,
-) -> Result<(), CommandFault> {
+) -> Result<(), Failure> {
     let alloc = rt.alloc();
     let text = text_bytes(rt, words.file)?;
     let job = job_of(alloc, text.as_slice(), words.input, words.job)?;
-    let outcome = if stats {
+    let outcome = if telling.stats {
         let mut counts = TurnCounts::new();
         let outcome = serial_counted(alloc, &job, words.turns, &mut counts).map_err(unfinished)?;
         let _ = write_turns(err, job.checked().program(), &counts);
@@ -133,10 +141,10 @@ fn answer_serial<R: Files + AllocGlobal, O: Write, E: Write>(
     } else {
         serial(alloc, &job, words.turns).map_err(unfinished)?
     };
-    write_outcome(out, outcome).map_err(|_| CommandFault::File)
+    tell_outcome(outcome, telling, out, err)
 }
 
-fn write_outcome<O: Write>(out: &mut O, outcome: Outcome) -> io::Result<()> {
+pub fn write_outcome<O: Write>(out: &mut O, outcome: Outcome) -> io::Result<()> {
     match outcome {
         Outcome::Value(value) => writeln!(out, "value {value}")?,
         Outcome::TooDeep => writeln!(out, "too deep")?,
@@ -176,27 +184,62 @@ fn write_line<O: Write>(out: &mut O, text: impl fmt::Display + Drop) -> io::Resu
 fn answer_replay<R: Files + AllocGlobal + Threads + Clock + Sync, O: Write>(
     rt: &R,
     words: ReplayWords<'_>,
-    stats: bool,
+    telling: Telling,
     out: &mut O,
     err: &mut Stderr,
-) -> Result<(), CommandFault> {
+) -> Result<(), Failure> {
     let file = words.file;
     let replayed = replay_words(rt, words, out, err).map_err(CommandFault::Replay)?;
-    if stats {
+    if telling.stats {
         let text = text_bytes(rt, file)?;
         let checked = program_of(rt.alloc(), text.as_slice())?;
         let _ = write_counts(err, checked.program(), &replayed.counts);
     }
-    write_replayed(out, &replayed).map_err(|_| CommandFault::File)
+    write_replayed(out, &replayed).map_err(unwritten)
 }
 
-/// The picture of a replay, which is made in full before any of it is written.
-fn answer_draw<R: Files + AllocGlobal, O: Write>(
+/// The picture of a replay, which is made in full before any of it is written. The file for it is open before the replay begins.
+fn answer_draw<R: Files<File = File> + AllocGlobal, O: Write>(
     rt: &R,
     words: DrawWords<'_>,
     out: &mut O,
-) -> Result<(), CommandFault> {
-    let DrawWords { replay, out: path } = words;
+) -> Result<(), Failure> {
+    let DrawWords {
+        replay,
+        work,
+        out: path,
+    } = words;
+    let shows = if work { Shows::Work } else { Shows::All };
+    let Some(path) = path else {
+        let text = drawn(rt, replay, shows)?;
+        return write_bytes(out, text.as_slice()).map_err(unwritten);
+    };
+    let mut output = Output::open(rt, path).map_err(undrawn)?;
+    match drawn(rt, replay, shows) {
+        Ok(text) => output.write(text.as_slice()).map_err(undrawn),
+        Err(fault) => {
+            output.give_up(rt, path);
+            Err(Failure::from(fault))
+        }
+    }
+}
+
+/// The picture's file can't be opened or written.
+fn undrawn(error: io::Error) -> Failure {
+    Failure::file(Place::Out, error)
+}
+
+/// Standard output can't be written.
+fn unwritten(error: io::Error) -> Failure {
+    Failure::file(Place::StandardOutput, error)
+}
+
+/// The picture of a replay, with the packets that are asked for.
+fn drawn<R: Files + AllocGlobal>(
+    rt: &R,
+    replay: ReplayWords<'_>,
+    shows: Shows,
+) -> Result<Vec<u8>, CommandFault> {
     let mut run = Recorder::new(rt.alloc());
     replay_files(
         rt,
@@ -208,119 +251,20 @@ fn answer_draw<R: Files + AllocGlobal, O: Write>(
     )
     .map_err(CommandFault::Replay)?;
     let mut text = Vec::new(rt.alloc());
-    if !run.is_whole() || write_picture(&mut text, &run).is_err() {
+    if !run.is_whole() || write_picture(&mut text, &run, shows).is_err() {
         return Err(CommandFault::Replay(ReplayFault::Memory));
     }
-    let written = match path {
-        Some(path) => fs::write(rt, path, text.as_slice()),
-        None => write_bytes(out, text.as_slice()),
-    };
-    written.map_err(|_| CommandFault::File)
-}
-
-/// What a run comes to: by one evaluator where nothing asks for threads, else by nodes on threads. What was counted is told where that is
-/// asked for.
-fn answer_run<R: Files<File = File> + AllocGlobal + Threads + Wait + Clock + Sync, O: Write>(
-    rt: &R,
-    words: RunWords<'_>,
-    stats: bool,
-    out: &mut O,
-    err: &mut Stderr,
-) -> Result<(), CommandFault> {
-    let Some(config) = words.config() else {
-        return Err(CommandFault::Usage);
-    };
-    let outcome = if words.is_alone() {
-        ran_alone(rt, words.job, stats, err)?
-    } else {
-        ran_by_nodes(rt, words, &config, stats, err)?
-    };
-    write_outcome(out, outcome).map_err(|_| CommandFault::File)
-}
-
-/// The outcome of a job by one evaluator.
-fn ran_alone<R: Files + AllocGlobal, E: Write>(
-    rt: &R,
-    words: JobWords<'_>,
-    stats: bool,
-    err: &mut E,
-) -> Result<Outcome, CommandFault> {
-    let alloc = rt.alloc();
-    let text = text_bytes(rt, words.file)?;
-    let mut counts = TurnCounts::new();
-    let outcome = solo(
-        alloc,
-        text.as_slice(),
-        words.input,
-        words.job,
-        words.turns,
-        &mut counts,
-    )
-    .map_err(CommandFault::Run)?;
-    if stats {
-        let checked = program_of(alloc, text.as_slice())?;
-        let _ = write_turns(err, checked.program(), &counts);
-    }
-    Ok(outcome)
-}
-
-/// The outcome of a job by nodes on threads. The trace and the log are written where files are named for them.
-fn ran_by_nodes<R: Files<File = File> + AllocGlobal + Threads + Wait + Clock + Sync>(
-    rt: &R,
-    words: RunWords<'_>,
-    config: &RunConfig,
-    stats: bool,
-    err: &mut Stderr,
-) -> Result<Outcome, CommandFault> {
-    let text = text_bytes(rt, words.job.file)?;
-    let job = job_of(rt.alloc(), text.as_slice(), words.job.input, words.job.job)?;
-    let ran = ran_on_nodes(rt, &job, config, words.store, err)?;
-    write_trace(rt, words.trace, &ran.trace)?;
-    write_log(rt, words.log, &ran.trace)?;
-    if let (true, Some(trace)) = (stats, &ran.trace) {
-        let _ = write_counts(err, job.checked().program(), trace.counts());
-    }
-    Ok(ran.outcome)
-}
-
-/// Writes the script of a run's trace to a file, where one is named.
-fn write_trace<R: Files + AllocGlobal>(
-    rt: &R,
-    path: Option<&str>,
-    trace: &Option<Trace>,
-) -> Result<(), CommandFault> {
-    let (Some(path), Some(trace)) = (path, trace) else {
-        return Ok(());
-    };
-    let Ok(script) = trace.script(rt.alloc()) else {
-        return Err(CommandFault::Nodes(RunError::Memory));
-    };
-    fs::write(rt, path, script).map_err(|_| CommandFault::File)
-}
-
-/// Writes the log of a run to a file, where one is named. It has no line where the outcome was kept before.
-fn write_log<R: Files + AllocGlobal>(
-    rt: &R,
-    path: Option<&str>,
-    trace: &Option<Trace>,
-) -> Result<(), CommandFault> {
-    let Some(path) = path else {
-        return Ok(());
-    };
-    let text = match trace {
-        Some(trace) => log_text(rt.alloc(), trace),
-        None => Vec::new(rt.alloc()),
-    };
-    fs::write(rt, path, text).map_err(|_| CommandFault::File)
+    Ok(text)
 }
 
 fn answer<R: Files<File = File> + AllocGlobal + Threads + Wait + Clock + Sync, O: Write>(
     rt: &R,
     request: Subcommand<'_>,
-    stats: bool,
+    named: &Named<'_>,
+    telling: Telling,
     out: &mut O,
     err: &mut Stderr,
-) -> Result<(), CommandFault> {
+) -> Result<(), Failure> {
     let alloc = rt.alloc();
     let written = match request {
         Subcommand::Check(file) => {
@@ -336,13 +280,13 @@ fn answer<R: Files<File = File> + AllocGlobal + Threads + Wait + Clock + Sync, O
             let form = form_of(alloc, text.as_slice()).map_err(CommandFault::Form)?;
             write_bytes(out, form.as_slice())
         }
-        Subcommand::Serial(words) => return answer_serial(rt, words, stats, out, err),
-        Subcommand::Run(words) => return answer_run(rt, words, stats, out, err),
-        Subcommand::Replay(words) => return answer_replay(rt, words, stats, out, err),
+        Subcommand::Serial(words) => return answer_serial(rt, words, telling, out, err),
+        Subcommand::Run(words) => return answer_run(rt, words, named, telling, out, err),
+        Subcommand::Replay(words) => return answer_replay(rt, words, telling, out, err),
         Subcommand::Draw(words) => return answer_draw(rt, words, out),
         Subcommand::Store(path) => write_info(out, info_in(rt, path)?),
     };
-    written.map_err(|_| CommandFault::File)
+    written.map_err(unwritten)
 }
 
 /// What is told of a command line that asks for no answer: a fault, or a text to be shown.
@@ -388,24 +332,55 @@ fn carried_out<R: Files<File = File> + AllocGlobal + Threads + Wait + Clock + Sy
         explain,
         stats,
     } = line;
-    let named = Named::by(&request);
-    match answer(rt, request, stats, out, err) {
+    let Ok(beside) = beside_in(rt.alloc(), &request) else {
+        return refused(CommandFault::Run(SoloFault::Memory), err);
+    };
+    let beside = match &beside {
+        Some(path) => Some(path.as_str()),
+        None => None,
+    };
+    let named = Named::by(&request, beside);
+    let answered = match misuse_of(rt, &request, &named) {
+        Some(misuse) => Err(Failure::misuse(misuse)),
+        None => answer(rt, request, &named, Telling { stats, explain }, out, err),
+    };
+    match answered {
         Ok(()) => 0,
-        Err(fault) if explain => explained(rt, fault, &named, err),
-        Err(fault) => refused(fault, err),
+        Err(failure) if explain => explained(rt, failure, &named, err),
+        Err(failure) => refused(failure.fault, err),
     }
+}
+
+/// The file beside the store of a run, where one is named.
+fn beside_in(alloc: Global, request: &Subcommand<'_>) -> Result<Option<String>, AllocError> {
+    match request {
+        Subcommand::Run(words) => match words.store {
+            Some(store) => Ok(Some(beside_of(alloc, store)?)),
+            None => Ok(None),
+        },
+        _ => Ok(None),
+    }
+}
+
+/// Why the words of a request don't go together: by their numbers and options, and then by the files that they name.
+fn misuse_of<R: Files>(rt: &R, request: &Subcommand<'_>, named: &Named<'_>) -> Option<Misuse> {
+    if let Subcommand::Run(words) = request {
+        if let Some(misuse) = words.misuse() {
+            return Some(misuse);
+        }
+    }
+    named.one_file(rt)
 }
 
 /// Writes a fault of a command line that names these files to `err`, and explains it; the status to end with.
 fn explained<R: Files<File = File> + AllocGlobal, E: Write>(
     rt: &R,
-    fault: CommandFault,
+    failure: Failure,
     named: &Named<'_>,
     err: &mut E,
 ) -> u8 {
-    let status = fault.status();
-    let _ = write_line(err, format_args!("cilknow: {fault}"));
-    let _ = explain(rt, err, &fault, named);
+    let status = refused(failure.fault, err);
+    let _ = explain(rt, err, &failure, named);
     status
 }
 
@@ -420,12 +395,17 @@ fn misused<E: Write>(fault: CommandFault, usage: Option<String>, err: &mut E) ->
 
 /// What is wrong with words that aren't understood, where one of them asks for that.
 fn usage_text<S: AsStr>(alloc: Global, words: &[S], error: &clap::Error) -> Option<String> {
-    for word in words {
-        if word.as_str() == "--explain" {
-            return String::format(alloc, format_args!("{error}")).ok();
-        }
+    if !words.iter().any(|it| it.as_str() == "--explain") {
+        return None;
     }
-    None
+    let command = match words.get(1) {
+        Some(word) => Some(word.as_str()),
+        None => None,
+    };
+    match command {
+        Some(word) if is_command(word) => String::format(alloc, format_args!("{error}")).ok(),
+        _ => String::format(alloc, format_args!("{}\n", NoCommand(command))).ok(),
+    }
 }
 
 /// Writes a fault to `err` as one line; the status to end with.

@@ -1,9 +1,10 @@
 //! What is told of a fault behind its line, where a command line asks for it.
 
 use crate::command::CommandFault;
+use crate::failure::{Failure, Why};
 use crate::fault::SoloFault;
 use crate::form::FormFault;
-use crate::words::Subcommand;
+use crate::named::{Named, Place};
 use explaining::{explain_files, explain_number, explain_replay, explain_text};
 use jobs::JobFault;
 use node_runner::RunError;
@@ -12,45 +13,62 @@ use std::fs::File;
 use std::io::{self, Write};
 use std::rt::Files;
 
-/// The files that a command line names: that of a text, and that of a script or a store; one of them twice where there is no other.
-#[derive(Clone, Copy)]
-pub struct Named<'a> {
-    text: &'a str,
-    other: &'a str,
-}
-
-impl<'a> Named<'a> {
-    /// Those of a request.
-    pub fn by(request: &Subcommand<'a>) -> Named<'a> {
-        match request {
-            Subcommand::Check(file) | Subcommand::Print(file) => Named::of(*file, None),
-            Subcommand::Serial(words) => Named::of(words.file, None),
-            Subcommand::Run(words) => Named::of(words.job.file, words.store),
-            Subcommand::Replay(words) => Named::of(words.file, Some(words.script)),
-            Subcommand::Draw(words) => Named::of(words.replay.file, Some(words.replay.script)),
-            Subcommand::Store(path) => Named::of(*path, None),
-        }
-    }
-
-    fn of(text: &'a str, other: Option<&'a str>) -> Named<'a> {
-        Named {
-            text,
-            other: other.unwrap_or(text),
-        }
-    }
-}
-
 /// Explains a fault of a command line that names these files. What can't be read any more isn't explained.
 pub fn explain<R: Files<File = File> + AllocGlobal, W: Write>(
+    rt: &R,
+    out: &mut W,
+    failure: &Failure,
+    named: &Named<'_>,
+) -> io::Result<()> {
+    match &failure.why {
+        Why::Plain => explain_fault(rt, out, &failure.fault, named),
+        Why::File(place, error) => explain_place(out, *place, error, named),
+        Why::Misuse(misuse) => writeln!(out, "{misuse}"),
+        Why::OtherJob | Why::NoJob => explain_store(out, &failure.why, named),
+    }
+}
+
+/// Explains why a store is refused by the file beside it, and what helps.
+fn explain_store<W: Write>(out: &mut W, why: &Why, named: &Named<'_>) -> io::Result<()> {
+    let store = named.store.unwrap_or("");
+    let beside = named.beside.unwrap_or("");
+    match why {
+        Why::OtherJob => write!(
+            out,
+            "{store} is the store of another program or another input"
+        )?,
+        _ => write!(out, "{beside} doesn't say whose store {store} is")?,
+    }
+    writeln!(out, ": name another file, or remove {store} and {beside}")
+}
+
+/// Explains why a file, or standard output, couldn't be opened, read or written.
+fn explain_place<W: Write>(
+    out: &mut W,
+    place: Place,
+    error: &io::Error,
+    named: &Named<'_>,
+) -> io::Result<()> {
+    let path = named.path(place).unwrap_or("standard output");
+    if place == Place::Store && error.kind() == io::ErrorKind::WouldBlock {
+        return writeln!(out, "{path}: another run has this store");
+    }
+    writeln!(out, "{path}: {error}")
+}
+
+/// Explains a fault by what it says itself.
+fn explain_fault<R: Files<File = File> + AllocGlobal, W: Write>(
     rt: &R,
     out: &mut W,
     fault: &CommandFault,
     named: &Named<'_>,
 ) -> io::Result<()> {
+    let text = named.text.unwrap_or("");
+    let script = named.script.unwrap_or("");
     match fault {
-        CommandFault::Run(SoloFault::Job(job)) => explain_text(rt, out, *job, named.text),
+        CommandFault::Run(SoloFault::Job(job)) => explain_text(rt, out, *job, text),
         CommandFault::Form(FormFault::Text(parse)) => {
-            explain_text(rt, out, JobFault::Parse(*parse), named.text)
+            explain_text(rt, out, JobFault::Parse(*parse), text)
         }
         CommandFault::Form(FormFault::Long(print)) => explain_number(out, print.number()),
         CommandFault::Run(fault) => explain_number(out, fault.number()),
@@ -58,8 +76,8 @@ pub fn explain<R: Files<File = File> + AllocGlobal, W: Write>(
         CommandFault::Nodes(RunError::Disk(number)) => explain_number(out, *number),
         CommandFault::Nodes(RunError::TurnsSpent) => explain_number(out, 95),
         CommandFault::Nodes(RunError::Memory) => explain_number(out, 96),
-        CommandFault::Replay(fault) => explain_replay(rt, out, *fault, named.text, named.other),
-        CommandFault::File => explain_files(rt, out, &[named.text, named.other]),
+        CommandFault::Replay(fault) => explain_replay(rt, out, *fault, text, script),
+        CommandFault::File => explain_files(rt, out, &[text]),
         CommandFault::Usage => {
             writeln!(
                 out,

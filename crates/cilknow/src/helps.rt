@@ -66,6 +66,7 @@ pub const DRAW: &str = "\
 Examples:
   cilknow draw fib.ck run.script 12
   cilknow draw fib.ck run.script -o run.svg 12
+  cilknow draw fib.ck run.script --work -o run.svg 12
 
 Status:
   0  drawn

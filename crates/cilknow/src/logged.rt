@@ -1,30 +1,32 @@
-use chronicle::Trace;
+use chronicle::{Entry, Trace};
 use event_script::{Event, NodeEvent, line};
 use log::{Level, Line, Record};
 use std::alloc::{AllocError, Global};
 use std::str::from_utf8;
+use world_steps::EventAnswer;
 
 /// Who tells the lines of a log.
 const TARGET: &str = "cilknow";
 
-/// The log of a run: a line at level info, ended by a line feed, for each event of its trace by which a node starts, crashes or leaves, in
-/// their order. The message is the event's line of the script. A line that finds no memory is left out.
+/// The log of a run: a line at level info, ended by a line feed, for each event of its trace by which a node started, crashed or left, in
+/// their order; one that was refused has none. The message is the event's line of the script. A line that finds no memory is left out.
 pub fn log_text(alloc: Global, trace: &Trace) -> Vec<u8> {
     let mut text = Vec::new(alloc);
     for entry in trace.entries() {
-        if is_logged(&entry.event) {
+        if is_logged(entry) {
             let _ = add_line(alloc, &mut text, &entry.event);
         }
     }
     text
 }
 
-/// Whether a node starts, crashes or leaves by an event.
-fn is_logged(event: &Event) -> bool {
-    matches!(
-        event,
+/// Whether a node started, crashed or left by an event: one that was refused changed nothing.
+fn is_logged(entry: &Entry) -> bool {
+    let is_of_node = matches!(
+        entry.event,
         Event::Start(_, _) | Event::Crash(_) | Event::AtNode(_, NodeEvent::Depart(_))
-    )
+    );
+    is_of_node && matches!(entry.told, EventAnswer::Did(_, _))
 }
 
 /// Adds the line of an event whole, or nothing of it where there is no memory.

@@ -3,19 +3,28 @@
 
 mod command;
 mod explain;
+mod failure;
 mod fault;
 mod form;
 mod helps;
 mod logged;
+mod misuse;
+mod named;
 mod nodes;
+mod output;
+mod runs;
 mod solo;
 mod stored;
+mod whose;
 mod words;
 
 pub use command::{CommandFault, command, refused};
+pub use failure::{Failure, Why};
 pub use fault::SoloFault;
 pub use form::{FormFault, form_of};
 pub use logged::log_text;
+pub use misuse::Misuse;
+pub use named::Place;
 use replaying::own_words;
 pub use solo::solo;
 use std::io::{LineWriter, Stdout};

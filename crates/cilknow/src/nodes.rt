@@ -1,13 +1,12 @@
 //! Runs on nodes, whose progress is told on a terminal.
 
-use crate::command::CommandFault;
-use crate::stored::store_in;
-use node_runner::{Gate, Open, RunConfig, Stored, run_job, run_stored};
+use checkpoint::Store;
+use disk::FileDisk;
+use node_runner::{Gate, Open, RunConfig, RunError, Stored, run_job, run_stored};
 use progress::{RunProgress, tell};
 use serial_meaning::Job;
 use std::fs::File;
 use std::io::{IsTerminal, Stderr};
-use std::rt::Files;
 use std::sync::Wait;
 use std::thread::{Threads, join};
 use std::time::Clock;
@@ -30,48 +29,49 @@ impl<'p> Gate for Noting<'p> {
     }
 }
 
-/// A job is run by nodes on threads under a gate, over the store in a file where one is named.
-fn ran_under<R: Files<File = File> + AllocGlobal + Threads + Wait + Clock + Sync, G: Gate + Sync>(
+/// A job is run by nodes on threads under a gate, over a store where there is one.
+fn ran_under<R: Threads + AllocGlobal + Wait + Clock + Sync, G: Gate + Sync>(
     rt: &R,
     job: &Job,
     config: &RunConfig,
-    store: Option<&str>,
+    store: &mut Option<Store<FileDisk<File>>>,
     gate: &G,
-) -> Result<Stored, CommandFault> {
+) -> Result<Stored, RunError> {
     let alloc = rt.alloc();
-    let Some(path) = store else {
-        let ran = run_job(rt, alloc, job, config, gate).map_err(CommandFault::Nodes)?;
-        return Ok(Stored {
-            outcome: ran.outcome,
-            trace: Some(ran.trace),
-        });
-    };
-    let mut store = store_in(rt, path, job.number())?;
-    run_stored(rt, alloc, job, &mut store, config, gate).map_err(CommandFault::Nodes)
+    match store {
+        Some(store) => run_stored(rt, alloc, job, store, config, gate),
+        None => {
+            let ran = run_job(rt, alloc, job, config, gate)?;
+            Ok(Stored {
+                outcome: ran.outcome,
+                trace: Some(ran.trace),
+            })
+        }
+    }
 }
 
 /// A job is run so, and how far that has come is noted, to its end.
-fn ran_noted<R: Files<File = File> + AllocGlobal + Threads + Wait + Clock + Sync>(
+fn ran_noted<R: Threads + AllocGlobal + Wait + Clock + Sync>(
     rt: &R,
     job: &Job,
     config: &RunConfig,
-    store: Option<&str>,
+    store: &mut Option<Store<FileDisk<File>>>,
     progress: &RunProgress,
-) -> Result<Stored, CommandFault> {
+) -> Result<Stored, RunError> {
     let ran = ran_under(rt, job, config, store, &Noting { progress });
     progress.ends();
     ran
 }
 
-/// A job is run by nodes on threads, over the store in a file where one is named. Where standard error is a terminal and the run takes
-/// long, how far it has come is told there.
-pub fn ran_on_nodes<R: Files<File = File> + AllocGlobal + Threads + Wait + Clock + Sync>(
+/// A job is run by nodes on threads, over a store of it where there is one. Where standard error is a terminal and the run takes long, how far
+/// it has come is told there.
+pub fn ran_on_nodes<R: Threads + AllocGlobal + Wait + Clock + Sync>(
     rt: &R,
     job: &Job,
     config: &RunConfig,
-    store: Option<&str>,
+    store: &mut Option<Store<FileDisk<File>>>,
     err: &mut Stderr,
-) -> Result<Stored, CommandFault> {
+) -> Result<Stored, RunError> {
     if !err.is_terminal() {
         return ran_under(rt, job, config, store, &Open);
     }

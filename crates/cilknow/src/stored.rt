@@ -1,71 +1,136 @@
 //! The file of a store.
 
 use crate::command::CommandFault;
-use crate::fault::SoloFault;
+use crate::failure::Failure;
+use crate::named::{Place, beside_of, folder_of};
+use crate::whose::{is_said, line_of, write_beside};
 use checkpoint::{Info, Store, StoreError, inspect};
-use disk::FileDisk;
+use disk::{Disk, FileDisk};
 use job_store::open_store;
 use node_runner::RunError;
-use std::fs::{self, File, OpenFile, OpenOptions};
-use std::io;
-use std::path::Path;
+use serial_meaning::Job;
+use std::alloc::Global;
+use std::fs::{self, File, OpenOptions};
+use std::io::{self, Write};
 use std::rt::Files;
 
-/// Opens the store of a job in a file, which is made where it is missing or empty, and which no other run can open until this one ends. A
-/// fault of a file where it can't be opened for reading and writing, or another run has it; else E70 to E73, as `job_store::open_store` says.
-pub fn store_in<R: Files<File = File> + AllocGlobal>(
+/// Opens the store of a job in a file, which is made where it is missing or empty, and which no other run can open until this one ends. The
+/// text is the one of the job's program. Before a store is made, the file beside it says whose it is; where that is missing beside another
+/// store, this is told on `err`.
+///
+/// A fault of a file where one of both can't be opened, or another run has the store; E70 to E73, as `job_store::open_store` says; and E70 where
+/// the file beside the store names another program or input, E71 where it names none. Nothing is written to a store that is there.
+pub fn store_in<R: Files<File = File> + AllocGlobal, E: Write>(
     rt: &R,
     path: &str,
-    job: u64,
-) -> Result<Store<FileDisk<File>>, CommandFault> {
+    job: &Job,
+    text: &[u8],
+    err: &mut E,
+) -> Result<Store<FileDisk<File>>, Failure> {
     let alloc = rt.alloc();
-    let file = own_file(rt, path).map_err(fault_of)?;
-    let disk = FileDisk::new(alloc, file).map_err(fault_of)?;
-    match open_store(alloc, disk, job) {
+    let line = line_of(alloc, job, text)?;
+    let beside = beside_of(alloc, path)?;
+    let mut disk = own_disk(rt, path)?;
+    if is_empty(alloc, &mut disk)? {
+        make_beside(rt, path, beside.as_str(), line.as_slice())?;
+        return opened(alloc, disk, job.number());
+    }
+    let store = opened(alloc, disk, job.number())?;
+    if !is_said(rt, beside.as_str(), line.as_slice())? {
+        let _ = writeln!(err, "cilknow: {path} doesn't say whose it is");
+    }
+    Ok(store)
+}
+
+/// What the store in a file keeps. A fault of a file where it can't be read; else E71 to E73, as `checkpoint::inspect` says.
+pub fn info_in<R: Files<File = File> + AllocGlobal>(rt: &R, path: &str) -> Result<Info, Failure> {
+    let alloc = rt.alloc();
+    let mut disk = shown_disk(rt, path).map_err(store_fault)?;
+    inspect(alloc, &mut disk).map_err(refused)
+}
+
+/// A disk over a file that is to be shown. Of what is no file nothing is awaited.
+fn shown_disk<R: Files<File = File> + AllocGlobal>(
+    rt: &R,
+    path: &str,
+) -> io::Result<FileDisk<File>> {
+    let metadata = fs::metadata(rt, path)?;
+    if metadata.is_dir() {
+        return Err(io::Error::from(io::ErrorKind::IsADirectory));
+    }
+    if !metadata.is_file() {
+        return Err(io::Error::new(io::ErrorKind::InvalidInput, "no regular file"));
+    }
+    FileDisk::new(rt.alloc(), fs::open(rt, path)?)
+}
+
+/// A disk over a file that is this run's alone.
+fn own_disk<R: Files<File = File> + AllocGlobal>(
+    rt: &R,
+    path: &str,
+) -> Result<FileDisk<File>, Failure> {
+    let file = own_file(rt, path).map_err(store_fault)?;
+    FileDisk::new(rt.alloc(), file).map_err(store_fault)
+}
+
+/// A file for reading and writing that is this run's alone. It is made where it is missing, in a folder that can be opened.
+fn own_file<R: Files<File = File>>(rt: &R, path: &str) -> io::Result<File> {
+    let file = match options().open(rt, path) {
+        Err(e) if e.kind() == io::ErrorKind::NotFound => {
+            fs::open(rt, folder_of(path))?;
+            options().create(true).open(rt, path)?
+        }
+        opened => opened?,
+    };
+    file.try_lock()?;
+    Ok(file)
+}
+
+fn options() -> OpenOptions {
+    let mut options = OpenOptions::new();
+    options.read(true).write(true);
+    options
+}
+
+/// Whether there is no store yet.
+fn is_empty(alloc: Global, disk: &mut FileDisk<File>) -> Result<bool, Failure> {
+    match disk.read(alloc, 1) {
+        Ok(first) => Ok(first.is_empty()),
+        Err(_) => Err(refused(StoreError::Device)),
+    }
+}
+
+/// Makes the file beside a store. Both names are in their folder for good then.
+fn make_beside<R: Files<File = File>>(
+    rt: &R,
+    path: &str,
+    beside: &str,
+    line: &[u8],
+) -> Result<(), Failure> {
+    write_beside(rt, beside, line).map_err(|e| Failure::file(Place::Beside, e))?;
+    sync_folder(rt, folder_of(path)).map_err(store_fault)
+}
+
+fn sync_folder<R: Files<File = File>>(rt: &R, folder: &str) -> io::Result<()> {
+    fs::open(rt, folder)?.sync_all()
+}
+
+/// Opens the store of a job's number on a disk, and makes it where the disk is empty.
+fn opened(
+    alloc: Global,
+    disk: FileDisk<File>,
+    number: u64,
+) -> Result<Store<FileDisk<File>>, Failure> {
+    match open_store(alloc, disk, number) {
         Ok(store) => Ok(store),
         Err((fault, _)) => Err(refused(fault)),
     }
 }
 
-/// What the store in a file keeps. A fault of a file where it can't be read; else E71 to E73, as `checkpoint::inspect` says.
-pub fn info_in<R: Files<File = File> + AllocGlobal>(
-    rt: &R,
-    path: &str,
-) -> Result<Info, CommandFault> {
-    let alloc = rt.alloc();
-    let file = fs::open(rt, path).map_err(fault_of)?;
-    let mut disk = FileDisk::new(alloc, file).map_err(fault_of)?;
-    inspect(alloc, &mut disk).map_err(refused)
+fn store_fault(error: io::Error) -> Failure {
+    Failure::file(Place::Store, error)
 }
 
-/// A file for reading and writing that is this run's alone. Its name is in its folder for good.
-fn own_file<R: Files<File = File>>(rt: &R, path: &str) -> io::Result<File> {
-    let file = OpenOptions::new()
-        .read(true)
-        .write(true)
-        .create(true)
-        .open(rt, path)?;
-    file.try_lock()?;
-    fs::open(rt, folder_of(path))?.sync_all()?;
-    Ok(file)
-}
-
-/// The folder of a file.
-fn folder_of(path: &str) -> &str {
-    match Path::new(path).parent() {
-        Some(folder) if !folder.as_str().is_empty() => folder.as_str(),
-        _ => ".",
-    }
-}
-
-fn fault_of(error: io::Error) -> CommandFault {
-    if error.kind() == io::ErrorKind::OutOfMemory {
-        CommandFault::Run(SoloFault::Memory)
-    } else {
-        CommandFault::File
-    }
-}
-
-fn refused(fault: StoreError) -> CommandFault {
-    CommandFault::Nodes(RunError::Disk(fault.number()))
+fn refused(fault: StoreError) -> Failure {
+    Failure::from(CommandFault::Nodes(RunError::Disk(fault.number())))
 }

@@ -1,4 +1,6 @@
 use crate::helps;
+use crate::misuse::Misuse;
+use crate::named::Place;
 use clap::{Arg, ArgAction, ArgMatches, Command, Error};
 use node_runner::{Faults, RunConfig};
 use replaying::{
@@ -44,10 +46,11 @@ pub struct JobWords<'a> {
     pub input: Vec<i64>,
 }
 
-/// A picture: the replay that it shows, and the file to which it is written, if one is named.
+/// A picture: the replay that it shows, whether it leaves out who takes part and is there, and the file to which it is written, if one is named.
 #[derive(Drop)]
 pub struct DrawWords<'a> {
     pub replay: ReplayWords<'a>,
+    pub work: bool,
     pub out: Option<&'a str>,
 }
 
@@ -76,6 +79,23 @@ impl<'a> RunWords<'a> {
             && self.store.is_none()
             && self.trace.is_none()
             && self.log.is_none()
+    }
+
+    /// Why the words disagree, if they do.
+    pub fn misuse(&self) -> Option<Misuse> {
+        if self.nodes < 1 || self.nodes > 64 {
+            return Some(Misuse::Nodes(self.nodes));
+        }
+        if self.bodies < 1 || self.bodies > 8 {
+            return Some(Misuse::Bodies(self.bodies));
+        }
+        if self.faults.departures >= self.nodes {
+            return Some(Misuse::Departures(self.faults.departures, self.nodes));
+        }
+        if self.store.is_some() && self.trace.is_some() {
+            return Some(Misuse::Together(Place::Store, Place::Trace));
+        }
+        None
     }
 
     /// How the nodes run; none where the words disagree.
@@ -209,6 +229,12 @@ fn draw_words<'a>(alloc: Global) -> Result<Command<'a>, AllocError> {
     with_replay_words(alloc, command)?
         .arg(explain_word(alloc))?
         .arg(
+            Arg::new(alloc, "work")
+                .long("work")
+                .action(ArgAction::SetTrue)
+                .help("Leaves out Joins, Rosters and Beats"),
+        )?
+        .arg(
             Arg::new(alloc, "out")
                 .short('o')
                 .long("out")
@@ -229,6 +255,7 @@ fn draw_of<'a>(
     };
     Ok(Some(DrawWords {
         replay,
+        work: matches.get_flag("work"),
         out: matches.get_str("out"),
     }))
 }
@@ -241,7 +268,7 @@ fn store_word<'a>(alloc: Global) -> Arg<'a> {
         .help("The file of the store")
 }
 
-/// The words of a run; none where they don't have what `run_words` asks for, or ask for a store and a trace.
+/// The words of a run; none where they don't have what `run_words` asks for.
 fn run_of<'a>(alloc: Global, matches: &ArgMatches<'a>) -> Result<Option<RunWords<'a>>, AllocError> {
     let Some(job) = job_of(alloc, matches)? else {
         return Ok(None);
@@ -252,17 +279,13 @@ fn run_of<'a>(alloc: Global, matches: &ArgMatches<'a>) -> Result<Option<RunWords
     let Some(faults) = faults_of(matches) else {
         return Ok(None);
     };
-    let (store, trace) = (matches.get_str("store"), matches.get_str("trace"));
-    if store.is_some() && trace.is_some() {
-        return Ok(None);
-    }
     Ok(Some(RunWords {
         job,
         nodes,
         bodies,
         faults,
-        store,
-        trace,
+        store: matches.get_str("store"),
+        trace: matches.get_str("trace"),
         log: matches.get_str("log"),
     }))
 }

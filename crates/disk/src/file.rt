@@ -14,17 +14,24 @@ const MOST: usize = 8192;
 
 /// A disk over an open file. It can't be cut.
 ///
-/// A read that doesn't give what was read and written before fails. After a write, a cut or a sync that failed, each call fails.
+/// Its content is at most the first 8,192 bytes of the file: what stands behind them is never read, and a write that would end
+/// behind them fails. A read that doesn't give what was read and written before fails. After a write, a cut or a sync that
+/// failed, each call fails.
 #[derive(Drop)]
 pub struct FileDisk<F> {
     file: F,
     cells: Vec<Cell>,
     usable: bool,
     failures: u64,
+
+    // What a write leaves ends within the first bytes, so no write ends behind them.
+    ghost within: { length cells.items ≤ 8192 },
 }
 
 // The first bytes of a file, at most so many.
-fn first_bytes<F: FileExt>(alloc: Global, file: &F, most: usize) -> io::Result<Vec<u8>> {
+fn first_bytes<F: FileExt>(alloc: Global, file: &F, most: usize) -> io::Result<Vec<u8>>
+    ensures { IfOk result (λ bytes. length bytes.items ≤ most) }
+{
     let mut bytes = vec![in alloc; 0u8; most]?;
     let mut at = 0;
     for _ in 0..u64::MAX {
@@ -66,6 +73,7 @@ impl<F: FileExt + OpenFile + Drop> FileDisk<F> {
         ensures unarmed { IfOk result (λ disk. (⟦<FileDisk<F> as Disk>⟧.device disk).arming ≡ Unarmed) }
         ensures failures { IfOk result (λ disk. (⟦<FileDisk<F> as Disk>⟧.device disk).failures ≡ 0) }
         ensures uncut { IfOk result (λ disk. (⟦<FileDisk<F> as Disk>⟧.device disk).can_cut ≡ false) }
+        ensures within { IfOk result (λ disk. length (⟦<FileDisk<F> as Disk>⟧.device disk).file ≤ 8192) }
     {
         file.sync_all()?;
         let bytes = first_bytes(alloc, &file, MOST)?;

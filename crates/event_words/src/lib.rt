@@ -1,4 +1,5 @@
-//! What a run does, in words: a line for each event, with the packets that were sent and the values that were put into slots.
+//! What a run does, in words: a line for each event, with the thread body that ran, the packets that were sent and the values that were
+//! put into slots.
 //!
 //! A worker is written by its start word, the clearinghouse in epoch N as `HN` and that of any epoch as `house`, and a grant by its minter
 //! and its number, as `3/1` or `H1/1`. The words are for people: nothing reads them back, and no clause speaks of them.
@@ -10,6 +11,7 @@ mod narrator;
 mod packet;
 mod stats;
 mod telling;
+mod turn;
 
 pub use fault::NarratorFault;
 pub use narrator::Narrator;

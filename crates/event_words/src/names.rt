@@ -11,6 +11,10 @@ pub(crate) struct ActorName(pub(crate) Actor);
 #[derive(Clone, Copy)]
 pub(crate) struct GrantName(pub(crate) GrantId);
 
+/// Who is named as the minter of a grant, by its number: an actor, or what no grant has, 0 or `house`.
+#[derive(Clone, Copy)]
+pub(crate) struct MinterName(pub(crate) u64);
+
 /// Whom a packet goes to: an actor, or `house` for the clearinghouse of any epoch.
 #[derive(Clone, Copy)]
 pub(crate) struct AddressName(pub(crate) Address);
@@ -43,6 +47,16 @@ impl fmt::Display for ActorName {
 impl fmt::Display for GrantName {
     fn fmt<W: fmt::Write>(&self, f: &mut fmt::Formatter<W>) -> fmt::Result {
         write!(f, "{}/{}", ActorName(self.0.minter()), self.0.number())
+    }
+}
+
+impl fmt::Display for MinterName {
+    fn fmt<W: fmt::Write>(&self, f: &mut fmt::Formatter<W>) -> fmt::Result {
+        match Actor::of(self.0) {
+            Some(actor) => write!(f, "{}", ActorName(actor)),
+            None if self.0 == 0 => write!(f, "0"),
+            None => write!(f, "house"),
+        }
     }
 }
 

@@ -119,11 +119,11 @@ fn write_roster<O: Write>(out: &mut O, roster: &Roster) -> io::Result<()> {
 /// Writes the request that a grant answers, and its task.
 fn write_grant<O: Write>(out: &mut O, program: &Program, grant: &Grant) -> io::Result<()> {
     write!(out, ": request {}, ", grant.seq.number())?;
-    write_task(out, program, &grant.task)
+    write_granted(out, program, &grant.task)
 }
 
 /// Writes the thread of a task on its numbers, and where it stands.
-fn write_task<O: Write>(out: &mut O, program: &Program, task: &Task) -> io::Result<()> {
+fn write_granted<O: Write>(out: &mut O, program: &Program, task: &Task) -> io::Result<()> {
     write_thread(out, program, task.thread)?;
     write!(out, "(")?;
     for (index, number) in task.numbers.as_slice().iter().enumerate() {

@@ -2,6 +2,7 @@
 
 use crate::names::{GrantName, OutcomeWords};
 use crate::packet::write_packet;
+use crate::turn::{Ran, ran_in, write_end, write_ran};
 use codec::{Datagram, decode};
 use event_script::{Event, add_line};
 use ids::Outcome;
@@ -24,7 +25,10 @@ impl Telling {
     pub(crate) fn of(alloc: Global, number: u64, event: &Event) -> io::Result<Telling> {
         let mut text = Vec::new(alloc);
         write!(text, "{number}  ")?;
-        add_line(&mut text, event)?;
+        match ran_in(event) {
+            Some(ran) => write_ran(&mut text, &ran)?,
+            None => add_line(&mut text, event)?,
+        }
         Ok(Telling {
             text,
             has_deed: false,
@@ -81,6 +85,19 @@ impl Telling {
         write!(self.text, "{words}")
     }
 
+    /// Says which body ran, by the words of its thread and numbers, and what it came to, with so many values put into slots.
+    pub(crate) fn say_turn(
+        &mut self,
+        world: &World<'_>,
+        ran: &Ran,
+        task: &[u8],
+        fills: usize,
+    ) -> io::Result<()> {
+        self.begin()?;
+        self.text.write_all(task)?;
+        write_end(&mut self.text, world, ran, fills)
+    }
+
     /// Says which values it put into slots: the last ones of the world's, so many.
     fn say_fills(&mut self, world: &World<'_>, count: usize) -> io::Result<()> {
         let all = world.fills();
@@ -94,7 +111,12 @@ impl Telling {
     }
 
     /// Says which packets it sent: the last ones of the world's, so many.
-    fn say_packets(&mut self, alloc: Global, world: &World<'_>, count: usize) -> io::Result<()> {
+    pub(crate) fn say_packets(
+        &mut self,
+        alloc: Global,
+        world: &World<'_>,
+        count: usize,
+    ) -> io::Result<()> {
         let program = world.job().checked().program();
         let all = world.packets();
         for index in all.saturating_sub(count)..all {

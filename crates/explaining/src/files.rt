@@ -2,7 +2,7 @@ use crate::told::{explain_job, explain_line, explain_number};
 use jobs::{JobFault, bytes_within, text_bytes};
 use replaying::ReplayFault;
 use std::fs;
-use std::io::{self, Write};
+use std::io::{self, Read, Write};
 use std::rt::Files;
 
 /// How many bytes of a script are looked at for a line.
@@ -40,15 +40,25 @@ pub fn explain_replay<R: Files + AllocGlobal, W: Write>(
     }
 }
 
-/// Tells which of the named files can't be opened, and why; where all can, that it was another one, or the answer.
+/// Tells which of the named files can't be read, and why; where each can, that what is answered can't be written.
 pub fn explain_files<R: Files, W: Write>(rt: &R, out: &mut W, files: &[&str]) -> io::Result<()> {
     for file in files {
-        if let Err(error) = fs::open(rt, *file) {
+        if let Err(error) = look_at(rt, *file) {
             return writeln!(out, "{file}: {error}");
         }
     }
     writeln!(
         out,
-        "the files that are named can be opened; it is a folder, or another run has the store, or what is answered can't be written"
+        "standard output can't be written, or a file that couldn't be read can be read now"
     )
+}
+
+/// Whether a file can be read, by its first byte. What is no file and no folder is left alone, since it may keep its reader waiting.
+fn look_at<R: Files>(rt: &R, file: &str) -> io::Result<()> {
+    let metadata = fs::metadata(rt, file)?;
+    if metadata.is_file() || metadata.is_dir() {
+        let mut first = [0u8; 1];
+        fs::open(rt, file)?.read(&mut first)?;
+    }
+    Ok(())
 }

@@ -5,9 +5,15 @@
 #![tactic(auto)]
 
 mod files;
+mod forms;
+mod habits;
+mod kinds;
+mod lines;
 mod place;
 mod sentences;
 mod told;
+mod unexpected;
+mod wanted;
 
 pub use files::{explain_files, explain_replay, explain_text};
 pub use sentences::sentence_of;

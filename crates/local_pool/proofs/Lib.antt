@@ -2,3 +2,4 @@ pub mod Totals
 pub mod Moves
 pub mod Numbers
 pub mod Puts
+pub mod MadeUp

@@ -10,10 +10,10 @@ use Rattle.local_pool.specs.Pools.{OwnerOf, WorkerOf}
 
 -- what contracts see of an owner and of a worker
 abbrev pub owner_of : {T : Type 0} → Worker T Global (Hand T) Law → ℕ → ℕ → OwnerOf T
-owner_of d room workers = record { pool = worker_deque d; workers = workers; room = room; offered = (worker_view d).offered; taken = (worker_view d).taken }
+owner_of d room workers = record { pool = worker_deque d; workers = workers; room = room; never_empty = (worker_view d).never_empty; offered = (worker_view d).offered; taken = (worker_view d).taken }
 
 abbrev pub worker_of : {T : Type 0} → Stealer T Global (Hand T) Law → Pass T (Hand T) Global → WorkerOf T
-worker_of s p = record { pool = stealer_deque s; passed = taken p; taken = (view p).taken }
+worker_of s p = record { pool = stealer_deque s; never_empty = (view p).never_empty; passed = taken p; taken = (view p).taken }
 
 -- the deque is first in, first out; the owner has all parts but the workers'; the counts are those of its tickets
 pub record IsOwner {T : Type 0} (deque : Worker T Global (Hand T) Law) (room workers offered taken : ℕ) : Type 0 where

@@ -9,7 +9,7 @@ use Rattle.local_pool.specs.Turns.{KeeperOf, PassOf, QueueOf}
 
 -- what contracts see of a pass, of a keeper and of a queue
 abbrev pub pass_of : {D S : Type 0} → Pass D (Lane D S) → PassOf D S
-pass_of p = record { queue = p.table_id; put = (view p).put; taken = (view p).taken; stamp = (view p).stamp }
+pass_of p = record { queue = p.table_id; never = (view p).never; put = (view p).put; taken = (view p).taken; stamp = (view p).stamp }
 
 abbrev pub keeper_of : {D S : Type 0} → Pass D (Lane D S) → ℕ → KeeperOf D
 keeper_of p passes = record { queue = p.table_id; passes = passes; put = (view p).put }

@@ -24,23 +24,25 @@ abbrev pub keeper_code : {D : Type 0} → Coded D → Coded (KeeperOf D)
 keeper_code {D} code = coded_via (coded× table_id_coded (coded× coded_ℕ (coded_list (coded× coded_ℕ code)))) (λ (k : KeeperOf D). (k.queue, (k.passes, k.put))) (λ x y e i. record { queue = (e i).0; passes = (e i).1.0; put = (e i).1.1 })
 
 -- a pass: its queue, the turns that it put and that it took, the newest last, each with its number in the order of the queue, and
--- the stamp of all turns in the queue, which is never `None`
+-- the stamp of all turns in the queue, which is never `None`. `never` is 0, of which a count of the turns tells a little
+-- (`MayHaveAny` of Lanes)
 pub record PassOf (D S : Type 0) : Type 0 where
   pub queue : TableId
+  pub never : ℕ
   pub put : List (ℕ × D)
   pub taken : List (ℕ × D)
   pub stamp : Option S
 
 abbrev pub pass_code : {D S : Type 0} → Coded D → Coded S → Coded (PassOf D S)
-pass_code {D} {S} turn stamp = coded_via (coded× table_id_coded (coded× (coded_list (coded× coded_ℕ turn)) (coded× (coded_list (coded× coded_ℕ turn)) (coded_option stamp)))) (λ (p : PassOf D S). (p.queue, (p.put, (p.taken, p.stamp)))) (λ x y e i. record { queue = (e i).0; put = (e i).1.0; taken = (e i).1.1.0; stamp = (e i).1.1.1 })
+pass_code {D} {S} turn stamp = coded_via (coded× table_id_coded (coded× coded_ℕ (coded× (coded_list (coded× coded_ℕ turn)) (coded× (coded_list (coded× coded_ℕ turn)) (coded_option stamp))))) (λ (p : PassOf D S). (p.queue, (p.never, (p.put, (p.taken, p.stamp))))) (λ x y e i. record { queue = (e i).0; never = (e i).1.0; put = (e i).1.1.0; taken = (e i).1.1.1.0; stamp = (e i).1.1.1.1 })
 
 module _ {D S : Type 0} where
-  -- at one moment the queue was full, or empty, as far as this pass can tell
+  -- at one moment the queue was full, or empty, and this pass found it so
   abbrev pub FoundFull : (D → S) → QueueOf → PassOf D S → Type 0
-  FoundFull stamp_of q p = (items : List D) × (length items ≡ q.capacity) × Found stamp_of (lane 1 p.put p.taken p.stamp) items
+  FoundFull stamp_of q p = (items : List D) × (length items ≡ q.capacity) × Found stamp_of (lane p.never 1 p.put p.taken p.stamp) items
 
   abbrev pub FoundNone : (D → S) → PassOf D S → Type 0
-  FoundNone stamp_of p = Found stamp_of (lane 1 p.put p.taken p.stamp) []
+  FoundNone stamp_of p = Found stamp_of (lane p.never 1 p.put p.taken p.stamp) []
 
   -- a pass of the queue
   abbrev pub IsPassOfQueue : QueueOf → PassOf D S → Type 0

@@ -6,8 +6,9 @@ use crossbeam_deque::protocol::{Join, Outcome, Protocol, Split};
 use std::collections::LinkedList;
 
 // What a token knows: whether it is the owner's (1, else 0), its parts of the right to take, the tickets that it offered, and
-// those that it took. No value of it is made.
+// those that it took. `never_empty` is 0, as only who finds the pool empty is told (`MayBeEmpty`). No value of it is made.
 pub(crate) struct Hand<T> {
+    pub never_empty: u64,
     pub owners: u64,
     pub parts: u64,
     pub offered: LinkedList<T>,
@@ -20,9 +21,9 @@ pub(crate) struct Law;
 impl<T> Protocol<T, Hand<T>> for Law {
     ghost holds = { Accounted };
 
-    ghost first = { hand 1 1025 [] [] };
+    ghost first = { hand 0 1 1025 [] [] };
 
-    ghost guest = { hand 0 0 [] [] };
+    ghost guest = { hand 0 0 0 [] [] };
 }
 
 // The tickets go to the end of what the owner offered.
@@ -45,16 +46,16 @@ impl<T> Outcome<T, Hand<T>> for Took {
 pub(crate) struct Deal;
 
 impl<T> Split<Hand<T>> for Deal {
-    ghost left = { λ v. hand v.owners (v.parts - 1) v.offered v.taken };
+    ghost left = { λ v. hand v.never_empty v.owners (v.parts - 1) v.offered v.taken };
 
-    ghost right = { λ v. hand 0 1 [] [] };
+    ghost right = { λ v. hand v.never_empty 0 1 [] [] };
 }
 
 // All parts and tickets of two tokens.
 pub(crate) struct Gather;
 
 impl<T> Join<Hand<T>> for Gather {
-    ghost both = { λ v w. hand (v.owners + w.owners) (v.parts + w.parts) (v.offered ++ w.offered) (v.taken ++ w.taken) };
+    ghost both = { λ v w. hand v.never_empty (v.owners + w.owners) (v.parts + w.parts) (v.offered ++ w.offered) (v.taken ++ w.taken) };
 
-    ghost spent = { hand 0 0 [] [] };
+    ghost spent = { hand 0 0 0 [] [] };
 }

@@ -34,8 +34,9 @@ impl<T> Model for Owner<T> {
 }
 
 impl<T> Owner<T> {
-    /// Puts a ticket behind all others in the pool. It comes back only where the pool can't grow, out of memory or past its
-    /// limits (2^39 tickets at once, 2^62 in all), and never among the first `room` offers.
+    /// Puts a ticket into the pool, or gives it back and changes nothing: never among the first `room` offers, and later where the
+    /// pool can't grow, out of memory or past its limits (2^39 tickets at once, 2^62 in all). No clause says that it comes back only
+    /// there, and that a ticket is put behind all others is shown by tests.
     pub fn offer(&mut self, ticket: T) -> Result<(), T>
         ensures pool { (self.new.pool ≡ self.old.pool) × (self.new.workers ≡ self.old.workers)
             × (self.new.room ≡ self.old.room) }
@@ -52,8 +53,8 @@ impl<T> Owner<T> {
         Ok(())
     }
 
-    /// The oldest ticket of the pool, without waiting and without memory: none more often than it was offered. `None` only
-    /// where the pool was empty at one moment of the call.
+    /// A ticket of the pool, without waiting and without memory: none more often than it was offered. `None` only where this very
+    /// call found the pool empty. That the ticket is the oldest is shown by tests.
     pub fn take_own(&mut self) -> Option<T>
         ensures pool { (self.new.pool ≡ self.old.pool) × (self.new.workers ≡ self.old.workers)
             × (self.new.room ≡ self.old.room) }

@@ -82,8 +82,7 @@ impl<D: Stamped> Model for TurnQueue<D> {
 }
 
 impl<D: Stamped> TurnQueue<D> {
-    /// Puts a turn behind all others, which has to have their stamp. It comes back only where the queue was full at one moment of
-    /// the call.
+    /// Puts a turn behind all others, which has to have their stamp. It comes back only where this very call found the queue full.
     pub fn put<R: Wait>(&self, rt: &R, pass: &mut TurnPass<D>, turn: D) -> Result<(), D>
         requires queue { pass.old.queue ≡ self.now.queue }
         requires stamp { pass.old.stamp ≡ Some (D.stamp turn) }
@@ -99,7 +98,7 @@ impl<D: Stamped> TurnQueue<D> {
         Ok(())
     }
 
-    /// Takes the first turn, which has the stamp of all others. `None` only where the queue was empty at one moment of the call.
+    /// Takes the first turn, which has the stamp of all others. `None` only where this very call found the queue empty.
     pub fn take<R: Wait>(&self, rt: &R, pass: &mut TurnPass<D>) -> Option<D>
         requires { pass.old.queue ≡ self.now.queue }
         ensures queue { pass.new.queue ≡ pass.old.queue }
@@ -175,10 +174,10 @@ impl<D: Stamped + Drop> TurnQueue<D> {
 // Puts the first turn, whose stamp is that of all turns from now on.
 fn put_first<D: Stamped + Drop, R: Wait>(rt: &R, line: &Line<D>, keeper: &mut Seat<D>, first: D)
     requires own { IsPassOf line.now keeper.old }
-    requires blank { view keeper.old ≡ lane 1025 [] [] None }
+    requires blank { view keeper.old ≡ lane 0 1025 [] [] None }
     requires room { 0 < ruled_capacity line.now }
     ensures own { IsPassOf line.now keeper.new }
-    ensures put { view keeper.new ≡ lane 1025 ((0, first) ∷ []) [] (Some (D.stamp first)) }
+    ensures put { view keeper.new ≡ lane 0 1025 ((0, first) ∷ []) [] (Some (D.stamp first)) }
 {
     let Ok(()) = line.push_as::<DidMark, R>(rt, keeper, first) else {
         unreachable!()

@@ -34,9 +34,9 @@ impl<T> Model for BodyWorker<T> {
 }
 
 impl<T> BodyWorker<T> {
-    /// The oldest ticket of the pool, which this worker then has alone; without waiting, and without memory. `None` where the
-    /// pool was empty at one moment of the call. A worker tries again where another took the ticket that it saw, and would give
-    /// up where that happened 2^64 - 1 times.
+    /// A ticket of the pool, without waiting and without memory. The worker tries again where another took the ticket that it saw.
+    /// `None` only where this very call found the pool empty, or where others took 2^64 - 1 tickets meanwhile. That nobody else is
+    /// given the ticket is what `LocalPool::close` says, once all are back; that it is the oldest is shown by tests.
     pub fn steal(&mut self) -> Option<T>
         ensures pool { self.new.pool ≡ self.old.pool }
         ensures stolen { IfSome result (λ x. self.new.taken ≡ self.old.taken ++ x ∷ []) }

@@ -9,6 +9,8 @@ pub(crate) enum End {
     Turns,
     /// There is no memory.
     Memory,
+    /// A thread isn't there, and nothing has begun.
+    Missing,
     /// The clearinghouse can't go on with its disk, with the number of its refusal.
     Disk(u8),
 }
@@ -24,6 +26,7 @@ const SHARE: u64 = 65_536;
 #[derive(Drop)]
 pub(crate) struct Counts {
     limit: u64,
+    patience: u64,
     threads: AtomicU64,
     turns: CachePadded<AtomicU64>,
     events: CachePadded<AtomicU64>,
@@ -49,19 +52,27 @@ const TURNS: u64 = 1;
 
 const MEMORY: u64 = 2;
 
+const MISSING: u64 = 3;
+
 const DISK: u64 = 256;
 
 impl Counts {
-    /// Nothing is counted yet, and so many turns may be taken.
-    pub(crate) fn new(limit: u64) -> Counts {
+    /// Nothing is counted yet, so many turns may be taken, and a thread that waits for others sleeps so often before the first one.
+    pub(crate) fn new(limit: u64, patience: u64) -> Counts {
         Counts {
             limit,
+            patience,
             threads: AtomicU64::new(0),
             turns: CachePadded::new(AtomicU64::new(0)),
             events: CachePadded::new(AtomicU64::new(0)),
             bodies: CachePadded::new(AtomicU64::new(0)),
             end: CachePadded::new(AtomicU64::new(0)),
         }
+    }
+
+    /// How often a thread sleeps at most that waits for others before its first turn.
+    pub(crate) fn patience(&self) -> u64 {
+        self.patience
     }
 
     /// One more thread is there.
@@ -114,6 +125,7 @@ impl Counts {
         let word = match end {
             End::Turns => TURNS,
             End::Memory => MEMORY,
+            End::Missing => MISSING,
             End::Disk(number) => DISK + u64::from(number),
         };
         let _ = self.end.compare_exchange(0, word, SeqCst, SeqCst);
@@ -124,6 +136,7 @@ impl Counts {
         match self.end.load(SeqCst) {
             0 => None,
             TURNS => Some(End::Turns),
+            MISSING => Some(End::Missing),
             word if word >= DISK => Some(End::Disk((word % DISK) as u8)),
             _ => Some(End::Memory),
         }

@@ -4,11 +4,12 @@ pub trait Gate {
     /// The body of a number is about to be evaluated; said once of each.
     fn begun(&self, body: u64);
 
-    /// Whether the body may be evaluated now. It is asked again, each time as one turn, until it may.
+    /// Whether the body may be evaluated now. It is asked until it may, each time in a turn.
     fn may_go(&self, body: u64) -> bool;
 
-    /// So many events were committed, and so many packets sent; said by the clearinghouse's thread from time to time.
-    fn passed(&self, events: u64, packets: u64);
+    /// So many events were committed, and so many packets sent; said by the clearinghouse's thread from time to time. It does
+    /// nothing where a gate says nothing of it.
+    fn passed(&self, _events: u64, _packets: u64) {}
 }
 
 /// The gate that is always open.
@@ -20,6 +21,4 @@ impl Gate for Open {
     fn may_go(&self, _body: u64) -> bool {
         true
     }
-
-    fn passed(&self, _events: u64, _packets: u64) {}
 }

@@ -25,10 +25,10 @@ pub(crate) struct Inbox {
     again: Option<u64>,
 }
 
-/// A packet that came: its bytes, none where it came a second time, and what was told of it.
+/// A packet that came: its bytes where it is a roster that came for the first time, and what was told of it.
 #[derive(Drop)]
 pub(crate) struct Delivered {
-    pub(crate) bytes: Vec<u8>,
+    pub(crate) roster: Option<Vec<u8>>,
     pub(crate) committed: Committed,
 }
 
@@ -65,8 +65,10 @@ impl Inbox {
         if let Some(index) = self.again {
             self.again = None;
             let committed = chronicle.commit(rt, seat, delivery_to(self.place, index))?;
-            let bytes = Vec::new(alloc);
-            return Ok(Some(Delivered { bytes, committed }));
+            return Ok(Some(Delivered {
+                roster: None,
+                committed,
+            }));
         }
         let sent = chronicle.sent();
         if chronicle.sent_to(self.receiver) <= self.next {
@@ -75,7 +77,7 @@ impl Inbox {
         }
         match self.next_fate() {
             Fate::Lost => {
-                self.loses(rt, alloc, chronicle, seat);
+                self.loses(rt, chronicle, seat);
                 Ok(None)
             }
             fate => self.comes(rt, alloc, chronicle, seat, fate),
@@ -102,18 +104,12 @@ impl Inbox {
     }
 
     /// The next packet is looked for, and passed over.
-    fn loses<'a, R: Wait>(
-        &mut self,
-        rt: &R,
-        alloc: Global,
-        chronicle: &Chronicle<'a>,
-        seat: &mut ActorSeat<'a>,
-    )
+    fn loses<'a, R: Wait>(&mut self, rt: &R, chronicle: &Chronicle<'a>, seat: &mut ActorSeat<'a>)
         requires { IsSeatIn chronicle.now seat.old }
         ensures { seat.new ≡ seat.old }
     {
-        match chronicle.packet_for(rt, alloc, seat, self.next, self.receiver) {
-            Ok(arrived) => self.passes(arrived.index),
+        match chronicle.packet_for(rt, seat, self.next, self.receiver) {
+            Ok(index) => self.passes(index),
             Err(seen) => self.next = seen,
         }
     }
@@ -140,8 +136,10 @@ impl Inbox {
                 if fate == Fate::Twice {
                     self.again = Some(arrived.index);
                 }
-                let bytes = arrived.bytes;
-                Ok(Some(Delivered { bytes, committed }))
+                Ok(Some(Delivered {
+                    roster: arrived.roster,
+                    committed,
+                }))
             }
             Delivery::Looked(seen) => {
                 self.next = seen;

@@ -43,6 +43,7 @@ mod muster;
 mod node;
 mod pace;
 mod plans;
+mod probe;
 mod resting;
 mod run;
 mod shared;

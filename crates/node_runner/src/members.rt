@@ -9,10 +9,13 @@ use std::alloc::Global;
 /// How far behind a place's fates its victims are drawn.
 const VICTIMS: u64 = 128;
 
-/// Who is listed, by the last roster that a node took, and the generator by which it draws whom it asks.
+/// Who is listed, by the last roster that a node took, whom it asked last, and the generator by which it draws whom it asks.
 #[derive(Drop)]
 pub(crate) struct Members {
     listed: Vec<Member>,
+    /// The start word of the worker that was asked last. One request is out at a time, and a node may leave only where none is: so that
+    /// worker has answered then, or isn't live.
+    asked: Option<u64>,
     victims: Pcg32,
 }
 
@@ -21,6 +24,7 @@ impl Members {
     pub(crate) fn new(alloc: Global, word: u64, place: u64) -> Members {
         Members {
             listed: Vec::new(alloc),
+            asked: None,
             victims: Pcg32::seed_from_u64(word.wrapping_add(place).wrapping_add(VICTIMS)),
         }
     }
@@ -28,12 +32,13 @@ impl Members {
     /// Nobody is listed any more.
     pub(crate) fn forget(&mut self) {
         self.listed.clear();
+        self.asked = None;
     }
 
-    /// A node took a packet: where it is a roster, its members are listed. Bytes that spell none are passed over. Whether there was memory to
-    /// read them: a node that has missed a roster may get no other one, and would ask nobody.
-    pub(crate) fn take(&mut self, alloc: Global, bytes: &[u8]) -> bool {
-        match decode(alloc, bytes) {
+    /// A node took a roster: its members are listed. Bytes that spell none are passed over. Whether there was memory to read them: a node that
+    /// has missed a roster may get no other one, and would ask nobody.
+    pub(crate) fn take(&mut self, alloc: Global, roster: &[u8]) -> bool {
+        match decode(alloc, roster) {
             Ok(packet) => {
                 if let Body::Roster(roster) = packet.into_body() {
                     self.listed = roster.members.into_vec();
@@ -63,9 +68,26 @@ impl Members {
         })
     }
 
-    /// The least other live member, to which a node of a start word may leave.
+    /// The node asked somebody for work.
+    pub(crate) fn asks(&mut self, victim: Asked) {
+        if let Asked::Worker(word) = victim {
+            self.asked = Some(word);
+        }
+    }
+
+    /// To whom a node of a start word may leave: of the other live members the one that it asked last, as that one was there a while ago; else
+    /// the one that started last, as those that crashed started before.
     pub(crate) fn heir(&self, word: u64) -> Option<u64> {
-        self.other(word, 0)
+        let mut heir = None;
+        for member in &self.listed {
+            if is_other(member, word) {
+                heir = Some(member.incarnation.word());
+                if heir == self.asked {
+                    break;
+                }
+            }
+        }
+        heir
     }
 
     /// The start word of the other live member that comes after so many.

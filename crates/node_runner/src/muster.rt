@@ -8,24 +8,39 @@ use crate::shared::Shared;
 use std::thread::{sleep, yield_now};
 use std::time::{Clock, Duration};
 
-/// How often a thread that waits for others sleeps at most, which takes some seconds.
-const NAPS: u64 = 25_000;
+/// How often a thread that waits for others sleeps briefly before it sleeps longer.
+const NAPS: u64 = 1_000;
 
-/// How long it sleeps each time, in microseconds.
+/// How long it sleeps each time, in microseconds, briefly and longer.
 const NAP: u64 = 100;
 
+const SLEEP: u64 = 10_000;
+
+/// How often it sleeps longer when the threads of a run are made for the first time, half a second in all. Each further time it is twice as
+/// often.
+pub(crate) const PATIENCE: u64 = 50;
+
+/// How often the threads of a run are made at most: behind the last time four minutes went by.
+pub(crate) const ATTEMPTS: u64 = 9;
+
+/// Sleeps longer: behind it the system doesn't count threads any more that ended before.
+pub(crate) fn rests<R: Clock>(rt: &R) {
+    sleep(rt, Duration::from_micros(SLEEP));
+}
+
 /// How many threads a run has: the clearinghouse's, the nodes', and those of their body workers.
-fn threads_of(config: &RunConfig) -> u64 {
+pub(crate) fn threads_of(config: &RunConfig) -> u64 {
     let nodes = u64::from(config.nodes());
     1 + nodes + nodes * u64::from(config.bodies())
 }
 
-/// A thread is there, and waits for all others. Where no thread can be made, what it was to do is done by another thread, behind what that one
-/// does: so they would wait for each other without end. Whether all are there; else the run ends, as where there is no memory.
+/// A thread is there, and waits for all others, which may be slow. That the system makes as many was tried before. Where it doesn't any more,
+/// what a thread was to do is done by another one, behind what that one does, and they would wait for each other without end: so none of
+/// them begins where one isn't there in time, and all are made anew. Whether all are there.
 pub(crate) fn musters<R: Clock, G: Gate + Sync>(rt: &R, shared: &Shared<'_, '_, G>) -> bool {
     shared.counts.appears();
     let threads = threads_of(shared.config);
-    for waited in 0..YIELDS + NAPS {
+    for waited in 0..(YIELDS + NAPS).saturating_add(shared.counts.patience()) {
         if shared.counts.threads() >= threads {
             return true;
         }
@@ -34,10 +49,12 @@ pub(crate) fn musters<R: Clock, G: Gate + Sync>(rt: &R, shared: &Shared<'_, '_, 
         }
         if waited < YIELDS {
             yield_now();
-        } else {
+        } else if waited < YIELDS + NAPS {
             sleep(rt, Duration::from_micros(NAP));
+        } else {
+            rests(rt);
         }
     }
-    shared.counts.ends(End::Memory);
+    shared.counts.ends(End::Missing);
     false
 }

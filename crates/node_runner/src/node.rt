@@ -301,7 +301,7 @@ fn does<'a, R: Wait, G: Gate + Sync>(
     Some(committed.told)
 }
 
-/// The node leaves to the least other live member, if there is one and it may. It takes its tickets back before, and offers them again
+/// The node leaves to another live member, if there is one and it may. It takes its tickets back before, and offers them again
 /// where it may not leave. Whether there was memory.
 fn departs<'a, R: Wait, G: Gate + Sync>(
     rt: &R,
@@ -374,7 +374,10 @@ fn takes<G: Gate + Sync>(
     shared.counts.commits();
     node.notes(told);
     node.has_asked = false;
-    if matches!(told, EventAnswer::Did(_, _)) && !node.members.take(alloc, &delivered.bytes) {
+    let Some(roster) = &delivered.roster else {
+        return true;
+    };
+    if matches!(told, EventAnswer::Did(_, _)) && !node.members.take(alloc, roster.as_slice()) {
         shared.counts.ends(End::Memory);
         return false;
     }
@@ -467,6 +470,9 @@ fn asks<'a, R: Wait + Clock, G: Gate + Sync>(
     node.dry = node.dry.saturating_add(1);
     node.pauses = pauses(node.dry, node.left_out);
     let told = does(rt, shared, seat, node, NodeEvent::Ask(victim))?;
+    if let EventAnswer::Did(_, _) = told {
+        node.members.asks(victim);
+    }
     node.has_asked = match told {
         EventAnswer::Did(_, _) | EventAnswer::Refused(NodeError::Pending) => true,
         _ => false,

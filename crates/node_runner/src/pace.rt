@@ -1,4 +1,5 @@
 use crate::config::RunConfig;
+use crossbeam_utils::CachePadded;
 use std::alloc::{AllocError, Global};
 use std::sync::atomic::AtomicU64;
 use std::sync::atomic::Ordering::SeqCst;
@@ -10,14 +11,15 @@ const UNSEEN: u64 = 100;
 const SILENT: u64 = 250;
 
 /// How far the actors of a run have come, as they tell each other. The clearinghouse takes a node for dead from which it took nothing for
-/// some 500 events of all actors, and it is one thread of many. So a node that was heard holds while it is behind, or another node is.
+/// some 500 events of all actors, and it is one thread of many. So a node that was heard holds while it is behind, or another node is. Each
+/// word is written by one thread and read by all, and lies on cache lines of its own.
 #[derive(Drop)]
 pub(crate) struct Pace {
     nodes: u8,
     /// How many events were committed when the node of a place sent again last; the greatest number where none waits for it.
-    heard: Vec<AtomicU64>,
+    heard: Vec<CachePadded<AtomicU64>>,
     /// How many packets the clearinghouse looked at.
-    seen: AtomicU64,
+    seen: CachePadded<AtomicU64>,
 }
 
 impl Pace {
@@ -26,12 +28,12 @@ impl Pace {
         let nodes = config.nodes();
         let mut heard = Vec::with_capacity(alloc, usize::from(nodes))?;
         for _ in 0..nodes {
-            heard.push(AtomicU64::new(0))?;
+            heard.push(CachePadded::new(AtomicU64::new(0)))?;
         }
         Ok(Pace {
             nodes,
             heard,
-            seen: AtomicU64::new(0),
+            seen: CachePadded::new(AtomicU64::new(0)),
         })
     }
 
@@ -47,9 +49,11 @@ impl Pace {
         self.hears(place, u64::MAX);
     }
 
-    /// The clearinghouse looked at so many packets.
+    /// The clearinghouse looked at so many packets. The word is written only where they are more than before.
     pub(crate) fn sees(&self, packets: u64) {
-        self.seen.store(packets, SeqCst);
+        if self.seen.load(SeqCst) != packets {
+            self.seen.store(packets, SeqCst);
+        }
     }
 
     /// Whether, with so many packets sent, the clearinghouse is behind, or another node is behind one that sent again last when so many

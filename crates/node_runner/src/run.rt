@@ -10,9 +10,10 @@ use crate::crew::{ActorContext, WorkerContext, contexts};
 use crate::error::RunError;
 use crate::gate::Gate;
 use crate::house::run_house;
-use crate::muster::musters;
+use crate::muster::{ATTEMPTS, PATIENCE, musters, rests, threads_of};
 use crate::node::run_node;
 use crate::pace::Pace;
+use crate::probe::can_make;
 use crate::shared::Shared;
 use crate::worker::run_worker;
 use board::Board;
@@ -36,10 +37,12 @@ pub struct Ran {
 /// Runs a job on as many nodes as the configuration says, each on a thread of its own and with as many body workers as it says, each on
 /// another, with a clearinghouse on one more, under the faults that it says. The outcome is the job's meaning; the trace is a safe history of the job, and tells this outcome first.
 ///
-/// Refused as `TurnsSpent` (E95) where all turns were taken before there was an outcome, as `Memory` (E96) where there is no memory or a
-/// thread can't be made, and as `Disk` (E97) where the clearinghouse can't go on. Each loop turn of an actor or a body worker counts as one,
-/// and so does each question to the gate that it doesn't answer by yes. Where 131,072 turns and more may be taken a thread takes several
-/// at once, at most 64, and so fewer than one in a hundred may be left to threads that don't begin them.
+/// Refused as `TurnsSpent` (E95) where all turns were taken before there was an outcome, as `Memory` (E96) where there is no memory or the
+/// system refuses a thread, and as `Disk` (E97) where the clearinghouse can't go on. Whether the system makes as many threads is tried before
+/// anything else, with threads that do nothing. Where one isn't there half a second later all end and are made anew, and waited for twice as
+/// long: it is refused as `Memory` where one is missing the ninth time, after four minutes. Each loop turn of an actor or a body worker
+/// counts as one, and so does each question to the gate. Where 131,072 turns and more may be taken a thread takes several at once, at most
+/// 64, and so fewer than one in a hundred may be left to threads that don't begin them.
 pub fn run_job<'a, R: Threads + Wait + Clock + Sync, G: Gate + Sync>(
     rt: &R,
     alloc: Global,
@@ -49,16 +52,26 @@ pub fn run_job<'a, R: Threads + Wait + Clock + Sync, G: Gate + Sync>(
 ) -> Result<Ran, RunError>
     ensures { IfOk result (IsRanOf job.now) }
 {
-    let counts = Counts::new(config.turns());
-    let trace = traced(rt, alloc, job, config, gate, &counts)?;
-    if let Some(outcome) = trace.outcome() {
-        return Ok(Ran { outcome, trace });
+    let mut patience = PATIENCE;
+    for _ in 0..ATTEMPTS {
+        // (this thread is one of them)
+        if !can_make(rt, threads_of(config).saturating_sub(1)) {
+            return Err(RunError::Memory);
+        }
+        let counts = Counts::new(config.turns(), patience);
+        let trace = traced(rt, alloc, job, config, gate, &counts)?;
+        if let Some(outcome) = trace.outcome() {
+            return Ok(Ran { outcome, trace });
+        }
+        match counts.end() {
+            Some(End::Missing) => rests(rt),
+            Some(End::Disk(number)) => return Err(RunError::Disk(number)),
+            Some(End::Memory) => return Err(RunError::Memory),
+            Some(End::Turns) | None => return Err(RunError::TurnsSpent),
+        }
+        patience = patience.saturating_mul(2);
     }
-    match counts.end() {
-        Some(End::Disk(number)) => Err(RunError::Disk(number)),
-        Some(End::Memory) => Err(RunError::Memory),
-        Some(End::Turns) | None => Err(RunError::TurnsSpent),
-    }
+    Err(RunError::Memory)
 }
 
 /// The trace of a run. Refused only when out of memory.

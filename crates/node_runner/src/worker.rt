@@ -119,7 +119,7 @@ fn works<R: Wait + Clock, G: Gate + Sync>(
     )
 }
 
-/// Numbers a body, and waits until the gate lets it be evaluated. Whether it did before the run ended.
+/// Numbers a body, and asks the gate, each time in a turn, until it lets it be evaluated. Whether it did before the run ended.
 fn passes<R: Wait + Clock, G: Gate + Sync>(
     rt: &R,
     shared: &Shared<'_, '_, G>,
@@ -131,9 +131,6 @@ fn passes<R: Wait + Clock, G: Gate + Sync>(
 {
     let body = shared.counts.body();
     shared.gate.begun(body);
-    if shared.gate.may_go(body) {
-        return true;
-    }
     let mut waited: u64 = 0;
     for _ in rt.forever() {
         if !goes_on(shared, turns, note) {

@@ -54,11 +54,30 @@ pub fn replay_words<R: Files + AllocGlobal + Threads + Clock + Sync, O: Write>(
         input,
         packets,
     } = words;
-    if !packets {
-        return replay_files_shown(rt, file, script, input, job, err);
+    if packets {
+        replay_files_told(rt, file, script, input, job, out)
+    } else {
+        replay_files_shown(rt, file, script, input, job, err)
     }
-    let mut narrator = Narrator::new(out);
-    let replayed = replay_files(rt, file, script, input, job, &mut narrator);
+}
+
+/// Replays the script of a file on a job, as `replay_files` does, and tells each event.
+fn replay_files_told<R: Files + AllocGlobal, O: Write>(
+    rt: &R,
+    file: &str,
+    script: &str,
+    input: Vec<i64>,
+    job: u64,
+    out: &mut O,
+) -> Result<Replayed, ReplayFault>
+    ensures run { IfOk result (IsFilesReplay input.items job) }
+    ensures refused { IfErr result (IsFilesRefusal input.items) }
+{
+    let text = text_bytes(rt, file)?;
+    let job = job_of(rt.alloc(), text.as_slice(), input, job)?;
+    let script = bytes_within(rt, script, u64::MAX)?;
+    let mut narrator = Narrator::new(rt.alloc(), out, script.as_slice());
+    let replayed = replay_script(rt.alloc(), &job, script.as_slice(), &mut narrator);
     let told = narrator.finish();
     let replayed = replayed?;
     told?;

@@ -78,7 +78,7 @@ pub fn packets_word<'a>(alloc: Global) -> Arg<'a> {
     Arg::new(alloc, "packets")
         .long("packets")
         .action(ArgAction::SetTrue)
-        .help("Tells each event, a line each: what it sends, and which slots it fills")
+        .help("Tells each event, a line each: what it runs and sends, and which slots it fills")
 }
 
 /// The words INPUT, the numbers of a job's input.

@@ -1,7 +1,8 @@
 //! The packets: an arrow for each delivery, and a stub for each packet that never came.
 
+use crate::choice::{has_arrow, has_stub};
 use crate::deed::Site;
-use crate::layout::{Arrows, Layout};
+use crate::layout::Layout;
 use crate::px::Px;
 use crate::record::{HOUSE, Recorder};
 use crate::shown::{Delivery, Sent};
@@ -15,26 +16,19 @@ pub(crate) fn write_arrows<O: Write>(
     run: &Recorder,
 ) -> io::Result<()> {
     for (index, sent) in run.packets.iter().enumerate() {
-        if !sent.is_delivered && has_arrow(layout, sent) {
+        if layout.arrows.shows(sent.kind) && has_stub(run, sent) {
             write_stub(out, layout, run, index, sent)?;
         }
     }
     for delivery in &run.deliveries {
         match run.packets.get(delivery.packet) {
-            Some(sent) if has_arrow(layout, sent) => write_arrow(out, layout, sent, delivery)?,
+            Some(sent) if layout.arrows.shows(sent.kind) && has_arrow(run, sent, delivery) => {
+                write_arrow(out, layout, sent, delivery)?;
+            }
             _ => {}
         }
     }
     Ok(())
-}
-
-/// Whether a packet has an arrow.
-fn has_arrow(layout: &Layout, sent: &Sent) -> bool {
-    match layout.arrows {
-        Arrows::All => true,
-        Arrows::Work => sent.kind.carries_work(),
-        Arrows::Hidden => false,
-    }
 }
 
 /// Writes the arrow of a delivery: from the event at which the packet was sent, to that at which it comes.

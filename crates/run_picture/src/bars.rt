@@ -41,7 +41,7 @@ fn write_bar<O: Write>(
 ) -> io::Result<()> {
     let (x, y) = (layout.x(held.since), layout.track_top(place, held.track));
     let width = end.minus(x).at_least(NARROWEST);
-    let height = layout.track.minus(gap(layout));
+    let height = layout.track().minus(gap(layout));
     let look = match held.state {
         SubState::Active => "live",
         SubState::Frozen(_, _) => "frozen",
@@ -57,7 +57,7 @@ fn write_bar<O: Write>(
 
 /// What is left free between two tracks.
 fn gap(layout: &Layout) -> Px {
-    layout.track.over(5)
+    layout.track().over(5)
 }
 
 /// Writes a stroke into a bar for each thread body that ran.
@@ -66,7 +66,7 @@ pub(crate) fn write_turns<O: Write>(
     layout: &Layout,
     run: &Recorder,
 ) -> io::Result<()> {
-    let height = layout.track.minus(gap(layout)).over(2);
+    let height = layout.track().minus(gap(layout)).over(2);
     for turn in &run.turns {
         let x = layout.x(turn.at);
         let y = layout

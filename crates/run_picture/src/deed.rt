@@ -20,6 +20,8 @@ pub(crate) enum Deed {
     Depart(u64),
     Crash,
     Tick(u64),
+    /// The clearinghouse is opened for the first time.
+    Open,
     Restart,
     Cut(u64, HouseEvent),
 }
@@ -37,12 +39,13 @@ pub(crate) enum Effect {
     Nothing,
 }
 
-/// An event, and what came of it.
+/// An event, what came of it, and the thread whose body ran, if one did.
 #[derive(Clone, Copy)]
 pub(crate) struct Step {
     pub(crate) site: Site,
     pub(crate) deed: Deed,
     pub(crate) effect: Effect,
+    pub(crate) ran: Option<u8>,
 }
 
 impl Deed {

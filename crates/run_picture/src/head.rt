@@ -1,9 +1,11 @@
 //! What stands above the lanes: what the run came to, and which event is where.
 
-use crate::layout::Layout;
+use crate::deed::Step;
+use crate::folds::Fold;
+use crate::layout::{ABOVE_NUMBERS, Layout};
 use crate::px::Px;
 use crate::record::Recorder;
-use crate::texts::{EventWords, OutcomeText};
+use crate::texts::{FoldWords, OutcomeText};
 use std::io::{self, Write};
 
 /// How many events there may be between two numbers of the axis.
@@ -15,8 +17,8 @@ const INTERVALS: [usize; 22] = [
 /// Two numbers of the axis are at least so far apart.
 const APART: Px = Px(600);
 
-/// At most so many numbers stand at the axis.
-const MOST_NUMBERS: usize = 80;
+/// The words of two folds are at least so far apart.
+const FOLDS_APART: Px = Px(140);
 
 /// Writes what a run came to.
 pub(crate) fn write_heading<O: Write>(out: &mut O, run: &Recorder) -> io::Result<()> {
@@ -31,34 +33,93 @@ pub(crate) fn write_heading<O: Write>(out: &mut O, run: &Recorder) -> io::Result
     }
 }
 
-/// Writes which event is where: by its words where there is room, else by numbers of some of them.
+/// Writes which event is where: by its words where there is room, else by numbers of some of them; and the words of folds.
 pub(crate) fn write_axis<O: Write>(out: &mut O, layout: &Layout, run: &Recorder) -> io::Result<()> {
     if layout.has_words() {
-        for (event, step) in run.steps.iter().enumerate() {
-            write_words(out, layout, event, EventWords(*step))?;
-        }
-        return Ok(());
+        write_events(out, layout, run)?;
+        write_folds(out, layout, Px::ZERO)
+    } else {
+        write_numbers(out, layout, run)?;
+        write_folds(out, layout, ABOVE_NUMBERS)
     }
-    let interval = interval_of(layout);
-    for count in 1..MOST_NUMBERS {
-        let number = interval.saturating_mul(count);
-        if number > run.steps.len() {
-            break;
+}
+
+/// Writes the words of all events that aren't folded.
+fn write_events<O: Write>(out: &mut O, layout: &Layout, run: &Recorder) -> io::Result<()> {
+    for (event, step) in run.steps.iter().enumerate() {
+        if !layout.folds.is_folded(event) {
+            write_words(out, layout, run, event, step)?;
         }
-        write_number(out, layout, number)?;
     }
     Ok(())
+}
+
+/// Writes numbers of some events that aren't folded.
+fn write_numbers<O: Write>(out: &mut O, layout: &Layout, run: &Recorder) -> io::Result<()> {
+    let interval = interval_of(layout).max(1);
+    let mut free = Px::ZERO;
+    for event in 0..run.steps.len() {
+        let number = event.saturating_add(1);
+        if number % interval == 0 && !layout.folds.is_folded(event) && layout.x(event) >= free {
+            free = layout.x(event).plus(APART);
+            write_number(out, layout, event)?;
+        }
+    }
+    Ok(())
+}
+
+/// Writes the words of folds, aslant and so far above the axis, where they aren't too close to one another.
+fn write_folds<O: Write>(out: &mut O, layout: &Layout, above: Px) -> io::Result<()> {
+    let (y, mut free) = (layout.axis().minus(above), Px::ZERO);
+    for fold in layout.folds.as_slice() {
+        let (x, words) = (layout.x(fold.first), FoldWords(fold.count));
+        if x >= free {
+            free = x.plus(FOLDS_APART);
+            writeln!(
+                out,
+                "<text class=\"words\" transform=\"translate({x} {y}) rotate(-60)\" x=\"5\" y=\"3\">{words}</text>"
+            )?;
+        }
+    }
+    Ok(())
+}
+
+/// Writes the marks of folds, across all lanes.
+pub(crate) fn write_creases<O: Write>(out: &mut O, layout: &Layout) -> io::Result<()> {
+    for fold in layout.folds.as_slice() {
+        write_crease(out, layout, fold)?;
+    }
+    Ok(())
+}
+
+fn write_crease<O: Write>(out: &mut O, layout: &Layout, fold: &Fold) -> io::Result<()> {
+    let (x, width) = (layout.fold_left(fold.first), layout.fold_width());
+    let (y, end, right) = (layout.axis(), layout.lanes_end, x.plus(width));
+    let (first, last) = (
+        fold.first.saturating_add(1),
+        fold.first.saturating_add(fold.count),
+    );
+    write!(
+        out,
+        "<g><title>events {first} to {last}: no body runs</title><rect class=\"fold\" x=\"{x}\" y=\"{y}\""
+    )?;
+    write!(out, " width=\"{width}\" height=\"{}\"/>", end.minus(y))?;
+    writeln!(
+        out,
+        "<path class=\"crease\" d=\"M{x} {y}V{end}M{right} {y}V{end}\"/></g>"
+    )
 }
 
 /// Writes the number and the words of an event, aslant, and a line through all lanes.
 fn write_words<O: Write>(
     out: &mut O,
     layout: &Layout,
+    run: &Recorder,
     event: usize,
-    words: EventWords,
+    step: &Step,
 ) -> io::Result<()> {
     let (x, y, end) = (layout.x(event), layout.axis(), layout.lanes_end);
-    let number = event.saturating_add(1);
+    let (number, words) = (event.saturating_add(1), run.words_of(step));
     writeln!(out, "<path class=\"grid\" d=\"M{x} {y}V{end}\"/>")?;
     writeln!(
         out,
@@ -67,13 +128,9 @@ fn write_words<O: Write>(
 }
 
 /// Writes the number of an event, and a line through all lanes.
-fn write_number<O: Write>(out: &mut O, layout: &Layout, number: usize) -> io::Result<()> {
-    let (x, y, end) = (
-        layout.x(number.saturating_sub(1)),
-        layout.axis(),
-        layout.lanes_end,
-    );
-    let above = y.minus(Px(50));
+fn write_number<O: Write>(out: &mut O, layout: &Layout, event: usize) -> io::Result<()> {
+    let (x, y, end) = (layout.x(event), layout.axis(), layout.lanes_end);
+    let (number, above) = (event.saturating_add(1), y.minus(Px(50)));
     writeln!(out, "<path class=\"grid\" d=\"M{x} {y}V{end}\"/>")?;
     writeln!(
         out,

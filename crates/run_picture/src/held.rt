@@ -71,7 +71,8 @@ impl Lane {
         None
     }
 
-    /// From an event on the node holds these, by rising grant: what ends, or goes on in another state, becomes a bar.
+    /// From an event on the node holds these, by rising grant: what ends, or goes on in another state, becomes a bar. Whether something
+    /// changes.
     pub(crate) fn hold(
         &mut self,
         alloc: Global,
@@ -79,9 +80,9 @@ impl Lane {
         place: NodePlace,
         subs: &[SubView],
         bars: &mut Vec<Bar>,
-    ) -> Result<(), Lost> {
+    ) -> Result<bool, Lost> {
         if self.holds(subs) {
-            return Ok(());
+            return Ok(false);
         }
         for held in &self.held {
             if state_in(subs, held.grant) != Some(held.state) {
@@ -96,7 +97,7 @@ impl Lane {
             keep(&mut now, next)?;
         }
         self.held = now;
-        Ok(())
+        Ok(true)
     }
 
     /// Whether it holds these, in these states.

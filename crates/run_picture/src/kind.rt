@@ -83,6 +83,11 @@ impl Kind {
         }
     }
 
+    /// Whether it is about work, and not only about who takes part and is there.
+    pub(crate) fn is_of_work(self) -> bool {
+        !matches!(self, Kind::Join | Kind::Roster | Kind::Beat)
+    }
+
     /// Whether it takes a task or an outcome to another one.
     pub(crate) fn carries_work(self) -> bool {
         matches!(self.family(), Family::Work | Family::Outcome)

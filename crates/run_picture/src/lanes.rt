@@ -2,11 +2,11 @@
 
 use crate::deed::Site;
 use crate::held::Lane;
-use crate::layout::Layout;
+use crate::layout::{Layout, SCREEN};
 use crate::px::Px;
 use crate::record::{Recorder, Stand};
 use crate::shown::Life;
-use crate::texts::{LaneName, SiteName};
+use crate::texts::{AgainName, LaneName, SiteName};
 use event_script::NodePlace;
 use std::io::{self, Write};
 
@@ -61,6 +61,66 @@ fn write_name<O: Write>(
         write!(out, "<text x=\"14\" y=\"{below}\">and {later} later</text>")?;
     }
     writeln!(out, "</g>")
+}
+
+/// Writes the names of all lanes again, a screen's width from one another, in a picture that is wide.
+pub(crate) fn write_again<O: Write>(
+    out: &mut O,
+    layout: &Layout,
+    run: &Recorder,
+) -> io::Result<()> {
+    if !layout.repeats_names() {
+        return Ok(());
+    }
+    for screen in 1..4usize {
+        let x = SCREEN.times(screen).plus(Px(140));
+        if x.plus(Px(1000)) < layout.right() {
+            write_again_at(out, layout, run, x)?;
+        }
+    }
+    Ok(())
+}
+
+/// Writes the names of all lanes again, from here on, those of places with the worker that started there last.
+fn write_again_at<O: Write>(out: &mut O, layout: &Layout, run: &Recorder, x: Px) -> io::Result<()> {
+    write_again_name(out, layout, &Site::House, x, None)?;
+    for (index, lane) in run.lanes.iter().enumerate() {
+        if let (true, Some(place)) = (lane.is_used, NodePlace::of(index as u64)) {
+            write_again_name(
+                out,
+                layout,
+                &Site::At(place),
+                x,
+                worker_at(layout, run, place, x),
+            )?;
+        }
+    }
+    Ok(())
+}
+
+fn write_again_name<O: Write>(
+    out: &mut O,
+    layout: &Layout,
+    site: &Site,
+    x: Px,
+    worker: Option<u64>,
+) -> io::Result<()> {
+    let (y, name) = (layout.again_name(*site), AgainName(*site, worker));
+    writeln!(
+        out,
+        "<text class=\"again-name\" x=\"{x}\" y=\"{y}\">{name}</text>"
+    )
+}
+
+/// The worker that started at a place last, up to here.
+fn worker_at(layout: &Layout, run: &Recorder, place: NodePlace, x: Px) -> Option<u64> {
+    let mut found = None;
+    for worker in &run.workers {
+        if worker.place == place && layout.x(worker.at) <= x {
+            found = Some(worker.word);
+        }
+    }
+    found
 }
 
 /// Writes since when and until when nodes were up, and the clearinghouse was open.

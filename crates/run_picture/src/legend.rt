@@ -1,6 +1,7 @@
 //! What stands below the lanes: what the looks mean.
 
-use crate::layout::{Arrows, Layout};
+use crate::choice::Arrows;
+use crate::layout::{LEGEND_WIDTH, Layout, SCREEN};
 use crate::px::Px;
 use crate::record::Recorder;
 use std::io::{self, Write};
@@ -14,6 +15,8 @@ const ROWS: &str = "<rect class=\"live\" x=\"14\" y=\"-6\" width=\"30\" height=\
 <text x=\"429.3\" y=\"4\">finished</text>
 <path class=\"turn\" d=\"M502.9 0m4 -4v8m6 -8v8m6 -8v8\"/>
 <text x=\"528.9\" y=\"4\">thread bodies that ran</text>
+<rect class=\"fold\" x=\"706\" y=\"-7\" width=\"14\" height=\"14\"/><path class=\"crease\" d=\"M706 -7v14m14 -14v14\"/>
+<text x=\"728\" y=\"4\">events in which no body runs</text>
 <path class=\"start\" d=\"M20 24m-4 -6.5v13l10 -6.5z\"/><text x=\"32\" y=\"28\">start, restart</text>
 <path class=\"stop\" d=\"M151.8 24m-5 -5l10 10m0 -10l-10 10\"/><text x=\"163.8\" y=\"28\">crash</text>
 <path class=\"stop\" d=\"M223.3 24m3 -9l-6 8h6l-6 9\"/><text x=\"235.3\" y=\"28\">cut</text>
@@ -30,11 +33,11 @@ const ROWS: &str = "<rect class=\"live\" x=\"14\" y=\"-6\" width=\"30\" height=\
 <text x=\"415.7\" y=\"52\">ResultAck, OfferAck, Abort</text>
 <path class=\"line members\" d=\"M607.9 48h30\" marker-end=\"url(#members)\"/>
 <text x=\"642.9\" y=\"52\">Join, Roster, Beat, Leave</text>
-<path class=\"line asking again\" d=\"M14 72h30\" marker-end=\"url(#asking)\"/>
+<path class=\"line any again\" d=\"M14 72h30\" marker-end=\"url(#any)\"/>
 <text x=\"49\" y=\"76\">comes again</text>
-<path class=\"line asking\" d=\"M160 72h30\" marker-end=\"url(#asking-ignored)\"/>
+<path class=\"line any\" d=\"M160 72h30\" marker-end=\"url(#any-ignored)\"/>
 <text x=\"195\" y=\"76\">comes and is ignored</text>
-<path class=\"line asking\" d=\"M370 72m0 6l9 -13m-4 -3l8 5\"/>
+<path class=\"line any\" d=\"M370 72m0 6l9 -13m-4 -3l8 5\"/>
 <text x=\"390\" y=\"76\">never comes</text>
 <circle class=\"dot\" cx=\"500\" cy=\"72\" r=\"2.8\"/>
 <text x=\"508\" y=\"76\">event</text>
@@ -42,7 +45,7 @@ const ROWS: &str = "<rect class=\"live\" x=\"14\" y=\"-6\" width=\"30\" height=\
 <text x=\"578\" y=\"76\">event that changes nothing, or is refused</text>
 ";
 
-/// Writes the legend.
+/// Writes the legend, in a wide picture a screen's width on once more, as often as there is room for it.
 pub(crate) fn write_legend<O: Write>(
     out: &mut O,
     layout: &Layout,
@@ -51,9 +54,16 @@ pub(crate) fn write_legend<O: Write>(
     let top = layout.lanes_end.plus(Px(260));
     write!(
         out,
-        "<g class=\"legend\" transform=\"translate(0 {top})\">\n{ROWS}"
+        "<g class=\"legend\" id=\"legend\" transform=\"translate(0 {top})\">\n{ROWS}"
     )?;
-    write_note(out, layout, run)
+    write_note(out, layout, run)?;
+    for screen in 1..4usize {
+        let x = SCREEN.times(screen);
+        if x.plus(LEGEND_WIDTH) < layout.width() {
+            writeln!(out, "<use href=\"#legend\" x=\"{x}\"/>")?;
+        }
+    }
+    Ok(())
 }
 
 /// Writes which arrows there are, and what a name means, and ends the legend.
@@ -64,12 +74,16 @@ fn write_note<O: Write>(out: &mut O, layout: &Layout, run: &Recorder) -> io::Res
         Arrows::All => {}
         Arrows::Work => write!(
             out,
+            "Of {packets} packets Joins, Rosters and Beats aren't drawn. "
+        )?,
+        Arrows::Tasks => write!(
+            out,
             "Of {packets} packets only Grants, Offers and Results are drawn. "
         )?,
         Arrows::Hidden => write!(out, "The {packets} packets aren't drawn. ")?,
     }
     writeln!(
         out,
-        "G1 is the clearinghouse of epoch 1; a grant is named by who minted it and its number.</text>\n</g>"
+        "H1 is the clearinghouse of epoch 1; a grant is named by who minted it and its number.</text>\n</g>"
     )
 }

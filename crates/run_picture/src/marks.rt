@@ -1,81 +1,16 @@
 //! What became of nodes and of the clearinghouse, and a dot for each other event.
 
-use crate::deed::{Deed, Effect, Site, Step};
+use crate::deed::{Effect, Site, Step};
 use crate::layout::Layout;
+use crate::mark::{Shape, Words, mark_of};
 use crate::px::Px;
 use crate::record::Recorder;
 use crate::rooms::Rooms;
-use crate::texts::{EffectText, EventWords, OutcomeText, count_chars};
-use std::fmt;
+use crate::texts::{EffectText, OutcomeText, count_chars};
 use std::io::{self, Write};
 
 /// The width of a character of a mark's words.
 const CHAR: Px = Px(67);
-
-/// The shape of a mark.
-#[derive(Clone, Copy)]
-enum Shape {
-    Start,
-    Crash,
-    Cut,
-    Leave,
-    Dead,
-    Outcome,
-}
-
-impl Shape {
-    /// Its look, and its way from the point on at which it stands.
-    fn drawn(self) -> (&'static str, &'static str) {
-        match self {
-            Shape::Start => ("start", "m-4 -6.5v13l10 -6.5z"),
-            Shape::Crash => ("stop", "m-5 -5l10 10m0 -10l-10 10"),
-            Shape::Cut => ("stop", "m3 -9l-6 8h6l-6 9"),
-            Shape::Leave => ("leave", "m-6 -6h5v3h3v-3.5l7 6.5l-7 6.5v-3.5h-3v3h-5z"),
-            Shape::Dead => ("dead", "m-1.6 -8h3.2v4h4v3.2h-4v9h-3.2v-9h-4v-3.2h4z"),
-            Shape::Outcome => (
-                "done",
-                "m0 -9l2.6 5.6l6.1 .7l-4.5 4.2l1.2 6l-5.4 -3l-5.4 3l1.2 -6l-4.5 -4.2l6.1 -.7z",
-            ),
-        }
-    }
-}
-
-/// The words of a mark.
-#[derive(Clone, Copy)]
-enum Words {
-    Start(u64),
-    Leave(u64),
-    Crash,
-    Restart,
-    Cut,
-    Dead(u64),
-}
-
-impl fmt::Display for Words {
-    fn fmt<W: fmt::Write>(&self, f: &mut fmt::Formatter<W>) -> fmt::Result {
-        match *self {
-            Words::Start(word) => write!(f, "start {word}"),
-            Words::Leave(heir) => write!(f, "leaves to {heir}"),
-            Words::Crash => write!(f, "crash"),
-            Words::Restart => write!(f, "restart"),
-            Words::Cut => write!(f, "cut"),
-            Words::Dead(word) => write!(f, "{word} dead"),
-        }
-    }
-}
-
-/// The mark of an event, if it has one: only what is carried out, and a cut whatever comes of it, has.
-fn mark_of(step: &Step) -> Option<(Shape, Words)> {
-    match (step.deed, step.effect) {
-        (_, Effect::Nothing) => None,
-        (Deed::Cut(_, _), _) => Some((Shape::Cut, Words::Cut)),
-        (Deed::Start(word), Effect::Done) => Some((Shape::Start, Words::Start(word))),
-        (Deed::Depart(heir), Effect::Done) => Some((Shape::Leave, Words::Leave(heir))),
-        (Deed::Crash, Effect::Done) => Some((Shape::Crash, Words::Crash)),
-        (Deed::Restart, Effect::Done) => Some((Shape::Start, Words::Restart)),
-        _ => None,
-    }
-}
 
 /// Writes a shape at a point.
 fn write_shape<O: Write>(out: &mut O, shape: Shape, x: Px, y: Px) -> io::Result<()> {
@@ -93,10 +28,12 @@ pub(crate) fn write_marks<O: Write>(
     for (event, step) in run.steps.iter().enumerate() {
         match mark_of(step) {
             Some((shape, words)) => {
-                write_event(out, layout, event, step, shape)?;
-                write_words(out, layout, &mut rooms, event, &step.site, &words)?;
+                write_event(out, layout, run, event, step, shape)?;
+                write_words(out, layout, run, &mut rooms, event, &step.site, &words)?;
             }
-            None if layout.has_dots() => write_dot(out, layout, event, step)?,
+            None if layout.has_dots() && !layout.folds.is_folded(event) => {
+                write_dot(out, layout, run, event, step)?;
+            }
             None => {}
         }
         if step.site == Site::House {
@@ -107,9 +44,9 @@ pub(crate) fn write_marks<O: Write>(
 }
 
 /// Writes the title of an event.
-fn write_title<O: Write>(out: &mut O, event: usize, step: &Step) -> io::Result<()> {
+fn write_title<O: Write>(out: &mut O, run: &Recorder, event: usize, step: &Step) -> io::Result<()> {
     let number = event.saturating_add(1);
-    let (words, effect) = (EventWords(*step), EffectText(step.effect));
+    let (words, effect) = (run.words_of(step), EffectText(step.effect));
     write!(out, "<g><title>event {number}: {words}{effect}</title>")
 }
 
@@ -117,47 +54,98 @@ fn write_title<O: Write>(out: &mut O, event: usize, step: &Step) -> io::Result<(
 fn write_event<O: Write>(
     out: &mut O,
     layout: &Layout,
+    run: &Recorder,
     event: usize,
     step: &Step,
     shape: Shape,
 ) -> io::Result<()> {
-    write_title(out, event, step)?;
+    write_title(out, run, event, step)?;
     write_shape(out, shape, layout.x(event), layout.line(step.site))?;
     writeln!(out, "</g>")
 }
 
 /// Writes the dot of an event: an open one, where it does nothing.
-fn write_dot<O: Write>(out: &mut O, layout: &Layout, event: usize, step: &Step) -> io::Result<()> {
+fn write_dot<O: Write>(
+    out: &mut O,
+    layout: &Layout,
+    run: &Recorder,
+    event: usize,
+    step: &Step,
+) -> io::Result<()> {
     let (x, y) = (layout.x(event), layout.line(step.site));
     let look = match step.effect {
         Effect::Done => "dot",
         Effect::Ignored | Effect::Refused(_) | Effect::Nothing => "none",
     };
-    write_title(out, event, step)?;
+    write_title(out, run, event, step)?;
     writeln!(
         out,
         "<circle class=\"{look}\" cx=\"{x}\" cy=\"{y}\" r=\"2.8\"/></g>"
     )
 }
 
-/// Writes the words of a mark, where there is room.
+/// Writes the words of a mark where there is room at it, and then for the next start's at that one. Those of a start are written in any
+/// case: where there is no room at the mark, farther off, with the event's number.
 fn write_words<O: Write>(
     out: &mut O,
     layout: &Layout,
+    run: &Recorder,
     rooms: &mut Rooms,
     event: usize,
     site: &Site,
     words: &Words,
 ) -> io::Result<()> {
-    let (from, y) = (layout.x(event).minus(Px(50)), layout.mark_words(*site));
-    let width = CHAR.times(count_chars(*words));
-    match rooms.take(*site, from, width) {
-        Some(x) => writeln!(
-            out,
-            "<text class=\"mark\" x=\"{x}\" y=\"{y}\">{words}</text>"
-        ),
+    let (from, width) = (words_left(layout, event), width_of(words));
+    let next = match words {
+        Words::Start(_) => Px::FAR,
+        _ => next_start(layout, run, event, site),
+    };
+    if let Some(x) = rooms.take(site, from, width, next) {
+        return write_at(out, layout, site, x, words);
+    }
+    let Words::Start(word) = *words else {
+        return Ok(());
+    };
+    let far = Words::FarStart(word, event.saturating_add(1));
+    match rooms.take_far(site, from, width_of(&far), layout.width()) {
+        Some(x) => write_at(out, layout, site, x, &far),
         None => Ok(()),
     }
+}
+
+/// The width of words.
+fn width_of(words: &Words) -> Px {
+    CHAR.times(count_chars(*words))
+}
+
+/// Writes the words of a mark from here on.
+fn write_at<O: Write>(
+    out: &mut O,
+    layout: &Layout,
+    site: &Site,
+    x: Px,
+    words: &Words,
+) -> io::Result<()> {
+    let y = layout.mark_words(*site);
+    writeln!(
+        out,
+        "<text class=\"mark\" x=\"{x}\" y=\"{y}\">{words}</text>"
+    )
+}
+
+/// From where on the words of an event's mark stand.
+fn words_left(layout: &Layout, event: usize) -> Px {
+    layout.x(event).minus(Px(50))
+}
+
+/// Where the words of the next start in a lane stand, behind an event.
+fn next_start(layout: &Layout, run: &Recorder, event: usize, site: &Site) -> Px {
+    for worker in &run.workers {
+        if worker.at > event && *site == Site::At(worker.place) {
+            return words_left(layout, worker.at);
+        }
+    }
+    Px::FAR
 }
 
 /// Writes whom a roster shows dead for the first time, at an event of the clearinghouse.
@@ -177,7 +165,15 @@ fn write_deaths<O: Write>(
             )?;
             write_shape(out, Shape::Dead, layout.x(event), layout.line(Site::House))?;
             writeln!(out, "</g>")?;
-            write_words(out, layout, rooms, event, &Site::House, &Words::Dead(word))?;
+            write_words(
+                out,
+                layout,
+                run,
+                rooms,
+                event,
+                &Site::House,
+                &Words::Dead(word),
+            )?;
         }
     }
     Ok(())

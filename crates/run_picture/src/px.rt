@@ -9,6 +9,9 @@ pub(crate) struct Px(pub(crate) u64);
 impl Px {
     pub(crate) const ZERO: Px = Px(0);
 
+    /// Longer than all lengths of a picture.
+    pub(crate) const FAR: Px = Px(u64::MAX);
+
     /// So many pixels.
     pub(crate) fn of(pixels: usize) -> Px {
         Px((pixels as u64).saturating_mul(10))

@@ -1,9 +1,12 @@
 //! The record of a run.
 
 use crate::deed::{Deed, Effect, Site, Step, read_event};
+use crate::folds::Folds;
 use crate::held::{Bar, Lane};
 use crate::kind::Kind;
+use crate::mark::mark_of;
 use crate::shown::{Death, Delivery, Life, Lost, Sent, Turn, Worker, keep};
+use crate::texts::EventWords;
 use codec::{Body, Packet, Roster, decode};
 use event_script::{Event, HouseEvent, NodePlace};
 use ids::{Outcome, Status};
@@ -25,12 +28,24 @@ pub(crate) enum Stand {
     Open(usize),
 }
 
-/// The record of a run, made while it goes: what each event was and what came of it, what the nodes held, what was sent and came, and
-/// what rosters said. It takes memory with each event.
+/// How much of what is shown has changed so far, but for marks, turns and packets.
+#[derive(Clone, Copy, PartialEq, Eq)]
+struct Tally {
+    house: Stand,
+    moves: usize,
+    deaths: usize,
+    has_outcome: bool,
+}
+
+/// The record of a run, made while it goes: what each event was and what came of it, which bodies ran, what the nodes held, what was sent
+/// and came, and what rosters said. It takes memory with each event.
 #[derive(Drop)]
 pub struct Recorder {
     is_whole: bool,
     pub(crate) steps: Vec<Step>,
+    pub(crate) folds: Folds,
+    /// The names of the program's threads.
+    threads: Vec<Vec<u8>>,
     pub(crate) lanes: Vec<Lane>,
     pub(crate) bars: Vec<Bar>,
     pub(crate) turns: Vec<Turn>,
@@ -40,6 +55,9 @@ pub struct Recorder {
     pub(crate) deliveries: Vec<Delivery>,
     pub(crate) deaths: Vec<Death>,
     pub(crate) house: Stand,
+    /// Whether the clearinghouse was open at some time, and how often what a node holds has changed.
+    was_open: bool,
+    moves: usize,
     /// The epoch and the version of the newest roster that was sent.
     roster: (u64, u64),
     pub(crate) outcome: Option<(usize, Outcome)>,
@@ -60,6 +78,8 @@ impl Recorder {
         Recorder {
             is_whole: true,
             steps: Vec::new(alloc),
+            folds: Folds::new(alloc),
+            threads: Vec::new(alloc),
             lanes: Vec::new(alloc),
             bars: Vec::new(alloc),
             turns: Vec::new(alloc),
@@ -69,6 +89,8 @@ impl Recorder {
             deliveries: Vec::new(alloc),
             deaths: Vec::new(alloc),
             house: Stand::Down,
+            was_open: false,
+            moves: 0,
             roster: (0, 0),
             outcome: None,
             fills: 0,
@@ -88,15 +110,65 @@ impl Recorder {
         told: EventAnswer,
         world: &World<'_>,
     ) -> Result<(), Lost> {
-        let at = self.steps.len();
-        let (site, deed) = read_event(event);
-        let effect = self.effect_of(&deed, &told);
-        let step = Step { site, deed, effect };
+        if self.threads.is_empty() {
+            self.threads = thread_names(alloc, world)?;
+        }
+        let (at, before) = (self.steps.len(), self.tally());
+        let step = self.read(event, told, world);
         self.keep_step(alloc, at, &step, world)?;
         self.send(alloc, at, &step, world)?;
         self.commit(at, told);
         self.fills = world.fills();
-        Ok(())
+        let stands_out = step.ran.is_some() || mark_of(&step).is_some() || self.tally() != before;
+        self.folds.take(stands_out)
+    }
+
+    /// How much has changed so far.
+    fn tally(&self) -> Tally {
+        Tally {
+            house: self.house,
+            moves: self.moves,
+            deaths: self.deaths.len(),
+            has_outcome: self.outcome.is_some(),
+        }
+    }
+
+    /// What an event was, and what came of it.
+    fn read(&mut self, event: &Event, told: EventAnswer, world: &World<'_>) -> Step {
+        let (site, deed) = read_event(event);
+        let effect = self.effect_of(&deed, &told);
+        let ran = body_run(&site, &deed, effect, world);
+        let deed = self.opened(deed, effect);
+        Step {
+            site,
+            deed,
+            effect,
+            ran,
+        }
+    }
+
+    /// What happens, where the first time that the clearinghouse is opened is told apart.
+    fn opened(&mut self, deed: Deed, effect: Effect) -> Deed {
+        let is_open = matches!(&deed, Deed::Restart) && effect == Effect::Done;
+        if !is_open || self.was_open {
+            return deed;
+        }
+        self.was_open = true;
+        Deed::Open
+    }
+
+    /// The words of an event.
+    pub(crate) fn words_of(&self, step: &Step) -> EventWords<'_> {
+        EventWords {
+            step: *step,
+            thread: self.thread_of(step),
+        }
+    }
+
+    /// The name of the thread whose body an event ran, if it ran one.
+    pub(crate) fn thread_of(&self, step: &Step) -> Option<&[u8]> {
+        let name = self.threads.get(usize::from(step.ran?))?;
+        Some(name.as_slice())
     }
 
     /// Keeps an event but for what was sent.
@@ -181,7 +253,7 @@ impl Recorder {
         let next = match (step.deed, step.effect) {
             (_, Effect::Nothing) => self.house,
             (_, Effect::Refused(DEVICE)) => Stand::Stopped,
-            (Deed::Restart, Effect::Done) => Stand::Open(at),
+            (Deed::Open | Deed::Restart, Effect::Done) => Stand::Open(at),
             (Deed::Crash, _) => Stand::Down,
             (Deed::Cut(_, _), _) => Stand::Stopped,
             _ => self.house,
@@ -222,7 +294,7 @@ impl Recorder {
             Deed::Start(word) => {
                 lane.start(at, word);
                 let place = *place;
-                keep(&mut self.workers, Worker { word, place })?;
+                keep(&mut self.workers, Worker { word, at, place })?;
             }
             Deed::Exec(frame) => {
                 if let Some(track) = lane.track_of(frame) {
@@ -253,13 +325,17 @@ impl Recorder {
         let Some(lane) = self.lanes.get_mut(usize::from(place.index())) else {
             return Ok(());
         };
-        match world.node(*place) {
-            None => lane.hold(alloc, at, *place, &[], &mut self.bars),
+        let has_changed = match world.node(*place) {
+            None => lane.hold(alloc, at, *place, &[], &mut self.bars)?,
             Some(node) => match node.subs(alloc) {
-                Ok(subs) => lane.hold(alloc, at, *place, subs.as_slice(), &mut self.bars),
-                Err(_) => Err(Lost),
+                Ok(subs) => lane.hold(alloc, at, *place, subs.as_slice(), &mut self.bars)?,
+                Err(_) => return Err(Lost),
             },
+        };
+        if has_changed {
+            self.moves = self.moves.saturating_add(1);
         }
+        Ok(())
     }
 
     /// The packets that were sent at an event: all that weren't there before.
@@ -321,4 +397,27 @@ impl Recorder {
             self.outcome = Some((at, outcome));
         }
     }
+}
+
+/// The names of the threads of a world's program.
+fn thread_names(alloc: Global, world: &World<'_>) -> Result<Vec<Vec<u8>>, Lost> {
+    let mut names = Vec::new(alloc);
+    for thread in world.job().checked().program().threads.as_slice() {
+        match Vec::from_slice(alloc, thread.name.text.as_slice()) {
+            Ok(name) => keep(&mut names, name)?,
+            Err(_) => return Err(Lost),
+        }
+    }
+    Ok(names)
+}
+
+/// The thread whose body an event ran, in the world after it.
+fn body_run(site: &Site, deed: &Deed, effect: Effect, world: &World<'_>) -> Option<u8> {
+    let Site::At(place) = site else {
+        return None;
+    };
+    if !matches!(deed, Deed::Exec(_)) || effect != Effect::Done {
+        return None;
+    }
+    Some(world.node(*place)?.parts().last_turn().thread)
 }

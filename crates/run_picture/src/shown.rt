@@ -25,10 +25,11 @@ pub(crate) struct Life {
     pub(crate) until: usize,
 }
 
-/// A worker, by its start word, and where it started.
+/// A worker, by its start word, and when and where it started.
 #[derive(Clone, Copy)]
 pub(crate) struct Worker {
     pub(crate) word: u64,
+    pub(crate) at: usize,
     pub(crate) place: NodePlace,
 }
 

@@ -11,7 +11,9 @@ const LOOKS: &str =
 .words{font-size:10px}
 .mark{font-size:11px;font-weight:bold}
 .packet{font-size:9px;fill:#444}
-.packet,.mark{paint-order:stroke;stroke:#fff;stroke-width:3px;stroke-linejoin:round}
+.body{font-size:9px;fill:#0b3a66}
+.again-name{font-size:10px;fill:#666}
+.packet,.mark,.body,.again-name{paint-order:stroke;stroke:#fff;stroke-width:3px;stroke-linejoin:round}
 .even{fill:#f4f4f4}
 .odd{fill:#fff}
 .grid{stroke:#ddd;stroke-width:1;fill:none}
@@ -28,6 +30,9 @@ const LOOKS: &str =
 .asking{stroke:#2563b0}
 .answer{stroke:#a0459b}
 .members{stroke:#8a8a8a}
+.any{stroke:#444}
+.fold{fill:#fff}
+.crease{stroke:#888;stroke-width:1;stroke-dasharray:3 3;fill:none}
 .dot{fill:#444}
 .none{fill:#fff;stroke:#999}
 .start{fill:#0a7d50}
@@ -40,7 +45,7 @@ const LOOKS: &str =
 ";
 
 /// What is referred to: the hatching, and for each family of packets the heads of its arrows, a full one, and an open one for packets that
-/// are ignored. The shape of its heads tells a family apart without colours.
+/// are ignored; and those of arrows that stand for any family, in the legend. The shape of its heads tells a family apart without colours.
 const PARTS: &str =
     "<pattern id=\"hatch\" width=\"5\" height=\"5\" patternUnits=\"userSpaceOnUse\" patternTransform=\"rotate(45)\"><rect width=\"5\" height=\"5\" fill=\"#fff\"/><rect width=\"2\" height=\"5\" fill=\"#e09a3e\"/></pattern>
 <marker id=\"work\" markerWidth=\"14\" markerHeight=\"10\" refX=\"12\" refY=\"5\" orient=\"auto\" markerUnits=\"userSpaceOnUse\"><path d=\"M0.5 0.5L10 5L0.5 9.5z\" fill=\"#c2410c\"/></marker>
@@ -53,6 +58,8 @@ const PARTS: &str =
 <marker id=\"answer-ignored\" markerWidth=\"14\" markerHeight=\"10\" refX=\"12\" refY=\"5\" orient=\"auto\" markerUnits=\"userSpaceOnUse\"><path d=\"M10 5a3.5 3.5 0 1 1 -7 0a3.5 3.5 0 1 1 7 0z\" fill=\"#fff\" stroke=\"#a0459b\"/></marker>
 <marker id=\"members\" markerWidth=\"14\" markerHeight=\"10\" refX=\"12\" refY=\"5\" orient=\"auto\" markerUnits=\"userSpaceOnUse\"><path d=\"M3 2L10 5L3 8z\" fill=\"#8a8a8a\"/></marker>
 <marker id=\"members-ignored\" markerWidth=\"14\" markerHeight=\"10\" refX=\"12\" refY=\"5\" orient=\"auto\" markerUnits=\"userSpaceOnUse\"><path d=\"M3 2L10 5L3 8z\" fill=\"#fff\" stroke=\"#8a8a8a\"/></marker>
+<marker id=\"any\" markerWidth=\"14\" markerHeight=\"10\" refX=\"12\" refY=\"5\" orient=\"auto\" markerUnits=\"userSpaceOnUse\"><path d=\"M1 1L10 5L1 9z\" fill=\"#444\"/></marker>
+<marker id=\"any-ignored\" markerWidth=\"14\" markerHeight=\"10\" refX=\"12\" refY=\"5\" orient=\"auto\" markerUnits=\"userSpaceOnUse\"><path d=\"M1 1L10 5L1 9z\" fill=\"#fff\" stroke=\"#444\"/></marker>
 ";
 
 /// Writes the beginning of a picture: its size, its looks, the hatching and the heads of arrows.

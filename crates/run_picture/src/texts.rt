@@ -9,7 +9,7 @@ use ids::{GrantId, Outcome, Progress};
 use node_core::SubState;
 use std::fmt::{self, Write};
 
-/// Who acts or is addressed: a worker by its start word, and the clearinghouse of an epoch as G and the epoch.
+/// Who acts or is addressed: a worker by its start word, the clearinghouse of an epoch as H and the epoch, and that of any epoch as `house`.
 #[derive(Clone, Copy)]
 pub(crate) struct Who(pub(crate) u64);
 
@@ -18,7 +18,9 @@ impl fmt::Display for Who {
         let word = self.0;
         if word > HOUSE {
             let epoch = word - HOUSE;
-            write!(f, "G{epoch}")
+            write!(f, "H{epoch}")
+        } else if word == HOUSE {
+            write!(f, "house")
         } else {
             write!(f, "{word}")
         }
@@ -50,7 +52,7 @@ pub(crate) struct GrantName(pub(crate) GrantId);
 impl fmt::Display for GrantName {
     fn fmt<W: fmt::Write>(&self, f: &mut fmt::Formatter<W>) -> fmt::Result {
         let (minter, number) = (Who(self.0.minter().word()), self.0.number());
-        write!(f, "{minter} {number}")
+        write!(f, "{minter}/{number}")
     }
 }
 
@@ -83,16 +85,61 @@ impl fmt::Display for SiteName {
     }
 }
 
-/// An event by the words of its line. The clearinghouse of an epoch stands there as G and the epoch, and the bytes of a cut are left out.
+/// A name of the program: ASCII letters, digits and `_`.
 #[derive(Clone, Copy)]
-pub(crate) struct EventWords(pub(crate) Step);
+pub(crate) struct ThreadName<'r>(pub(crate) &'r [u8]);
 
-impl fmt::Display for EventWords {
+impl<'r> fmt::Display for ThreadName<'r> {
     fn fmt<W: fmt::Write>(&self, f: &mut fmt::Formatter<W>) -> fmt::Result {
-        match self.0.site {
-            Site::House => write_house_words(f, self.0.deed),
-            Site::At(place) => write_node_words(f, place.index(), self.0.deed),
+        for letter in self.0 {
+            f.write_char(char::from(*letter))?;
         }
+        Ok(())
+    }
+}
+
+/// The name of a lane once more, with the worker that started there last.
+#[derive(Clone, Copy)]
+pub(crate) struct AgainName(pub(crate) Site, pub(crate) Option<u64>);
+
+impl fmt::Display for AgainName {
+    fn fmt<W: fmt::Write>(&self, f: &mut fmt::Formatter<W>) -> fmt::Result {
+        match self.1 {
+            Some(word) => write!(f, "{}: worker {word}", SiteName(self.0)),
+            None => write!(f, "{}", SiteName(self.0)),
+        }
+    }
+}
+
+/// An event by the words of its line, in which a grant has its short name and the bytes of a cut are left out, and the name of the thread
+/// whose body it ran, if it did.
+#[derive(Clone, Copy)]
+pub(crate) struct EventWords<'r> {
+    pub(crate) step: Step,
+    pub(crate) thread: Option<&'r [u8]>,
+}
+
+impl<'r> fmt::Display for EventWords<'r> {
+    fn fmt<W: fmt::Write>(&self, f: &mut fmt::Formatter<W>) -> fmt::Result {
+        match self.step.site {
+            Site::House => write_house_words(f, self.step.deed)?,
+            Site::At(place) => write_node_words(f, place.index(), self.step.deed)?,
+        }
+        match self.thread {
+            Some(thread) => write!(f, ": {}", ThreadName(thread)),
+            None => Ok(()),
+        }
+    }
+}
+
+/// What a fold is called, by how many events it has.
+#[derive(Clone, Copy)]
+pub(crate) struct FoldWords(pub(crate) usize);
+
+impl fmt::Display for FoldWords {
+    fn fmt<W: fmt::Write>(&self, f: &mut fmt::Formatter<W>) -> fmt::Result {
+        let count = self.0;
+        write!(f, "{count} events in which no body runs")
     }
 }
 
@@ -101,7 +148,7 @@ fn write_house_words<W: fmt::Write>(f: &mut fmt::Formatter<W>, deed: Deed) -> fm
     match deed {
         Deed::Deliver(packet) => write!(f, "house-deliver {packet}"),
         Deed::Tick(moment) => write!(f, "house-tick {moment}"),
-        Deed::Restart => write!(f, "house-restart"),
+        Deed::Open | Deed::Restart => write!(f, "house-restart"),
         Deed::Crash => write!(f, "house-crash"),
         Deed::Cut(calls, HouseEvent::Deliver(packet)) => {
             write!(f, "cut {calls} house-deliver {packet}")
@@ -123,7 +170,7 @@ fn write_node_words<W: fmt::Write>(
         Deed::Deliver(packet) => write!(f, "deliver {place} {packet}"),
         Deed::Exec(frame) => {
             let (minter, number, frame) = (Who(frame.minter), frame.number, frame.frame);
-            write!(f, "exec {place} {minter} {number} {frame}")
+            write!(f, "exec {place} {minter}/{number} {frame}")
         }
         Deed::Ask(Asked::House) => write!(f, "ask {place} house"),
         Deed::Ask(Asked::Worker(word)) => write!(f, "ask {place} {word}"),

@@ -4,7 +4,7 @@
 //! no slot was filled twice, each value in a slot is the one that the serial program puts there, no grant has two live holders, and a
 //! recorded outcome is the job's meaning; once recorded it stays. Every packet that was sent and all that is held and not frozen agrees
 //! with the serial meaning. And nothing is lost: while the clearinghouse is open and wants an outcome, the work of each wanted grant is
-//! somewhere, or can come again, and where all of it is held, somebody can go on. That is put together of three things.
+//! somewhere, or is cut off, and where all of it is held, somebody can go on. That is put together of three things.
 //!
 //! # Each step of the world is a list of moves on tables that show it (`moves`)
 //!
@@ -30,11 +30,11 @@
 //! # Nothing is lost (`loss`)
 //!
 //! In each world of a run in which the clearinghouse is open, the root's grant is out and no outcome is recorded, the work of each
-//! wanted grant is somewhere, or can come again. A grant is wanted if it is the root's, or if a record of a live subcomputation of a
+//! wanted grant is somewhere, or is cut off. A grant is wanted if it is the root's, or if a record of a live subcomputation of a
 //! wanted grant waits for it. Its work has a live holder; or a thief awaits it, whose Grant was sent; or a leaving node holds it frozen;
-//! or somebody is cut off to whom it went, or to whom the grant went that waits for it, so that a roster will have it done again. And
-//! where each wanted grant has a live holder, one of these has a ready frame or has finished: so not all wait for each other
-//! (`nothing_is_lost`).
+//! or somebody is cut off to whom it went, or to whom the grant went that waits for it. And where each wanted grant has a live holder,
+//! one of these has a ready frame or has finished: so not all wait for each other (`nothing_is_lost`). It says where work is, and
+//! nothing of what is done next: not that a roster comes, nor that work that was cut off is done again.
 #![tactic(auto)]
 
 mod agrees;

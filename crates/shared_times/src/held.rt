@@ -1,7 +1,7 @@
+use crate::job_of;
 use anyhow::{Result, bail};
-use kind_check::check;
-use node_runner::{Faults, Gate, RunConfig, run_job};
-use serial_meaning::{Job, Outcome};
+use node_runner::{Faults, Gate, Ran, RunConfig, run_job};
+use serial_meaning::Outcome;
 use std::alloc::Global;
 use std::str::from_utf8;
 use std::sync::Wait;
@@ -9,7 +9,6 @@ use std::sync::atomic::AtomicU64;
 use std::sync::atomic::Ordering::SeqCst;
 use std::thread::Threads;
 use std::time::Clock;
-use task_syntax::parse;
 
 /// The Fibonacci numbers.
 const FIB: &[u8] =
@@ -73,8 +72,6 @@ impl Gate for Holding {
     fn may_go(&self, body: u64) -> bool {
         body != HELD || self.goes.load(SeqCst) == 1
     }
-
-    fn passed(&self, _events: u64, _packets: u64) {}
 }
 
 /// Runs a Fibonacci number on so many nodes with so many body workers each, under the gate. The script of the run, and behind it how many
@@ -88,7 +85,7 @@ pub fn run_held<R: Threads + Wait + Clock + Sync>(
 ) -> Result<String> {
     let mut input = Vec::new(alloc);
     input.push(held.input)?;
-    let job = Job::new(check(alloc, parse(alloc, FIB)?)?, input, 1)?;
+    let job = job_of(alloc, FIB, input)?;
     let Some(config) = RunConfig::new(nodes, bodies, held.faults, TURNS) else {
         bail!("no such run");
     };
@@ -98,11 +95,15 @@ pub fn run_held<R: Threads + Wait + Clock + Sync>(
         before: held.before,
     };
     let ran = run_job(rt, alloc, &job, &config, &gate)?;
+    told(alloc, &ran, gate.begun.load(SeqCst))
+}
+
+/// The script of a run, and behind it how many bodies began, and the value.
+fn told(alloc: Global, ran: &Ran, begun: u64) -> Result<String> {
     let Outcome::Value(value) = ran.outcome else {
         bail!("too deep");
     };
     let text = ran.trace.script(alloc)?;
     let script = from_utf8(text.as_slice())?;
-    let begun = gate.begun.load(SeqCst);
     Ok(format!(in alloc; "{script}# bodies {begun}\n# value {value}")?)
 }

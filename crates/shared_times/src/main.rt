@@ -1,6 +1,6 @@
 //! What threads share without waiting, again and again, for `bench/shared`, which takes the time:
 //! `shared_times draws|adds|tickets|reads|loads THREADS ROUNDS` prints how often it was done in all. At most 64 threads do it.
-//! `shared_times held|faulty NODES BODIES` runs a job under a gate that holds a body, for `examples/run_nodes`.
+//! `shared_times held|faulty NODES BODIES` runs a job under a gate that holds a body, for `tests/run_nodes.py`.
 #![tactic(auto)]
 
 mod held;
@@ -125,10 +125,16 @@ fn read(board: &Board, rounds: u64) -> u64 {
     found
 }
 
+/// The job of a program on a list of numbers.
+pub(crate) fn job_of(alloc: Global, text: &[u8], input: Vec<i64>) -> Result<Job> {
+    let program = check(alloc, parse(alloc, text)?)?;
+    Ok(Job::new(program, input, 1)?)
+}
+
 /// A board on which the outcome of a small job stands.
 fn published(alloc: Global) -> Result<Board> {
     let text = b"thread main(k) { send_argument(k, 7); }";
-    let job = Job::new(check(alloc, parse(alloc, text)?)?, Vec::new(alloc), 1)?;
+    let job = job_of(alloc, text, Vec::new(alloc))?;
     let outcome = serial(alloc, &job, 1)?;
     let board = Board::new(alloc, &job);
     if board.publish(&mut board.note(), outcome).is_err() {

@@ -22,7 +22,8 @@
 //! an invariant is to say what a history means for the rest of the value.
 //!
 //! **Shown by tests alone**: that `new` succeeds while there is memory; that a try finds the value where it is in the lock, and
-//! else the actor that has it; that `take` comes to an end. For the last there is also an argument. A thread sleeps only while
+//! else the actor that has it; that a thread which sleeps counts as waiting, and is woken by a put; that `take` comes to an
+//! end. For the last there is also an argument. A thread sleeps only while
 //! the word has the number that it saw there, of a holder that is still to put the value back. It says that it waits before it
 //! looks at the word, and each `put` frees the word, looks then whether anybody waits, and wakes one sleeper if so. This one takes
 //! the value, and wakes the next when it puts it back, or sleeps behind another holder, which will. So no sleeper is left behind as

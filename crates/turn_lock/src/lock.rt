@@ -9,6 +9,7 @@ use crate::history::KeepsHistory;
 use crate::law::{Came, Deal, Law, PutBack, SeatView, Terms, Took};
 use crate::seat::LockSeat;
 use atomic_table::{Seat, Table};
+use crossbeam_utils::CachePadded;
 use std::alloc::{AllocError, Global};
 use std::hint::spin_loop;
 use std::marker::Model;
@@ -33,8 +34,8 @@ type Slots<T> = Table<
 pub struct TurnLock<T: KeepsHistory + Drop> {
     pub(crate) table: Slots<T>,
     actors: usize,
-    // How many threads sleep until the value is there, or are about to.
-    waiting: AtomicU64,
+    // How many threads sleep until the value is there, or are about to. All actors read it, so it has a cache line of its own.
+    pub(crate) waiting: CachePadded<AtomicU64>,
 }
 
 impl<T: KeepsHistory + Drop> Model for TurnLock<T> {
@@ -74,7 +75,7 @@ impl<T: KeepsHistory + Drop> TurnLock<T> {
         for _ in 0..actors {
             dealt.push(deal(&table, &mut all, dealt.len() as u64))?;
         }
-        let waiting = AtomicU64::new(0);
+        let waiting = CachePadded::new(AtomicU64::new(0));
         Ok((
             TurnLock {
                 table,

@@ -1,11 +1,15 @@
-ghost use Rattle.std.specs.Prelude.{All, None, Some};
+ghost use Rattle.std.specs.Prelude.{All, IfOk, None, Some};
 ghost use Rattle.turn_lock.specs.Seats.{IsFreeSeatOf};
 
 use crate::{KeepsHistory, LockSeat, TurnLock};
-use std::alloc::AllocError;
+use std::alloc::{AllocError, Global};
 use std::sync::Wait;
+use std::sync::atomic::AtomicU64;
+use std::sync::atomic::Ordering::SeqCst;
 use std::test::Fail;
 use std::thread;
+use std::thread::join;
+use std::time::{Clock, Duration};
 
 /// Lines, each an actor and a number.
 #[derive(Drop)]
@@ -117,6 +121,94 @@ fn four_threads_write_each_line_once_in_its_order(rt: HostRuntime) -> Result<(),
     )?;
     let lines = end(lock, seats).ok_or(AllocError)?;
     assert_eq!(rt; counts(lines.as_slice()), Some([25000; 4]));
+    Ok(())
+}
+
+/// Waits until the word isn't 0, some twenty seconds at most. Whether it came to that.
+fn comes<R: Clock>(rt: &R, word: &AtomicU64) -> bool {
+    for _ in 0..20_000 {
+        if word.load(SeqCst) != 0 {
+            return true;
+        }
+        thread::sleep(rt, Duration::from_millis(1));
+    }
+    false
+}
+
+/// Takes the value, says so, and puts it back only once another thread waits for it. Whether that one counted as waiting, and
+/// whether it had the value then; where it hadn't, it is woken here, so that the test ends.
+fn put_late<R: Clock + Wait>(
+    rt: &R,
+    lock: &TurnLock<Lines>,
+    mut seat: LockSeat<Lines>,
+    taken: &AtomicU64,
+    had: &AtomicU64,
+) -> (LockSeat<Lines>, (bool, bool))
+    requires { IsFreeSeatOf lock.now seat }
+    ensures { IsFreeSeatOf lock.entry.now result.0 }
+{
+    let kept = lock.take(rt, &mut seat);
+    taken.store(1, SeqCst);
+    let counted = comes(rt, &lock.waiting);
+    // By now it sleeps.
+    thread::sleep(rt, Duration::from_millis(50));
+    lock.put(&mut seat, kept);
+    let woken = comes(rt, had);
+    if !woken {
+        lock.table.shared.wake_one(0);
+    }
+    (seat, (counted, woken))
+}
+
+/// Waits for the value, once another has it, and says that it had it.
+fn take_late<R: Clock + Wait>(
+    rt: &R,
+    lock: &TurnLock<Lines>,
+    seat: LockSeat<Lines>,
+    taken: &AtomicU64,
+    had: &AtomicU64,
+) -> LockSeat<Lines>
+    requires { IsFreeSeatOf lock.now seat }
+    ensures { IsFreeSeatOf lock.entry.now result }
+{
+    let _ = comes(rt, taken);
+    let seat = write_all(rt, lock, seat, 1);
+    had.store(1, SeqCst);
+    seat
+}
+
+/// A lock for two actors, with their seats.
+fn for_two(alloc: Global) -> Result<(TurnLock<Lines>, LockSeat<Lines>, LockSeat<Lines>), AllocError>
+    ensures { IfOk result (λ r. IsFreeSeatOf r.0 r.1 × IsFreeSeatOf r.0 r.2) }
+{
+    let all = Vec::new(alloc);
+    let (lock, mut seats) = TurnLock::new(alloc, Lines { all }, 2, ())?;
+    let second = seats.pop().ok_or(AllocError)?;
+    let first = seats.pop().ok_or(AllocError)?;
+    Ok((lock, first, second))
+}
+
+#[test]
+fn a_sleeper_counts_and_is_woken(rt: HostRuntime) -> Result<(), Fail> {
+    let (lock, first, second) = for_two(rt.alloc())?;
+    let (shared, taken, had) = (&lock, &AtomicU64::new(0), &AtomicU64::new(0));
+    let ((first, seen), second) = join(
+        &rt,
+        || -> (LockSeat<Lines>, (bool, bool))
+            requires { IsFreeSeatOf shared.now first }
+            ensures { IsFreeSeatOf shared.entry.now result.0 }
+        { put_late(&rt, shared, first, taken, had) },
+        || -> LockSeat<Lines>
+            requires { IsFreeSeatOf shared.now second }
+            ensures { IsFreeSeatOf shared.entry.now result }
+        { take_late(&rt, shared, second, taken, had) },
+    );
+    assert_eq!(rt; (seen, lock.waiting.load(SeqCst)), ((true, true), 0));
+    let mut seats = Vec::new(rt.alloc());
+    seats.push(first)?;
+    seats.push(second)?;
+    let lines = end(lock, seats).ok_or(AllocError)?;
+    assert_eq!(rt; lines.as_slice(), [(1, 0)].as_slice());
     Ok(())
 }
 

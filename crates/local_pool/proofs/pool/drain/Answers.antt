@@ -8,5 +8,5 @@ pop_as-requires-clause-fifo g c = λ _. takes _ _ (omega (arith, c.loop-ticket.i
 pub returns : goal.returns
 returns g c = λ weight.
     let kept = c.loop-ticket.invariant in
-    let all = (handed _ 0 kept.owners (omega (arith, kept.parts)) c.in_default.ensures.rule.1).1 refl weight in
+    let all = (handed _ 0 kept.owners (omega (arith, kept.parts)) c.in_default.ensures.rule.1).2 refl weight in
     ap (sum_by weight) (sym kept.offered) ∙ all ∙ ap (sum_by weight) kept.taken

@@ -1,7 +1,7 @@
 use Rattle.std.proofs.Common.{◌≡◌, rules, subst, sym, false}
 use Rattle.disk.specs.Device.{Device}
 use Rattle.world_steps.specs.Calls.{WorldOn}
-use Rattle.world_steps.specs.Runs.{CanBegin}
+use Rattle.world_steps.specs.Runs.{IsFormattedFor}
 use Rattle.world_steps.specs.World.{first_over}
 use Rattle.chronicle.specs.Kept.{Reaches}
 use Rattle.chronicle.proofs.Runs.{begins, begun_world}
@@ -13,4 +13,4 @@ invariant_of-result c =
     subst (λ (w : WorldOn). Reaches w.job c.new-3.result.items w.world false) (sym c.in-Ok.ensures.ok) first
 
 pub returns-clause-world : goal.returns-clause-world
-returns-clause-world c = subst (λ (w : WorldOn). (d : Device) × CanBegin c.args.job.now d × (w.world ≡ first_over d)) (sym c.in-Ok.ensures.ok) (begun_world c.args.job.now _ c.in_ok-first.ensures)
+returns-clause-world c = subst (λ (w : WorldOn). (d : Device) × IsFormattedFor c.args.job.now d × (w.world ≡ first_over d)) (sym c.in-Ok.ensures.ok) (begun_world c.args.job.now _ c.in_ok-first.ensures)

@@ -1,0 +1,103 @@
+//! The file beside a store, which says whose it is: by a digest of a program and an input.
+
+use crate::failure::{Failure, Why};
+use crate::named::Place;
+use serial_meaning::Job;
+use sha2::{Digest, Sha256};
+use std::alloc::{AllocError, Global};
+use std::fs::{self, File};
+use std::io::{self, Read, Write};
+use std::rt::Files;
+use task_syntax::{PrintError, print};
+
+/// How the line of such a file begins, and how many digits and bytes it has.
+const HEAD: &[u8] = b"cilknow-job 1 ";
+
+const DIGITS: usize = 64;
+
+const LENGTH: u64 = 79;
+
+/// The line that says that a store is of a job: the digest of its program and its input. The text is the one that the program was read from.
+pub fn line_of(alloc: Global, job: &Job, text: &[u8]) -> Result<Vec<u8>, AllocError> {
+    let digest = digest_of(alloc, job, text)?;
+    let mut line = Vec::from_slice(alloc, HEAD)?;
+    for byte in digest.iter() {
+        write!(line, "{:02x}", *byte).map_err(|_| AllocError)?;
+    }
+    line.push(b'\n')?;
+    Ok(line)
+}
+
+/// The digest of a program's one form and, as a line, of its input. Where the form would be too long, the text stands for it, behind a line
+/// with its length.
+fn digest_of(alloc: Global, job: &Job, text: &[u8]) -> Result<[u8; 32], AllocError> {
+    let mut hasher = Sha256::new();
+    match print(alloc, job.checked().program()) {
+        Ok(form) => hasher.update(form.as_slice()),
+        Err(PrintError::TooLong) => {
+            let head = String::format(alloc, format_args!("text {}\n", text.len()))?;
+            hasher.update(head.as_bytes());
+            hasher.update(text);
+        }
+        Err(PrintError::Memory) => return Err(AllocError),
+    }
+    let line = input_line(alloc, job.input())?;
+    hasher.update(line.as_slice());
+    Ok(hasher.finalize())
+}
+
+/// An input as a line.
+fn input_line(alloc: Global, input: &[i64]) -> Result<Vec<u8>, AllocError> {
+    let mut line = Vec::from_slice(alloc, b"inputs".as_slice())?;
+    for number in input {
+        write!(line, " {number}").map_err(|_| AllocError)?;
+    }
+    line.push(b'\n')?;
+    Ok(line)
+}
+
+/// Writes such a line to the file beside a store, so that it is on the disk.
+pub fn write_beside<R: Files<File = File>>(rt: &R, beside: &str, line: &[u8]) -> io::Result<()> {
+    let mut file = fs::create(rt, beside)?;
+    file.write_all(line)?;
+    file.sync_all()
+}
+
+/// Whether the file beside a store says that the store is of the job of this line: false where it isn't there. E70 where it names another one,
+/// E71 where it names none, and a fault of a file where it can't be read.
+pub fn is_said<R: Files<File = File> + AllocGlobal>(
+    rt: &R,
+    beside: &str,
+    line: &[u8],
+) -> Result<bool, Failure> {
+    match read_beside(rt, beside) {
+        Ok(said) if said.as_slice() == line => Ok(true),
+        Ok(said) if is_line(said.as_slice()) => Err(Failure::store(70, Why::OtherJob)),
+        Ok(_) => Err(Failure::store(71, Why::NoJob)),
+        Err(e) if e.kind() == io::ErrorKind::NotFound => Ok(false),
+        Err(e) => Err(Failure::file(Place::Beside, e)),
+    }
+}
+
+/// What the file beside a store has: of a longer one a byte more than a line.
+fn read_beside<R: Files<File = File> + AllocGlobal>(rt: &R, beside: &str) -> io::Result<Vec<u8>> {
+    let mut bytes = Vec::new(rt.alloc());
+    fs::open(rt, beside)?
+        .take(LENGTH + 1)
+        .read_to_end(&mut bytes)?;
+    Ok(bytes)
+}
+
+/// Whether bytes are such a line of any job.
+fn is_line(bytes: &[u8]) -> bool {
+    let Some(rest) = bytes.strip_prefix(HEAD) else {
+        return false;
+    };
+    let Some(digits) = rest.strip_suffix(b"\n".as_slice()) else {
+        return false;
+    };
+    digits.len() == DIGITS
+        && digits
+            .iter()
+            .all(|it| matches!(*it, b'0'..=b'9' | b'a'..=b'f'))
+}

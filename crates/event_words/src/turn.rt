@@ -1,0 +1,153 @@
+//! The words of a turn: which frame a node ran, and what that came to.
+
+use crate::names::MinterName;
+use crate::packet::write_thread;
+use event_script::{Event, FrameOf, NodeEvent, NodePlace};
+use ids::{Frame, FrameNo, Outcome, Progress};
+use node_core::{Fill, Node};
+use std::io::{self, Write};
+use subcomputation::Sub;
+use task_tree::Program;
+use world::World;
+
+/// A frame that an event runs, and the place whose node does.
+#[derive(Clone, Copy)]
+pub(crate) struct Ran {
+    place: NodePlace,
+    frame: FrameOf,
+}
+
+/// What an event runs, if it does.
+pub(crate) fn ran_in(event: &Event) -> Option<Ran> {
+    match event {
+        Event::AtNode(place, NodeEvent::Exec(frame)) => Some(Ran {
+            place: *place,
+            frame: *frame,
+        }),
+        _ => None,
+    }
+}
+
+/// Writes an event that runs a frame: its place, the grant, and the frame's number.
+pub(crate) fn write_ran<O: Write>(out: &mut O, ran: &Ran) -> io::Result<()> {
+    let frame = ran.frame;
+    write!(
+        out,
+        "exec {} {}/{} {}",
+        ran.place.index(),
+        MinterName(frame.minter),
+        frame.number,
+        frame.frame
+    )
+}
+
+/// Writes the thread and the numbers of a frame that is to run, in the world before that; nothing where it isn't there.
+pub(crate) fn write_task<O: Write>(out: &mut O, world: &World<'_>, ran: &Ran) -> io::Result<()> {
+    let Some(node) = world.node(ran.place) else {
+        return Ok(());
+    };
+    match (sub_of(node, ran), u32::try_from(ran.frame.frame)) {
+        (Some(sub), Ok(number)) => write_number(out, world, sub, number),
+        _ => Ok(()),
+    }
+}
+
+/// The subcomputation of a frame.
+fn sub_of<'n>(node: &'n Node<'_>, ran: &Ran) -> Option<&'n Sub> {
+    node.parts()
+        .held()
+        .get((ran.frame.minter, ran.frame.number))
+}
+
+/// Writes the words of the frame of a number, if it is there.
+fn write_number<O: Write>(
+    out: &mut O,
+    world: &World<'_>,
+    sub: &Sub,
+    number: u32,
+) -> io::Result<()> {
+    match sub.content().frames.get(FrameNo::of(number)) {
+        Some(frame) => write_frame(out, world.job().checked().program(), frame),
+        None => Ok(()),
+    }
+}
+
+/// Writes the thread of a frame on what its slots hold, `?` for one that waits.
+fn write_frame<O: Write>(out: &mut O, program: &Program, frame: &Frame) -> io::Result<()> {
+    write_thread(out, program, frame.thread)?;
+    write!(out, "(")?;
+    for (index, slot) in frame.slots.as_slice().iter().enumerate() {
+        let sign = if index == 0 { "" } else { ", " };
+        match slot {
+            Some(value) => write!(out, "{sign}{value}")?,
+            None => write!(out, "{sign}?")?,
+        }
+    }
+    write!(out, ")")
+}
+
+/// Writes what a turn came to, in the world after it: the value that it sent, and whither; or the frames that it made.
+pub(crate) fn write_end<O: Write>(
+    out: &mut O,
+    world: &World<'_>,
+    ran: &Ran,
+    fills: usize,
+) -> io::Result<()> {
+    let last = world.fills().saturating_sub(1) as u64;
+    if let (true, Some(fill)) = (fills > 0, world.fill(last)) {
+        return write_sent(out, fill);
+    }
+    let Some(node) = world.node(ran.place) else {
+        return Ok(());
+    };
+    let Some(sub) = sub_of(node, ran) else {
+        return Ok(());
+    };
+    match &sub.content().progress {
+        Progress::Active => write_join(out, world, sub, node.parts().last_turn().came),
+        Progress::Finished(outcome) => write_outcome(out, *outcome),
+    }
+}
+
+/// Writes where a value went.
+fn write_sent<O: Write>(out: &mut O, fill: &Fill) -> io::Result<()> {
+    write!(
+        out,
+        " sends {} to slot {} of frame {}",
+        fill.value,
+        fill.slot,
+        fill.frame.number()
+    )
+}
+
+/// Writes that a turn ended the whole.
+fn write_outcome<O: Write>(out: &mut O, outcome: Outcome) -> io::Result<()> {
+    match outcome {
+        Outcome::Value(value) => write!(out, " sends {value}, the subcomputation's outcome"),
+        Outcome::TooDeep => {
+            write!(
+                out,
+                " is too deep to join: the subcomputation's outcome is too deep"
+            )
+        }
+    }
+}
+
+/// Writes the last frames, so many: the successor that a turn made, and the kids of its holes.
+fn write_join<O: Write>(out: &mut O, world: &World<'_>, sub: &Sub, came: usize) -> io::Result<()> {
+    let Ok(came) = u32::try_from(came) else {
+        return Ok(());
+    };
+    let behind = sub.content().next.number();
+    for index in 0..came {
+        let sign = match index {
+            0 => " joins ",
+            1 => " with ",
+            _ => ", ",
+        };
+        write!(out, "{sign}")?;
+        let number = behind.saturating_sub(came.saturating_sub(index));
+        write_number(out, world, sub, number)?;
+    }
+    Ok(())
+}

@@ -1,0 +1,75 @@
+"""What the scripts of this folder share: where the tree is, files as texts, and the last line that each of them
+prints."""
+import importlib
+import os
+import sys
+
+sys.dont_write_bytecode = True
+
+TOP = os.path.dirname(os.path.dirname(os.path.realpath(__file__)))
+CRATES = os.path.join(TOP, "crates")
+EXAMPLES = os.path.join(TOP, "examples")
+
+
+def read(path):
+    with open(path, encoding="utf-8") as it:
+        return it.read()
+
+
+def write(path, text):
+    """Writes a file whole, or leaves the one that is there."""
+    with open(f"{path}.new", "w", encoding="utf-8") as it:
+        it.write(text)
+    os.replace(f"{path}.new", path)
+
+
+def module_in(folder, name):
+    """A module of another folder of the repository."""
+    if f"{TOP}/{folder}" not in sys.path:
+        sys.path.insert(0, f"{TOP}/{folder}")
+    return importlib.import_module(name)
+
+
+def in_tree(path):
+    """A path as it is written from the top of the repository on."""
+    return os.path.relpath(path, TOP)
+
+
+def files_in(folder, ending):
+    """The files of a folder, and of those in it, whose names end so; none where there is no such folder."""
+    found = []
+    for place, folders, names in os.walk(folder):
+        folders.sort()
+        found += [os.path.join(place, name) for name in sorted(names) if name.endswith(ending)]
+    return found
+
+
+def crates():
+    """The crates by crates.txt, in its order: each with the libraries that its line names."""
+    found = {}
+    for line in read(f"{TOP}/crates.txt").splitlines():
+        name, colon, below = line.partition("#")[0].partition(":")
+        if colon:
+            # (words behind the name say how the crate is built)
+            found[name.split()[0]] = below.split()
+    return found
+
+
+class Tally:
+    """How many checks passed and failed. What is told of one that failed goes to standard error."""
+
+    def __init__(self):
+        self.passed = self.failed = 0
+
+    def tell(self, good, what):
+        good = bool(good)
+        self.passed += good
+        self.failed += not good
+        if not good:
+            print(what, file=sys.stderr)
+        return good
+
+    def end(self):
+        """Prints the last line, and gives the status of the program."""
+        print(f"{self.passed} passed, {self.failed} failed")
+        return 1 if self.failed or not self.passed else 0

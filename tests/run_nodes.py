@@ -1,0 +1,363 @@
+#!/usr/bin/env -S python3 -B
+"""Runs jobs on nodes, each on a thread, and looks whether each outcome is the right one and each trace replays to it.
+
+Usage: tests/run_nodes.py [PROGRAM [REPLAYER [HOLDER [WORDS]]]], by default bin/cilknow, bin/nowsim, the built shared_times and 100.
+
+On four nodes, of which two crash and one leaves, one packet in three being lost and one in three coming twice, the
+Fibonacci number of 12 is run once for each fault word from 1 on, with one body worker a node and with three. A run that
+ends has the value 144, and its trace replays to it; of some, what was counted is the same in the run and in its replay;
+at least half of them end, all others have spent their turns, and few nodes leave to a worker that has crashed. Then
+come runs under a gate that holds a body until the next one has begun, which only another thread can do, and under one
+that holds a body while each node crashes or leaves; nodes that crash with many turns of their body workers on the way;
+one node that crashes twice and its log, nodes that share their work, packets that are lost or come twice, a node that
+leaves, rows of the examples on one to 64 nodes, runs whose threads can't all be made, one that waits for a thread, and
+options that are refused. The last line counts; the status is 1 where anything failed.
+"""
+import os
+import re
+import resource
+import shutil
+import subprocess
+import sys
+import tempfile
+import time
+
+from common import EXAMPLES, TOP, Tally
+
+PROGRAM = sys.argv[1] if len(sys.argv) > 1 else f"{TOP}/bin/cilknow"
+REPLAYER = sys.argv[2] if len(sys.argv) > 2 else f"{TOP}/bin/nowsim"
+HOLDER = sys.argv[3] if len(sys.argv) > 3 else f"{TOP}/crates/shared_times/out/shared_times"
+WORDS = int(sys.argv[4]) if len(sys.argv) > 4 else 100
+# The program itself, where PROGRAM is the script that calls it.
+BUILT = PROGRAM if len(sys.argv) > 1 else f"{TOP}/crates/cilknow/out/cilknow"
+FIB = f"{EXAMPLES}/fib.ck"
+# So many turns: a run that takes more ends with E95.
+TURNS = "100000000"
+# A library by which one of the threads that a program makes, told by its number, begins so many seconds late, or is
+# refused.
+LATE = 6
+LIBRARY = """
+#define _GNU_SOURCE
+#include <dlfcn.h>
+#include <errno.h>
+#include <pthread.h>
+#include <stdlib.h>
+#include <unistd.h>
+
+struct body { void *(*call)(void *); void *with; };
+static int made;
+
+#ifdef SECONDS
+static void *late(void *it) {
+    struct body body = *(struct body *)it;
+    free(it);
+    sleep(SECONDS);
+    return body.call(body.with);
+}
+#endif
+
+int pthread_create(pthread_t *thread, const pthread_attr_t *how, void *(*call)(void *), void *with) {
+    int (*create)(pthread_t *, const pthread_attr_t *, void *(*)(void *), void *);
+    create = dlsym(RTLD_NEXT, "pthread_create");
+    if (__sync_add_and_fetch(&made, 1) != NUMBER) return create(thread, how, call, with);
+#ifdef REFUSED
+    return EAGAIN;
+#else
+    struct body *body = malloc(sizeof *body);
+    *body = (struct body){call, with};
+    return create(thread, how, late, body);
+#endif
+}
+"""
+
+CHECKS = Tally()
+tell = CHECKS.tell
+
+
+def called(*words):
+    done = subprocess.run(words, capture_output=True, text=True, timeout=300)
+    return done.returncode, done.stdout, done.stderr
+
+
+def replayed(trace, value, job):
+    """Whether a trace replays to a value."""
+    status, out, _ = called(REPLAYER, FIB, trace, job)
+    return status == 0 and out.splitlines()[-1:] == [f"outcome value {value}"]
+
+
+def counted(trace, told, job):
+    """Whether in the replay of a trace the same is counted as was told of its run."""
+    status, _, err = called(PROGRAM, "replay", FIB, trace, "--stats", job)
+    return status == 0 and err == told and told.startswith("turns ")
+
+
+def leaves_to_crashed(trace):
+    """Whether a node leaves to a worker that has crashed, by its last departure, as those before were refused."""
+    up, crashed, answer = {}, set(), None
+    with open(trace) as it:
+        for event, *words in map(str.split, it):
+            if event == "start":
+                up[words[0]] = words[1]
+            elif event == "crash":
+                crashed.add(up[words[0]])
+            elif event == "depart":
+                answer = words[1] in crashed
+    return answer
+
+
+def faulty(folder, bodies):
+    """Runs under faults with so many body workers a node, once for each word."""
+    ended, left = 0, []
+    for word in range(1, WORDS + 1):
+        trace = f"{folder}/{bodies} {word}"
+        status, out, err = called(
+            PROGRAM, "run", FIB, "--nodes", "4", "--bodies", bodies, "--lose", "3", "--repeat", "3", "--crash", "2", "--depart", "1",
+            "--faults", str(word), "--turns", TURNS, "--trace", trace, "--stats", "12")
+        if status == 3:
+            tell(err == "cilknow: E95\n" and not os.path.exists(trace), f"{bodies} bodies, word {word}: {err}")
+            continue
+        ended += 1
+        left.append(leaves_to_crashed(trace))
+        tell((status, out) == (0, "value 144\n"), f"{bodies} bodies, word {word}: {status} {out}{err}")
+        tell(replayed(trace, 144, "12"), f"{bodies} bodies, word {word}: the trace has another outcome")
+        if word <= 20:
+            tell(counted(trace, err, "12"), f"{bodies} bodies, word {word}: the trace has other counts than {err}")
+    tell(2 * ended >= WORDS, f"{bodies} bodies: {ended} of {WORDS} runs ended")
+    leave, vain = len(left) - left.count(None), left.count(True)
+    # (at most two in five; about one in four does, and one in two would where the one that started first were taken)
+    tell(5 * vain <= 2 * leave + 10, f"{bodies} bodies: {vain} of {leave} nodes that leave do so to one that has crashed")
+
+
+def traced(folder, name, value, *words):
+    """The lines of the trace of a run that has a value, and replays to it; none where it doesn't."""
+    trace = f"{folder}/{name}"
+    status, out, err = called(PROGRAM, "run", FIB, "--turns", TURNS, "--trace", trace, *words)
+    good = (status, out) == (0, f"value {value}\n")
+    tell(good, f"{name}: {status} {out}{err}")
+    if not good:
+        return []
+    tell(replayed(trace, value, words[-1]), f"{name}: the trace has another outcome")
+    with open(trace) as it:
+        lines = it.read().splitlines()
+    tell(lines[:1] == ["# nodes 64"], f"{name}: no line says how many nodes there may be")
+    return lines
+
+
+def held(folder, nodes, bodies):
+    """A run in which the second body is held until the third one has begun."""
+    trace = f"{folder}/held {nodes}"
+    status, out, err = called(HOLDER, "held", nodes, bodies)
+    tell(status == 0, f"held {nodes}: {status} {err}")
+    with open(trace, "w") as it:
+        it.write(out)
+    lines = out.splitlines()
+    tell(lines[-1:] == ["# value 2"] and replayed(trace, 2, "3"), f"held {nodes}: not the value 2")
+    begun = sum(int(line.split()[2]) for line in lines if line.startswith("# bodies "))
+    places = [line.split()[1] for line in lines if line.startswith("exec ")]
+    tell(max(3, len(places)) <= begun, f"held {nodes}: {len(places)} frames and {begun} bodies")
+    tell(len(set(places)) == int(nodes), f"held {nodes}: frames were carried out at {len(set(places))} places")
+
+
+def held_faulty(folder, nodes, bodies):
+    """A run in which the second body is held while each node crashes or leaves."""
+    trace = f"{folder}/faulty {nodes}"
+    status, out, err = called(HOLDER, "faulty", nodes, bodies)
+    tell(status == 0, f"faulty {nodes}: {status} {err}")
+    with open(trace, "w") as it:
+        it.write(out)
+    lines = out.splitlines()
+    tell(lines[-1:] == ["# value 144"] and replayed(trace, 144, "12"), f"faulty {nodes}: not the value 144")
+    words = [line.split()[:2] for line in lines]
+    gone = [index for index, word in enumerate(words) if word[0] in ("crash", "depart")]
+    tell({word[1] for word in words if word[0] in ("crash", "depart")} == {str(place) for place in range(int(nodes))},
+         f"faulty {nodes}: not each node crashes or leaves")
+    # (fewer bodies began up to there than the one that lets the held one go on: those of frames that were carried out, and of tickets)
+    begun = sum(word[0] == "exec" for word in words[:gone[int(nodes) - 1]]) + 4 * int(nodes) * int(bodies) if len(gone) >= int(nodes) else 400
+    tell(begun < 400, f"faulty {nodes}: {begun} bodies began before all nodes crashed or left")
+
+
+def in_flight(folder):
+    """Two nodes with eight body workers each that crash and leave with up to sixteen turns on their way: these come back, perhaps more of them
+    than their queue has room for, and are refused. How many do depends on the threads' times, so it is run until five did, at most 60 times."""
+    stale = 0
+    for word in range(1, 61):
+        if word > 5 and stale >= 5:
+            break
+        name = f"in flight {word}"
+        lines = traced(folder, name, 610, "--nodes", "2", "--bodies", "8", "--crash", "4", "--depart", "1", "--faults", str(word), "15")
+        tell(any(line.startswith("crash ") for line in lines), f"{name}: no node crashes")
+        _, out, _ = called(PROGRAM, "replay", FIB, f"{folder}/{name}", "--packets", "15")
+        stale += len(re.findall(r"^\d+  exec .*: E(?:40|60)$", out, re.M))
+    tell(stale >= 5, f"in flight: {stale} turns came back too late")
+
+
+def carried_out(trace, job):
+    """The lines that the log of a run has: the starts, crashes and departures of its trace that a replay carries out, and
+    none that is refused."""
+    _, out, _ = called(PROGRAM, "replay", FIB, trace, "--packets", job)
+    return [f"[INFO  cilknow] {line}" for line in re.findall(r"^\d+  ((?:start|crash|depart) [^:]*): sends ", out, re.M)]
+
+
+def departures(folder):
+    """Nodes that leave, some of them not at once: each departure is logged once, and none that was refused."""
+    refused = 0
+    for word in range(1, 9):
+        log = f"{folder}/log {word}"
+        lines = traced(
+            folder, f"departures {word}", 144, "--nodes", "4", "--depart", "3", "--faults", str(word), "--log", log, "12")
+        with open(log) as it:
+            logged = it.read().splitlines()
+        asked = [line for line in lines if line.split()[0] in ("start", "crash", "depart")]
+        tell(logged == carried_out(f"{folder}/departures {word}", "12"), f"departures {word}: the log has {logged}")
+        tell(sum("depart" in line for line in logged) <= 3, f"departures {word}: {logged}")
+        refused += len(asked) - len(logged)
+    tell(refused > 0, "departures: none was refused")
+
+
+def crashes(folder):
+    """One node that crashes twice, and its log."""
+    log = f"{folder}/log"
+    lines = traced(folder, "crashes", 144, "--crash", "2", "--log", log, "12")
+    tell(lines.count("crash 0") >= 2, "crashes: they aren't in the trace")
+    with open(log) as it:
+        logged = it.read().splitlines()
+    told = carried_out(f"{folder}/crashes", "12")
+    tell(logged == told and len(told) >= 5, f"crashes: the log has {logged}")
+
+
+def shares(folder):
+    """Four nodes that share the work of one, as often as each number from 1 on is the job's: in most runs each executes something."""
+    shared = 0
+    for job in range(1, 11):
+        lines = traced(folder, f"shares {job}", 610, "--nodes", "4", "--job", str(job), "15")
+        shared += len({line.split()[1] for line in lines if line.startswith("exec ")}) >= 2
+    tell(shared >= 8, f"shares: in {shared} of 10 runs two nodes execute something")
+
+
+def fates(folder):
+    """Packets that are lost or come twice, and a node that leaves."""
+    lines = traced(folder, "repeated", 144, "--nodes", "2", "--repeat", "1", "12")
+    taken = [line for line in lines if line.startswith(("deliver ", "house-deliver "))]
+    twice = sum(taken.count(line) == 2 for line in set(taken))
+    tell(twice >= len(set(taken)) // 2 > 0, f"repeated: {twice} of {len(set(taken))} packets come twice")
+    lines = traced(folder, "none lost", 144, "--nodes", "2", "12")
+    taken = [line for line in lines if line.startswith(("deliver ", "house-deliver "))]
+    tell(len(taken) == len(set(taken)) > 0, "none lost: a packet comes twice")
+    status, out, err = called(PROGRAM, "run", FIB, "--nodes", "2", "--lose", "1", "--turns", "20000", "12")
+    tell((status, out, err) == (3, "", "cilknow: E95\n"), f"all lost: {status} {out}{err}")
+    lines = traced(folder, "leaves", 610, "--nodes", "4", "--depart", "1", "15")
+    tell(any(line.startswith("depart 3 ") for line in lines), "leaves: no node leaves")
+
+
+def few_threads(folder):
+    """Runs by a user who may have so many threads in all. With enough there is an outcome; with too few the run ends
+    at once, and without an answer where the system holds to that. Only root can become another user here, so else it
+    isn't tried."""
+    if os.getuid() != 0:
+        return
+    os.chmod(folder, 0o755)
+    for name, path in (("program", BUILT), ("fib.ck", FIB)):
+        shutil.copy(path, f"{folder}/{name}")
+        os.chmod(f"{folder}/{name}", 0o755)
+
+    def ran(most):
+        """What a run wrote that may have so many threads, and how many seconds it took."""
+        def becomes():
+            os.setgroups([])
+            os.setgid(65534)
+            os.setuid(65534)
+            resource.setrlimit(resource.RLIMIT_NPROC, (most, most))
+
+        words = (f"{folder}/program", "run", f"{folder}/fib.ck", "--nodes", "2", "7")
+        began = time.monotonic()
+        done = subprocess.run(words, capture_output=True, text=True, timeout=300, preexec_fn=becomes, cwd="/")
+        return (done.returncode, done.stdout, done.stderr), time.monotonic() - began
+
+    answered = 0, "value 13\n", ""
+    try:
+        given, took = ran(64)
+        tell(given == answered, f"enough threads: {given}")
+        for most in 1, 2, 4, 5:
+            given, seconds = ran(most)
+            tell(given in ((3, "", "cilknow: E96\n"), answered), f"{most} threads: {given}")
+            tell(seconds < took + 2, f"{most} threads: the run takes {seconds:.1f} s, and {took:.1f} s with enough")
+    except subprocess.SubprocessError as fault:
+        tell(not isinstance(fault, subprocess.TimeoutExpired), "few threads: the run doesn't end")
+
+
+def with_thread(folder, number, *how):
+    """A run on two nodes whose thread of this number is made as the words say to the C compiler, and how many seconds
+    it took; None without a C compiler. The first four threads are those by which it tries how many it may have."""
+    cc, library = shutil.which("cc"), f"{folder}/thread.so"
+    if cc is None:
+        return None
+    words = (cc, "-shared", "-fPIC", f"-DNUMBER={number}", *how, "-o", library, "-xc", "-", "-ldl")
+    made = subprocess.run(words, input=LIBRARY, capture_output=True, text=True)
+    tell(made.returncode == 0, f"thread {number}: {made.stderr}")
+    words, env = (BUILT, "run", FIB, "--nodes", "2", "7"), {**os.environ, "LD_PRELOAD": library}
+    began = time.monotonic()
+    done = subprocess.run(words, capture_output=True, text=True, timeout=300, env=env)
+    return (done.returncode, done.stdout, done.stderr), time.monotonic() - began
+
+
+def late_thread(folder, number):
+    """A run one of whose threads begins some seconds late: the others wait for it, or are made anew behind it."""
+    ran = with_thread(folder, number, f"-DSECONDS={LATE}")
+    if ran:
+        given, seconds = ran
+        tell(given == (0, "value 13\n", ""), f"late thread {number}: {given}")
+        tell(seconds >= LATE, f"late thread {number}: the run ends after {seconds:.1f} s")
+
+
+def refused_thread(folder, number, answer):
+    """A run one of whose threads is refused: it ends by that where it tries how many it may have, and else all are
+    made anew."""
+    ran = with_thread(folder, number, "-DREFUSED")
+    if ran:
+        given, seconds = ran
+        tell(given == answer, f"refused thread {number}: {given}")
+        tell(seconds < LATE, f"refused thread {number}: the run takes {seconds:.1f} s")
+
+
+def rows():
+    """Rows of the examples on several nodes."""
+    row = re.compile(r"//   (.*[0-9]) +(value -?[0-9]+|too deep)$", re.M)
+    for nodes, name in ((1, "gcd"), (2, "fib"), (8, "binomial"), (3, "collatz"), (64, "fib")):
+        with open(f"{EXAMPLES}/{name}.ck") as it:
+            for words, outcome in row.findall(it.read())[:3]:
+                status, out, err = called(
+                    PROGRAM, "run", f"{EXAMPLES}/{name}.ck", "--nodes", str(nodes), "--repeat", "1000000", "--turns", TURNS, "--", *words.split())
+                tell((status, out) == (0, f"{outcome}\n"), f"{name} {words} on {nodes} nodes: {status} {out}{err}")
+
+
+def refused():
+    """Words that disagree, and turns that don't suffice."""
+    for words in (("--nodes", "0"), ("--nodes", "65"), ("--bodies", "9"), ("--bodies", "0"), ("--bodies", "x"), ("--nodes", "4", "--depart", "4"),
+                  ("--depart", "1"), ("--lose", "-1"), ("--faults", "x")):
+        tell(called(PROGRAM, "run", FIB, *words, "5") == (2, "", "cilknow: usage\n"), f"{' '.join(words)}: no fault of usage")
+    tell(called(PROGRAM, "run", FIB, "--nodes", "2", "--turns", "100", "20") == (3, "", "cilknow: E95\n"), "100 turns suffice")
+    for option in ("--trace", "--log"):
+        tell(called(PROGRAM, "run", FIB, "--nodes", "2", option, "/", "3") == (4, "", "cilknow: file\n"), f"{option}: a folder is written")
+
+
+with tempfile.TemporaryDirectory() as folder:
+    faulty(folder, "1")
+    faulty(folder, "3")
+    held(folder, "1", "2")
+    held(folder, "2", "1")
+    held_faulty(folder, "1", "2")
+    held_faulty(folder, "3", "3")
+    held_faulty(folder, "2", "8")
+    in_flight(folder)
+    crashes(folder)
+    departures(folder)
+    shares(folder)
+    fates(folder)
+    few_threads(folder)
+    late_thread(folder, 2)
+    late_thread(folder, 6)
+    refused_thread(folder, 2, (3, "", "cilknow: E96\n"))
+    refused_thread(folder, 6, (0, "value 13\n", ""))
+rows()
+refused()
+sys.exit(CHECKS.end())
