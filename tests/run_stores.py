@@ -184,14 +184,26 @@ def whose(folder):
     tell(called(FIB, "--store", path, "--explain", "5") == (4, "", told), "a folder beside a store isn't explained")
     os.remove(path)
     tell(called(FIB, "--store", path, "5") == (4, "", "cilknow: file\n"), "a folder beside a new store")
-    tell(bytes_of(path) == b"", "a store is made, and it isn't said whose")
+    tell(not os.path.exists(path), "a store is made, and it isn't said whose")
+    os.rmdir(beside)
+    line = line_of(FIB, "5")
+    # (a file of another kind isn't written over; what a kill may leave is)
+    for other in (b"mine\n", line.upper(), line[:40] + b"g" + line[41:], line + b"\n"):
+        written(beside, other)
+        tell(called(FIB, "--store", path, "5") == (3, "", "cilknow: E71\n"), f"{other} beside no store")
+        tell(bytes_of(beside) == other and not os.path.exists(path), f"{other} beside no store is written over")
+    for part in (b"", line[:5], line[:50], line[:-1]):
+        written(beside, part)
+        tell(called(FIB, "--store", path, "5") == (0, "value 5\n", ""), f"{part} beside no store")
+        tell(bytes_of(beside) == line, f"{part} beside no store stays")
+        os.remove(path)
 
 
 def long_forms(folder):
     """A program whose one form would be too long: its text stands for it."""
     text = written(f"{folder}/long.ck", b"thread main(k,n){let a=" + b"+".join([b"n"] * 60) + b";send_argument(k,a);}"
                    + b"".join(b"thread f%d(k){spawn_next f(k);}" % it for it in range(20)) + b"thread f(k){send_argument(k,1);}")
-    path = f"{folder}/long"
+    path = f"{folder}/a long form"
     tell(called(text, "--store", path, "1") == (0, "value 60\n", ""), "a program of many threads")
     tell(bytes_of(f"{path}.job") == line_of(text, "1"), "the file beside a store of many threads")
     bodies = b"".join(b"thread f%d(k,a){let b=" % it + b"+".join([b"a"] * 64) + b";" + b"".join(

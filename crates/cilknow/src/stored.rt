@@ -3,7 +3,7 @@
 use crate::command::CommandFault;
 use crate::failure::Failure;
 use crate::named::{Place, beside_of, folder_of};
-use crate::whose::{is_said, line_of, write_beside};
+use crate::whose::{is_ours, is_said, line_of, write_beside};
 use checkpoint::{Info, Store, StoreError, inspect};
 use disk::{Disk, FileDisk};
 use job_store::open_store;
@@ -19,7 +19,8 @@ use std::rt::Files;
 /// store, this is told on `err`.
 ///
 /// A fault of a file where one of both can't be opened, or another run has the store; E70 to E73, as `job_store::open_store` says; and E70 where
-/// the file beside the store names another program or input, E71 where it names none. Nothing is written to a store that is there.
+/// the file beside the store names another program or input, E71 where it names none, also where there is no store yet. Nothing is written
+/// to a store that is there, nor over a file of another kind.
 pub fn store_in<R: Files<File = File> + AllocGlobal, E: Write>(
     rt: &R,
     path: &str,
@@ -30,6 +31,7 @@ pub fn store_in<R: Files<File = File> + AllocGlobal, E: Write>(
     let alloc = rt.alloc();
     let line = line_of(alloc, job, text)?;
     let beside = beside_of(alloc, path)?;
+    is_ours(rt, beside.as_str())?;
     let mut disk = own_disk(rt, path)?;
     if is_empty(alloc, &mut disk)? {
         make_beside(rt, path, beside.as_str(), line.as_slice())?;

@@ -79,6 +79,32 @@ pub fn is_said<R: Files<File = File> + AllocGlobal>(
     }
 }
 
+/// Refuses a file beside a store that is of another kind, so that it isn't written over: E71 where it is neither such a line nor the beginning
+/// of one, as a run that is killed may leave it, and a fault of a file where it can't be read.
+pub fn is_ours<R: Files<File = File> + AllocGlobal>(rt: &R, beside: &str) -> Result<(), Failure> {
+    match read_beside(rt, beside) {
+        Ok(said) if is_beginning(said.as_slice()) => Ok(()),
+        Ok(_) => Err(Failure::store(71, Why::NoJob)),
+        Err(e) if e.kind() == io::ErrorKind::NotFound => Ok(()),
+        Err(e) => Err(Failure::file(Place::Beside, e)),
+    }
+}
+
+/// Whether bytes are such a line, or the beginning of one, also an empty one.
+fn is_beginning(bytes: &[u8]) -> bool {
+    for (at, byte) in bytes.iter().enumerate() {
+        let fits = match HEAD.get(at) {
+            Some(own) => *own == *byte,
+            None if at < HEAD.len() + DIGITS => matches!(*byte, b'0'..=b'9' | b'a'..=b'f'),
+            None => at == HEAD.len() + DIGITS && *byte == b'\n',
+        };
+        if !fits {
+            return false;
+        }
+    }
+    true
+}
+
 /// What the file beside a store has: of a longer one a byte more than a line.
 fn read_beside<R: Files<File = File> + AllocGlobal>(rt: &R, beside: &str) -> io::Result<Vec<u8>> {
     let mut bytes = Vec::new(rt.alloc());

@@ -1,6 +1,6 @@
 -- Views that who doesn't look could make up. All that they lack is what a look tells of `never_empty` and of `never`.
 use Rattle.std.proofs.Common.{◌≡◌, ◌≢◌, ℕ, ◌+◌, ◌-◌, ◌^◌, ◌<◌, ◌≤◌, All, List, [], ◌∷◌, ◌++◌, append_assoc, append-nil, length, length-append, set, flat_map, sum_by, None, Some, sym, refl, ap, ◌∙◌, subst, arith}
-use Rattle.std.proofs.lemmas.List.Elements.{All-push}
+use Rattle.std.proofs.lemmas.List.Elements.{All-append, All-push}
 use Rattle.std.proofs.lemmas.List.Sums.{sum_by-append}
 use mathlib.Core.Option.{some, some-ne-none}
 use Rattle.local_pool.specs.declared.law.Hand.{Hand}
@@ -117,3 +117,18 @@ module _ {D S : Type 0} {stamp_of : D → S} where
       (λ weight. omega arith)
       (subst (λ l. All (has stamp_of found.2.mark) l) more (All-push (has stamp_of found.2.mark) all turn found.2.alike (sym same ∙ mark)))
       (λ is. never (let long = length-append items (turn ∷ []) in omega arith))
+
+  -- the other took all turns that were found, and put others
+  pub others_left : (v : Lane D S) (items left : List D) → v.parts ≡ 1 → All (has stamp_of v.stamp) left → v.never ≢ length left + 1 → Found stamp_of v items
+      → Found stamp_of (lane v.never 1 v.put v.taken v.stamp) left
+  others_left v items left one same never found =
+      let gone : List D = found.2.gone in
+      let all : List D = gone ++ items in
+      let put : List (ℕ × D) = numbered_from (0 + length all) left in
+      let taken : List (ℕ × D) = numbered_from (0 + length gone) items in
+      let mark = found.2.known found.1 v found.3 (omega arith) in
+      refit v items left all put taken found one
+      (λ weight. ap (sum_by weight) (numbered_from-append 0 all left) ∙ sum_by-append weight (numbered all) put)
+      (λ weight. ap (sum_by weight) (numbered_from-append 0 gone items) ∙ sum_by-append weight (numbered gone) taken)
+      (All-append (has stamp_of found.2.mark) all left found.2.alike (subst (λ m. All (has stamp_of m) left) mark same))
+      never
