@@ -85,7 +85,7 @@ def shared(folder):
         with open(text, "w", encoding="utf-8") as out:
             out.write(tree(operations))
         few, many = (timed(PROGRAM, "serial", text, str(it * leaves)) for it in (1, 2))
-        took = [timed(PROGRAM, "run", text, "--nodes", str(nodes), "--log", os.devnull, str(leaves))[0] for nodes in (1, 2, 3, 4)]
+        took = [timed(PROGRAM, "run", text, "--nodes", str(nodes), "--grain", "0", "--log", os.devnull, str(leaves))[0] for nodes in (1, 2, 3, 4)]
         gained = " | ".join(f"{took[0] / it:.2f}" for it in took[1:])
         print(f"| {(many[0] - few[0]) / leaves * 1e6:.1f} us | {leaves} | {took[0] * 1e3:.0f} | {gained} |")
 

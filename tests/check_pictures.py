@@ -95,7 +95,7 @@ def look_at_folds(name, root, events, told):
         tell(f"{last - first + 1} events in which no body runs" in {it.text for it in root.iter(f"{SVG}text")}, f"{name}: the words of a fold")
         for at in range(first, last + 1):
             done = not re.match(r"E\d+$|nothing$|ignored$", told[at])
-            stands = events[at][0] in ("exec", "start", "crash", "depart") and done
+            stands = events[at][0] in ("exec", "whole", "start", "crash", "depart") and done
             stands = stands or "outcome" in told[at] or at in dead.values()
             tell(not stands, f"{name}: event {at + 1} is folded")
 

@@ -36,6 +36,7 @@ CHECKS = {
     "progress": f"tests/check_progress.py {CILKNOW} {NOWSIM}",
     "scripts": f"tests/run_scripts {NOWSIM}",
     "scripts_by_cilknow": f"tests/run_scripts {CILKNOW} replay",
+    "wholes": f"tests/whole_scripts.py {CILKNOW} {NOWSIM}",
     "nodes": f"tests/run_nodes.py {CILKNOW} {NOWSIM} {HELD}",
     "stores": f"tests/run_stores.py {CILKNOW}",
     "broken_stores": f"tests/broken_stores.py {CILKNOW}",

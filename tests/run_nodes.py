@@ -31,6 +31,8 @@ WORDS = int(sys.argv[4]) if len(sys.argv) > 4 else 100
 # The program itself, where PROGRAM is the script that calls it.
 BUILT = PROGRAM if len(sys.argv) > 1 else f"{TOP}/crates/cilknow/out/cilknow"
 FIB = f"{EXAMPLES}/fib.ck"
+# The turns of FIB 20: each call is one, and each sum.
+TURNS_OF_20 = 32_836
 # So many turns: a run that takes more ends with E95.
 TURNS = "100000000"
 # A library by which one of the threads that a program makes, told by its number, begins so many seconds late, or is
@@ -234,6 +236,31 @@ def shares(folder):
     tell(shared >= 8, f"shares: in {shared} of 10 runs two nodes execute something")
 
 
+def wholes(folder):
+    """Runs that evaluate tasks whole, in at most so many turns each, with and without faults: the more turns, the fewer events; no run takes
+    less than all turns of the job, nor, without faults, more; and each trace replays to the same outcome and the same counts."""
+    for nodes in "1", "4":
+        events = []
+        for grain in "1", "100", "10000", "1000000":
+            name = f"whole {nodes} {grain}"
+            lines = traced(folder, name, 6765, "--nodes", nodes, "--grain", grain, "--job", grain, "20")
+            kinds = [line.split()[0] for line in lines]
+            events.append(kinds.count("exec") + kinds.count("whole"))
+            status, _, err = called(PROGRAM, "replay", FIB, f"{folder}/{name}", "--stats", "20")
+            taken = sum(int(found) for found in re.findall(r"^(?:turns|turns in them) (\d+)$", err, re.M))
+            tell(status == 0 and taken == TURNS_OF_20, f"{name}: {taken} turns")
+        tell(events == sorted(events, reverse=True) and events[-1] < 100 < events[0], f"whole {nodes}: {events} events")
+    for word in range(1, 21):
+        trace = f"{folder}/whole {word}"
+        status, out, err = called(
+            PROGRAM, "run", FIB, "--nodes", "4", "--bodies", "2", "--lose", "5", "--repeat", "5", "--crash", "1", "--depart", "1", "--grain", "50",
+            "--faults", str(word), "--turns", TURNS, "--trace", trace, "15")
+        tell((status, out) == (0, "value 610\n"), f"whole {word}: {status} {out}{err}")
+        tell(replayed(trace, 610, "15"), f"whole {word}: the trace has another outcome")
+        with open(trace) as it:
+            tell("\nwhole " in it.read(), f"whole {word}: no task is evaluated whole")
+
+
 def fates(folder):
     """Packets that are lost or come twice, and a node that leaves."""
     lines = traced(folder, "repeated", 144, "--nodes", "2", "--repeat", "1", "12")
@@ -352,6 +379,7 @@ with tempfile.TemporaryDirectory() as folder:
     crashes(folder)
     departures(folder)
     shares(folder)
+    wholes(folder)
     fates(folder)
     few_threads(folder)
     late_thread(folder, 2)

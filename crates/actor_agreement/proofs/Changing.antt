@@ -1,5 +1,5 @@
 -- A content changes: by a turn that is carried out, or by a Result.
-use Rattle.std.proofs.Common.{◌≡◌, ℕ, [], ◌∷◌, Option, None, Some, Result, Ok, Err, inl, inr, refl}
+use Rattle.std.proofs.Common.{◌≡◌, ℕ, ℤ, [], ◌∷◌, Option, None, Some, Result, Ok, Err, inl, inr, refl}
 use Rattle.ids.specs.Names.{Grant}
 use Rattle.ids.specs.Options.{◌>>=◌}
 use Rattle.ids.specs.declared.work.Record.{Record}
@@ -28,6 +28,16 @@ use Rattle.run_tables.specs.Tables.{◌∈◌}
 use Rattle.run_tables.proofs.Among.{found_among}
 use Rattle.agreement.specs.Agreement.{FillAgrees, IsReceived}
 use Rattle.content_moves.proofs.Apart.{own_grant}
+use Rattle.content_moves.proofs.Carrying.{Comes, comes_of}
+use Rattle.ids.specs.declared.work.Frame.{Frame}
+use Rattle.frames.specs.Frames.{frame_in}
+use Rattle.sub_rules.specs.Content.{ready}
+use Rattle.node_state.specs.Node.{by_state}
+use Rattle.node_state.specs.Posts.{ready_of_sub}
+use Rattle.node_state.specs.declared.parts.State.{State}
+use Rattle.node_state.specs.declared.parts.State.TheVariants.{Joining, Member, Leaving, Ended}
+use Rattle.node_core.specs.Calls.{own_whole, sends_it, whole_ready, whole_value}
+use Rattle.node_core.proofs.WholeValues.{ReadyThere, given_within, one_frame, one_sub, ready_there}
 use Rattle.actor_agreement.specs.Values.{AnswerIsRight, IsOutcomeAt, NodeIsRight, StepIsRight, filling_of}
 use Rattle.actor_agreement.proofs.Contents.{ChangeIsRight, closed_right, executed_right}
 use Rattle.actor_agreement.proofs.Sent.{aborts_right, both_sent, results_right}
@@ -38,6 +48,18 @@ fills_right : (job : JobOf) (g : Grant) (o : Option Filling) → FillAgrees job 
 fills_right job g None agrees f m = absurd m
 fills_right job g (Some x) agrees f (inl e) = let received : IsReceived job (filling_of (fill_of g x)) = agrees in rw e received
 fills_right job g (Some x) agrees f (inr m) = absurd m
+
+-- whatever frame of that number the sub of a grant has, the turn is an end that it comes to
+abbrev pub EndsRight : JobOf → NodeOf → Grant → ℕ → DoneOf → Type 0
+EndsRight job n g f d = (s : SubOf) (x : Frame) → sub_in g n.subs ≡ Some s → frame_in f s.content.frames ≡ Some x → Comes job.program x.place d.thread d.numbers d.turn
+
+-- a ready frame that sends its whole value comes to that
+pub whole_ends : (job : JobOf) (n : NodeOf) (g : Grant) (f : ℕ) (x : ReadyFrame) (v : ℤ) → ReadyThere n.subs g f x → whole_value job.program x.ready ≡ Some v → EndsRight job n g f (sends_it job.program x.ready v)
+whole_ends job n g f x v there gives = λ s y at here.
+    let sub : x.sub ≡ s = one_sub (sub_in g n.subs) x.sub s there.sub at in
+    let found : frame_in f x.sub.content.frames ≡ Some y = rw sub here in
+    let frame : x.ready.frame ≡ y = one_frame (frame_in f x.sub.content.frames) x.ready.frame y there.frame found in
+    rw (← frame) gives
 
 module _ (job : JobOf) (n : NodeOf) (right : NodeIsRight job n) where
   changes_right : (s : SubOf) (c : ContentChange) → ChangeIsRight job c → StepIsRight job (changes job s c n)
@@ -63,16 +85,38 @@ module _ (job : JobOf) (n : NodeOf) (right : NodeIsRight job n) where
   pub returned_right : (b : TaskResult) → IsOutcomeAt job n b → AnswerIsRight job (returned job b n)
   returned_right b is = then_right job (sends (result_ack job b.from b.grant ∷ []) n) (closes job b.grant b.outcome) (sends_one job (result_ack job b.from b.grant) n tt right) (closes_right b is)
 
-  -- a turn is carried out that ends as the job's program does
-  exec_right : IsJob job → (d : DoneOf) (g : Grant) (f : ℕ) → turn_of job.program d.thread d.numbers ≡ Some d.turn → AnswerIsRight job (calls.exec job d g f n)
+  -- a frame is carried out by an end that it comes to
+  ended_right : IsJob job → (d : DoneOf) (g : Grant) (f : ℕ) → EndsRight job n g f d → AnswerIsRight job (calls.exec job d g f n)
   unfolding calls.exec
-  exec_right accepted d g f end = in_state job n.state _ _ _ _ tt (λ r. if_there job (sub_in g n.subs) _ _ tt (λ s e. by_change s (found_among _ s n.subs e) (carried_out d f s.content) refl)) (λ r heir. tt) tt
+  ended_right accepted d g f end = in_state job n.state _ _ _ _ tt (λ r. if_there job (sub_in g n.subs) _ _ tt (λ s e. by_change s (λ x at. end s x e at) (found_among _ s n.subs e) (carried_out d f s.content) refl)) (λ r heir. tt) tt
     where
-      by_change : (s : SubOf) → s ∈ n.subs → (o : Result ContentChange SubError) → carried_out d f s.content ≡ o → AnswerIsRight job (calls.changed job s n o)
-      by_change s held (Ok c) is = changes_right s c (executed_right job s.content d f c accepted end (right.subs s held) is)
-      by_change s held (Err sub.Stale) is = tt
-      by_change s held (Err sub.Spent) is = tt
-      by_change s held (Err sub.Memory) is = tt
+      by_change : (s : SubOf) → ((x : Frame) → frame_in f s.content.frames ≡ Some x → Comes job.program x.place d.thread d.numbers d.turn) → s ∈ n.subs → (o : Result ContentChange SubError) → carried_out d f s.content ≡ o → AnswerIsRight job (calls.changed job s n o)
+      by_change s ends held (Ok c) is = changes_right s c (executed_right job s.content d f c accepted ends (right.subs s held) is)
+      by_change s ends held (Err sub.Stale) is = tt
+      by_change s ends held (Err sub.Spent) is = tt
+      by_change s ends held (Err sub.Memory) is = tt
+
+  exec_right : IsJob job → (d : DoneOf) (g : Grant) (f : ℕ) → turn_of job.program d.thread d.numbers ≡ Some d.turn → AnswerIsRight job (calls.exec job d g f n)
+  exec_right accepted d g f end = ended_right accepted d g f (λ s x there at. comes_of job.program x.place d.thread d.numbers d.turn end)
+
+  -- a ready frame is carried out by its whole value
+  pub whole_ready_right : IsJob job → (most : ℕ) (g : Grant) (f : ℕ) → AnswerIsRight job (whole_ready job most g f n)
+  unfolding by_option by_state
+  whole_ready_right accepted most g f = by_where n.state
+    where
+      by_value : (x : ReadyFrame) → ReadyThere n.subs g f x → (o : Option ℤ) → own_whole job.program most x.ready ≡ o → AnswerIsRight job (by_option o (Refused error.NoValue) (λ w. calls.exec job (sends_it job.program x.ready w) g f n))
+      by_value x there None e = tt
+      by_value x there (Some w) e = ended_right accepted (sends_it job.program x.ready w) g f (whole_ends job n g f x w there (given_within job.program most x.ready w e))
+
+      by_frame : (o : Option ReadyFrame) → ((x : ReadyFrame) → o ≡ Some x → ReadyThere n.subs g f x) → AnswerIsRight job (by_option o (Refused error.Stale) (λ x. by_option (own_whole job.program most x.ready) (Refused error.NoValue) (λ w. calls.exec job (sends_it job.program x.ready w) g f n)))
+      by_frame None there = tt
+      by_frame (Some x) there = by_value x (there x refl) (own_whole job.program most x.ready) refl
+
+      by_where : (s : State) → AnswerIsRight job (by_state s (Refused error.NotJoined) (λ y. by_option (ready_of_sub f (sub_in g (by_state s [] (λ r. n.subs) (λ r heir. []) []))) (Refused error.Stale) (λ x. by_option (own_whole job.program most x.ready) (Refused error.NoValue) (λ w. calls.exec job (sends_it job.program x.ready w) g f n))) (λ y heir. Refused error.Stale) (Refused error.NotJoined))
+      by_where Joining = tt
+      by_where (Member y) = by_frame (ready_of_sub f (sub_in g n.subs)) (λ x at. ready_there n.subs g f x at)
+      by_where (Leaving y heir) = tt
+      by_where Ended = tt
 
   -- that of a ready frame
   pub exec_ready_right : IsJob job → (g : Grant) (f : ℕ) → AnswerIsRight job (calls.exec_ready job g f n)

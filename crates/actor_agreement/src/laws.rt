@@ -24,6 +24,10 @@ pub fn what_a_node_does_agrees()
         → IsJob job
         → NodeIsRight job n
         → AnswerIsRight job (calls.exec_ready job g f n) }
+    ensures whole_ready { (job : JobOf) (n : NodeOf) (most : ℕ) (g : Grant) (f : ℕ)
+        → IsJob job
+        → NodeIsRight job n
+        → AnswerIsRight job (calls.whole_ready job most g f n) }
     ensures ask { (job : JobOf) (n : NodeOf) (victim : Victim) → NodeIsRight job n
         → AnswerIsRight job (calls.ask job victim n) }
     ensures resend { (job : JobOf) (n : NodeOf) → NodeIsRight job n → AnswerIsRight job (calls.resend job n) }

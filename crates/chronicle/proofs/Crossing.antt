@@ -1,7 +1,12 @@
 -- Which values may cross threads: a world with its history and a seat may go to another thread, and so a chronicle is shared.
 use denote.Enum.Declared.{shape as cases}
 use denote.Ref.{NamedLft}
-use denote.Param.Send.{IsSend, IsSync, enum_send, sendable}
+use denote.Param.Send.{AllSend, IsSend, IsSync, enum_send, plain_send, recorded_send, sendable, struct_send, view_send}
+use denote.Struct.Field.{shr_ref_field}
+use Rattle.std.proofs.Common.{[], ◌∷◌}
+use Rattle.std.specs.contracts.boxed.Box as Box
+use Rattle.serial_meaning.specs.contracts.job.Job as Job
+use Rattle.world_steps.specs.contracts.counts.RunCounts as RunCounts
 use Rattle.std.proofs.Crossing.{Box-send, Vec-send, crosses}
 use Rattle.chronicle.specs.contracts.chronicle.Chronicle as Chronicle
 use Rattle.chronicle.specs.contracts.kept.Kept as History
@@ -38,6 +43,10 @@ use Rattle.world_steps.specs.contracts.parts.Word as Word
 use Rattle.world_steps.specs.contracts.parts.WordNamed.TheImpl.{ghosts as named}
 use Rattle.disk.specs.contracts.memory.MemDiskDisk.TheImpl.{ghosts as on_disk}
 use Rattle.world_steps.proofs.parts.Word.TheSendSync as word
+use Rattle.ids.proofs.listed.Listed.TheSendSync as listed
+use Rattle.serial_meaning.specs.contracts.instr.Instr as Instr
+use Rattle.serial_meaning.specs.contracts.instr.Source as Source
+use Rattle.serial_meaning.specs.contracts.whole.Flat as Flat
 use Rattle.serial_meaning.proofs.Crossing.{job}
 
 -- a node, and a world
@@ -72,8 +81,59 @@ seat a = search (sendable, job, stand) depth 25
 all_nodes : (a : NamedLft) → IsSend (Vec.the_row (Option.the_row (Node.the_row a)) Heap.the_row ghosts)
 all_nodes a = Vec-send (Option.the_row (Node.the_row a)) (nodes a)
 
+source : IsSend (Source.the_field).row
+source = enum_send (cases Source.the_type) (
+  (plain_send _ _ _ _ _, tt),
+  (
+    (plain_send _ _ _ _ _, tt),
+    (
+      (search sendable depth 20, (plain_send _ _ _ _ _, (plain_send _ _ _ _ _, tt))),
+      (
+        (search sendable depth 20, (plain_send _ _ _ _ _, (plain_send _ _ _ _ _, tt))),
+        (
+          (search sendable depth 20, (plain_send _ _ _ _ _, tt)),
+          (
+            (search sendable depth 20, (plain_send _ _ _ _ _, tt)),
+            (
+              (search sendable depth 20, tt),
+              tt,
+            ),
+          ),
+        ),
+      ),
+    ),
+  ),
+)
+
+instr_field : IsSend (Instr.the_field).row
+instr_field = enum_send (cases Instr.the_type) (
+  (source, tt),
+  (
+    (source, (plain_send _ _ _ _ _, tt)),
+    (
+      (source, tt),
+      (
+        (plain_send _ _ _ _ _, (plain_send _ _ _ _ _, tt)),
+        (
+          (plain_send _ _ _ _ _, (plain_send _ _ _ _ _, tt)),
+          tt,
+        ),
+      ),
+    ),
+  ),
+)
+
+instr : IsSend Instr.the_row
+instr = recorded_send (Instr.the_field).row _ _ (Instr.the_type).to_one instr_field
+
+flat : IsSend Flat.the_row
+flat = search (sendable, instr, listed.the_send) depth 25
+
 world : (a : NamedLft) → IsSend (World.the_row a)
-world a = search (sendable, job, all_nodes, seat, datagrams, fills, used, Box-send, counts.the_send) depth 25
+world a =
+    let fields : AllSend ((shr_ref_field a Job.the_row tt).row ∷ Flat.the_row ∷ Vec.the_row (Option.the_row (Node.the_row a)) Heap.the_row ghosts ∷ HouseSlot.the_row a ∷ Kept.the_row Datagram.the_row ∷ Kept.the_row Fill.the_row ∷ SortedMap.the_row Word.the_row named ∷ Box.the_row RunCounts.the_row Heap.the_row ghosts ∷ []) =
+    (search (sendable, job) depth 12, (flat, (all_nodes a, (seat a, (datagrams, (fills, (used, (search (sendable, Box-send, counts.the_send) depth 12, tt)))))))) in
+    search (sendable, fields) depth 12
 
 -- a history with its world, a seat, and a chronicle
 

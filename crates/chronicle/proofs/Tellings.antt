@@ -59,6 +59,7 @@ answered_silent a (node.Does s) w = refl
 at_node_silent : (job : JobOf) (choice : Option Candidate) (a : ℕ) (e : NodeEvent) (n : NodeOf) (w : WorldOf) → Silent (at_node job choice a e n w)
 at_node_silent job choice a (at.Deliver i) n w = by_some _ w (λ (p : PacketOf). answered a (on_packet job choice p n) w) (λ p. answered_silent a (on_packet job choice p n) w)
 at_node_silent job choice a (at.Exec f) n w = answered_silent a (call.exec_ready job (grant_of f) f.frame n) w
+at_node_silent job choice a (at.Whole f most) n w = answered_silent a (call.whole_ready job most (grant_of f) f.frame n) w
 at_node_silent job choice a (at.Ask v) n w = answered_silent a (call.ask job (victim_of v) n) w
 at_node_silent job choice a at.Resend n w = answered_silent a (call.resend job n) w
 at_node_silent job choice a (at.Depart heir) n w = answered_silent a (call.depart job heir n) w

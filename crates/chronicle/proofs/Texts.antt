@@ -107,6 +107,9 @@ one_node n (node.Deliver i) = named (codes "deliver") (decimal n ∷ decimal i �
 one_node n (node.Exec f) =
     named (codes "exec") (decimal n ∷ decimal f.minter ∷ decimal f.number ∷ decimal f.frame ∷ []) refl
     (numbered n (decimal f.minter ∷ decimal f.number ∷ decimal f.frame ∷ []) (numbered f.minter (decimal f.number ∷ decimal f.frame ∷ []) (numbered f.number (decimal f.frame ∷ []) (numbered f.frame [] refl))))
+one_node n (node.Whole f t) =
+    named (codes "whole") (decimal n ∷ decimal f.minter ∷ decimal f.number ∷ decimal f.frame ∷ decimal t ∷ []) refl
+    (numbered n (decimal f.minter ∷ decimal f.number ∷ decimal f.frame ∷ decimal t ∷ []) (numbered f.minter (decimal f.number ∷ decimal f.frame ∷ decimal t ∷ []) (numbered f.number (decimal f.frame ∷ decimal t ∷ []) (numbered f.frame (decimal t ∷ []) (numbered t [] refl)))))
 one_node n (node.Ask v) = named (codes "ask") (decimal n ∷ written_asked v ∷ []) refl (numbered n (written_asked v ∷ []) (one_asked v))
 one_node n node.Resend = named (codes "resend") (decimal n ∷ []) refl (numbered n [] refl)
 one_node n (node.Depart h) = named (codes "depart") (decimal n ∷ decimal h ∷ []) refl (numbered n (decimal h ∷ []) (numbered h [] refl))

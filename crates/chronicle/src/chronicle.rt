@@ -4,7 +4,7 @@ ghost use Rattle.ids.specs.declared.outcome.Outcome.{Outcome};
 ghost use Rattle.kind_check.specs.Total.{Takes};
 ghost use Rattle.serial_meaning.specs.Job.{meaning_of};
 ghost use Rattle.world_steps.specs.Answers.{StepResult};
-ghost use Rattle.world_steps.specs.Calls.{IsOfJob, told_of};
+ghost use Rattle.world_steps.specs.Calls.{IsOfJob, IsWholeOfJob, told_of};
 ghost use Rattle.world_steps.specs.Steps.{Step as StepOf};
 ghost use Rattle.world_steps.specs.World.{WorldOf};
 ghost use Rattle.turn_lock.specs.Histories.{own};
@@ -25,7 +25,7 @@ use ids::{FrameNo, GrantId};
 use kind_check::Checked;
 use level_deques::Posts;
 use node_core::Work;
-use serial_meaning::Job;
+use serial_meaning::{Job, Whole};
 use std::alloc::{AllocError, Global};
 use std::marker::Model;
 use std::snapshot::Snapshot;
@@ -149,7 +149,7 @@ impl<'a> Chronicle<'a> {
             → o ≡ meaning_of self.now.job) }
         ensures err { OnErr result (seat.new ≡ seat.old) }
     {
-        let continued = self.enter(rt, seat, event, None, None)?;
+        let continued = self.enter(rt, seat, event, None, None, None)?;
         Ok(continued.committed)
     }
 
@@ -183,7 +183,40 @@ impl<'a> Chronicle<'a> {
             place,
             besides,
         };
-        self.enter(rt, seat, event, Some(turn), Some(&wanted))
+        self.enter(rt, seat, event, Some(turn), None, Some(&wanted))
+    }
+
+    /// As `commit_turn`, with a task of the job's program that was evaluated whole before. A Whole uses it where it is the ready frame's
+    /// own, of its thread on its numbers, in the room below its place and in no more turns; else it is put aside, and the frame's task is
+    /// evaluated in the step.
+    pub fn commit_whole<R: Wait>(
+        &self,
+        rt: &R,
+        alloc: Global,
+        seat: &mut ActorSeat<'a>,
+        event: Event,
+        whole: &Whole,
+        place: NodePlace,
+        besides: &[FrameOf],
+    ) -> Result<Continued, NoMemory>
+        requires seat { IsSeatIn self.now seat.old }
+        requires owns { actor_number event ≡ seat.old.actor }
+        requires whole { whole.now.program ≡ self.now.job.program }
+        ensures same { IsSeatIn self.now seat.new × (seat.new.actor ≡ seat.old.actor) }
+        ensures entry { IfOk result (λ c. seat.new.entries ≡ seat.old.entries ++ entry event c.committed.told ∷ []) }
+        ensures step { IfOk result (λ c. (w : WorldOf) × (o : StepResult) × StepOf self.now.job event w o
+            × (c.committed.told ≡ told_of o.answer)) }
+        ensures outcome { IfOk result (λ c. (o : Outcome) → outcome_told c.committed.told ≡ Some o
+            → o ≡ meaning_of self.now.job) }
+        ensures fits { IfOk result (λ c. IfSome c.next (λ w. Takes self.now.job.program w.thread (length w.numbers))) }
+        ensures err { OnErr result (seat.new ≡ seat.old) }
+    {
+        let wanted = Wanted {
+            alloc,
+            place,
+            besides,
+        };
+        self.enter(rt, seat, event, None, Some(whole), Some(&wanted))
     }
 
     /// The first packet from the one of a number on that is addressed to a receiver comes to the node of a place, or where there is no
@@ -217,18 +250,21 @@ impl<'a> Chronicle<'a> {
         answer
     }
 
-    // An event is carried out under the lock, with the turn that is at hand, if one is, and then a ready frame is looked for, if one is wanted.
+    // An event is carried out under the lock, with what was evaluated for it, if that is at hand, and then a ready frame is looked for, if
+    // one is wanted.
     fn enter<R: Wait>(
         &self,
         rt: &R,
         seat: &mut ActorSeat<'a>,
         event: Event,
         turn: Option<&Done>,
+        whole: Option<&Whole>,
         wanted: Option<&Wanted<'_>>,
     ) -> Result<Continued, NoMemory>
         requires seat { IsSeatIn self.now seat.old }
         requires owns { actor_number event ≡ seat.old.actor }
         requires turn { IsOfJob self.now.job (option_copied turn) }
+        requires whole { IsWholeOfJob self.now.job (option_copied whole) }
         ensures same { IsSeatIn self.now seat.new × (seat.new.actor ≡ seat.old.actor) }
         ensures entry { IfOk result (λ c. seat.new.entries ≡ seat.old.entries ++ entry event c.committed.told ∷ []) }
         ensures step { IfOk result (λ c. (w : WorldOf) × (o : StepResult) × StepOf self.now.job event w o
@@ -239,7 +275,7 @@ impl<'a> Chronicle<'a> {
         ensures err { OnErr result (seat.new ≡ seat.old) }
     {
         let mut kept = self.lock.take(rt, &mut seat.seat);
-        let answer = kept.enter(seat, event, turn);
+        let answer = kept.enter(seat, event, turn, whole);
         let next = match wanted {
             Some(wanted) => wanted.work_in(self.job, &kept),
             None => None,
@@ -385,7 +421,7 @@ fn comes<'a>(
 {
     match found {
         Ok(arrived) => {
-            let committed = kept.enter(seat, delivery_to(place, arrived.index), None)?;
+            let committed = kept.enter(seat, delivery_to(place, arrived.index), None, None)?;
             Ok(Delivery::Came(arrived, committed))
         }
         Err(seen) => {

@@ -4,7 +4,7 @@ ghost use Rattle.ids.specs.declared.outcome.Outcome.{Outcome as OutcomeOf};
 ghost use Rattle.serial_meaning.specs.Job.{meaning_of};
 ghost use Rattle.turn_lock.specs.Histories.{own};
 ghost use Rattle.world_steps.specs.Answers.{StepResult};
-ghost use Rattle.world_steps.specs.Calls.{IsOfJob, IsOutOfMemory, told_of};
+ghost use Rattle.world_steps.specs.Calls.{IsOfJob, IsOutOfMemory, IsWholeOfJob, told_of};
 ghost use Rattle.world_steps.specs.Runs.{IsFormattedFor};
 ghost use Rattle.world_steps.specs.Steps.{Step as StepOf};
 ghost use Rattle.world_steps.specs.World.{first_over};
@@ -14,7 +14,7 @@ use crate::seat::ActorSeat;
 use body_eval::Done;
 use event_script::Event;
 use ids::Outcome;
-use serial_meaning::Job;
+use serial_meaning::{Job, Whole};
 use std::alloc::Global;
 use std::marker::Model;
 use std::snapshot::Snapshot;
@@ -116,7 +116,8 @@ impl<'a> Kept<'a> {
         })
     }
 
-    /// An event of the seat's actor is carried out, an Exec by the turn at hand, if it is the ready frame's own. It goes to the end of
+    /// An event of the seat's actor is carried out, an Exec by the turn at hand and a Whole by the task that was evaluated whole, if it is
+    /// the ready frame's own. It goes to the end of
     /// the history, which had of the actor just the seat's entries; an outcome that is told is the job's meaning. E9 where there is no
     /// memory, also from then on: the history is as it was, and so is the world, except that a clearinghouse that was to answer
     /// is stopped.
@@ -125,10 +126,12 @@ impl<'a> Kept<'a> {
         seat: &mut ActorSeat<'a>,
         event: Event,
         turn: Option<&Done>,
+        whole: Option<&Whole>,
     ) -> Result<Committed, NoMemory>
         requires seat { seat.old.taken ≡ Some self.old.entries }
         requires owns { actor_number event ≡ seat.old.actor }
         requires turn { IsOfJob self.old.on.job (option_copied turn) }
+        requires whole { IsWholeOfJob self.old.on.job (option_copied whole) }
         ensures seat { seat.new ≡ seat.old }
         ensures own { own actor_of seat.old.actor self.old.entries ≡ seat.old.entries }
         ensures job { self.new.on.job ≡ self.old.on.job }
@@ -157,7 +160,7 @@ impl<'a> Kept<'a> {
             *out_of_memory = true;
             return Err(NoMemory);
         }
-        let Ok(told) = world.step(*alloc, &event, turn) else {
+        let Ok(told) = world.step_with(*alloc, &event, turn, whole) else {
             *out_of_memory = true;
             return Err(NoMemory);
         };

@@ -45,6 +45,13 @@ impl Trace {
         &self.counts
     }
 
+    /// Tells how many values that evaluations had kept were used, and how many turns were evaluated of which nothing was kept.
+    pub fn tell_kept(&mut self, used: u64, vain: u64)
+        ensures { self.new ≡ self.old }
+    {
+        self.counts.tell_kept(used, vain);
+    }
+
     /// The outcome that an event of the clearinghouse told first, if one did. It is the job's meaning, where the trace is a safe history
     /// of the job.
     pub fn outcome(&self) -> Option<Outcome>

@@ -1,7 +1,7 @@
 use crate::helps;
 use crate::misuse::Misuse;
 use crate::named::Place;
-use clap::{Arg, ArgAction, ArgMatches, Command, Error};
+use clap::{Arg, ArgAction, ArgMatches, Command, Error, value_parser};
 use node_runner::{Faults, RunConfig};
 use replaying::{
     ReplayWords, explain_word, file_word, input_of, input_word, number_word, packets_word,
@@ -54,13 +54,14 @@ pub struct DrawWords<'a> {
     pub out: Option<&'a str>,
 }
 
-/// A run: its job, how many nodes and how many body workers each, the faults, the file of a store that keeps its outcome, and the files to
-/// which its trace and its log are written, where they are named.
+/// A run: its job, how many nodes and how many body workers each, in at most how many turns a task is evaluated whole, if that is said, the
+/// faults, the file of a store that keeps its outcome, and the files to which its trace and its log are written, where they are named.
 #[derive(Drop)]
 pub struct RunWords<'a> {
     pub job: JobWords<'a>,
     pub nodes: u64,
     pub bodies: u64,
+    pub grain: Option<u64>,
     pub faults: Faults,
     pub store: Option<&'a str>,
     pub trace: Option<&'a str>,
@@ -68,17 +69,34 @@ pub struct RunWords<'a> {
 }
 
 impl<'a> RunWords<'a> {
-    /// Whether nothing asks for threads: one node with one body worker and without faults, of which no outcome is kept, and no trace and no
-    /// log is written.
+    /// Whether nothing asks for threads: one node with one body worker and without faults, of which each turn is taken by itself unless it is
+    /// said otherwise, no outcome is kept, and no trace and no log is written.
     pub fn is_alone(&self) -> bool {
         self.nodes == 1
             && self.bodies == 1
-            && self.faults.lose == 0
-            && self.faults.repeat == 0
-            && self.faults.crashes == 0
+            && self.grain.unwrap_or(0) == 0
+            && !self.has_faults()
             && self.store.is_none()
             && self.trace.is_none()
             && self.log.is_none()
+    }
+
+    /// Whether packets are lost or repeated, or nodes crash or leave.
+    fn has_faults(&self) -> bool {
+        self.faults.lose != 0
+            || self.faults.repeat != 0
+            || self.faults.crashes != 0
+            || self.faults.departures != 0
+    }
+
+    /// In at most how many turns a task is evaluated whole. Where it isn't said, and the run is one for trying the protocol or reading it,
+    /// under faults or with a trace, each frame takes its own turn.
+    fn grain(&self) -> u64 {
+        match self.grain {
+            Some(grain) => grain,
+            None if self.has_faults() || self.trace.is_some() => 0,
+            None => GRAIN,
+        }
     }
 
     /// Why the words disagree, if they do.
@@ -100,7 +118,8 @@ impl<'a> RunWords<'a> {
 
     /// How the nodes run; none where the words disagree.
     pub fn config(&self) -> Option<RunConfig> {
-        RunConfig::new(self.nodes, self.bodies, self.faults, self.job.turns)
+        let config = RunConfig::new(self.nodes, self.bodies, self.faults, self.job.turns)?;
+        Some(config.with_grain(self.grain()))
     }
 }
 
@@ -126,6 +145,9 @@ const AFTER: &str =
                      3 no outcome, 4 file.";
 
 const TURNS: &str = "1000000000";
+
+/// In at most so many turns a task is evaluated whole on nodes, where nothing else is said.
+const GRAIN: u64 = 100_000;
 
 /// The option that asks for what is counted of a run.
 fn stats_word<'a>(alloc: Global) -> Arg<'a> {
@@ -168,6 +190,15 @@ fn run_words<'a>(alloc: Global) -> Result<Command<'a>, AllocError> {
             "1",
             "So many body workers a node, 1 to 8, each on a thread",
         ))?
+        .arg(
+            Arg::new(alloc, "grain")
+                .long("grain")
+                .action(ArgAction::Set)
+                .value_parser(value_parser!(u64))
+                .help(
+                    "Tasks of at most so many turns are evaluated whole on nodes, none for 0; 100000 where it isn't given, or 0 with faults or `--trace`",
+                ),
+        )?
         .arg(number_word(alloc, "faults", "1", "The word from which faults are drawn"))?
         .arg(number_word(
             alloc,
@@ -283,6 +314,7 @@ fn run_of<'a>(alloc: Global, matches: &ArgMatches<'a>) -> Result<Option<RunWords
         job,
         nodes,
         bodies,
+        grain: matches.get_one("grain"),
         faults,
         store: matches.get_str("store"),
         trace: matches.get_str("trace"),

@@ -1,5 +1,5 @@
 -- Turns and outcomes that come are moves.
-use Rattle.std.proofs.Common.{◌≡◌, ℕ, ℤ, ◌+◌, ◌<◌, ◌≤◌, Bool, true, false, nat_lt, if◌then◌else◌, List, [], ◌∷◌, map, length, Option, Some, None, inl, inr, refl, sym, ap, subst, ◌∙◌}
+use Rattle.std.proofs.Common.{◌≡◌, ℕ, ℤ, zero, suc, ◌+◌, ◌<◌, ◌≤◌, Bool, true, false, nat_lt, if◌then◌else◌, List, [], ◌∷◌, map, length, Option, Some, None, inl, inr, refl, sym, ap, subst, ◌∙◌}
 use Rattle.std.proofs.lemmas.Bool.{ltb-true, ltb-false}
 use Rattle.ids.specs.Names.{Grant}
 use Rattle.ids.specs.Slots.{numbers_in}
@@ -13,6 +13,8 @@ use Rattle.kind_check.specs.declared.turn.Slot.{Slot}
 use Rattle.kind_check.specs.declared.turn.Turn.{Turn}
 use Rattle.kind_check.specs.declared.turn.Turn.TheVariants.{Sends, Joins}
 use Rattle.frames.specs.Frames.{frame_in, without_frame}
+use Rattle.serial_meaning.specs.Serial.{serial}
+use Rattle.serial_meaning.specs.Places.{room}
 use Rattle.victim_records.specs.Records.{record_in, without_record}
 use Rattle.sub_rules.specs.declared.content.Content.{Content}
 use Rattle.sub_rules.specs.Changes.{turned, replaced, joined, ends, arrives, closed}
@@ -28,7 +30,7 @@ use Rattle.run_tables.specs.View.{Sub, View}
 use Rattle.run_tables.specs.Facts.{Live, RecordOf, result_to}
 use Rattle.run_tables.specs.Meaning.{Meaning}
 use Rattle.run_tables.specs.Program.{part_of, end_of, program_meaning}
-use Rattle.run_tables.specs.Causes.{TakesTurn, Ends, Cause, sends, joins, is_deep, hears, hears_deep}
+use Rattle.run_tables.specs.Causes.{TakesTurn, GivesNumber, Ends, Cause, sends, joins, is_deep, hears, hears_deep}
 use Rattle.run_tables.proofs.SounderJoins.{cause_records}
 use Rattle.run_tables.proofs.Lists.{none_some}
 use Rattle.content_moves.specs.Shown.{return_of, outcome_number, outcome_of, ShowsNothing, Shows}
@@ -55,6 +57,21 @@ pub record Turning (t : Tables) (c : Content) (f : Frame) (numbers : List ℤ) :
   pub there : frame_in f.number c.frames ≡ Some f
   pub full : numbers_in f.slots ≡ Some numbers
 
+-- whose turn sends a number gives it, in whatever room
+sent_is_given : (p : Program) (d t : ℕ) (numbers : List ℤ) (x : ℤ) → turn_of p t numbers ≡ Some (Sends x) → serial p d t numbers ≡ Some x
+sent_is_given p zero t numbers x end = rw end refl
+sent_is_given p (suc d) t numbers x end = rw end refl
+
+-- the end that a frame comes to at a place: the number that it gives, or its turn's join
+abbrev pub Comes : Program → List ℕ → ℕ → List ℤ → Turn → Type 0
+Comes p place t numbers (Sends x) = serial p (room place) t numbers ≡ Some x
+Comes p place t numbers (Joins u slots) = turn_of p t numbers ≡ Some (Joins u slots)
+
+-- to the end of its turn it comes
+pub comes_of : (p : Program) (place : List ℕ) (t : ℕ) (numbers : List ℤ) (turn : Turn) → turn_of p t numbers ≡ Some turn → Comes p place t numbers turn
+comes_of p place t numbers (Sends x) end = sent_is_given p (room place) t numbers x end
+comes_of p place t numbers (Joins u slots) end = end
+
 module _ (p : Program) (input : List ℤ) (v : View) (i : ℕ) (g : Grant) (s : Sub) (c : Content) (f : Frame) (numbers : List ℤ) (live : Live v i g s) (is : Turning s.content c f numbers) where
   -- it takes its turn
   abbrev takes_turn : (turn : Turn) → turn_of p f.thread numbers ≡ Some turn → TakesTurn (program_meaning p input) s.content f.number (end_of turn)
@@ -77,12 +94,25 @@ module _ (p : Program) (input : List ℤ) (v : View) (i : ℕ) (g : Grant) (s : 
   abbrev rest : Content
   rest = record c { frames = without_frame f.number c.frames }
 
-  -- it sends a number
-  send_moves : (x : ℤ) → turn_of p f.thread numbers ≡ Some (Sends x) → IsMove (program_meaning p input) v i g s (turned f (Sends x) c).after (turned f (Sends x) c).fill (grants_of_records (turned f (Sends x) c).dropped)
-  send_moves x end =
+  -- it gives a number
+  abbrev gives_number : (x : ℤ) → serial p (room f.place) f.thread numbers ≡ Some x → GivesNumber (program_meaning p input) s.content f.number x
+  gives_number x gives = record {
+    frame = record {
+      returns = return_of f.returns;
+      there = (is.shows.frames f.number f is.there).returns;
+      unstolen = (is.shows.frames f.number f is.there).unstolen;
+    };
+    numbers = numbers;
+    holds = λ j. (is.shows.frames f.number f is.there).slots j ∙ full_row f.slots numbers j is.full;
+    gives = rw ((is.shows.frames f.number f is.there).place, (is.shows.frames f.number f is.there).thread) gives;
+  }
+
+  -- it sends what it gives
+  pub given_moves : (x : ℤ) → serial p (room f.place) f.thread numbers ≡ Some x → IsMove (program_meaning p input) v i g s (turned f (Sends x) c).after (turned f (Sends x) c).fill (grants_of_records (turned f (Sends x) c).dropped)
+  given_moves x gives =
       let lacks = (frame_leaves c f is.kept.sound is.kept.frames (left_order f.number c.frames is.kept.frames) is.there (numbers_full f.slots numbers is.full)).lacks in
       let came : Arrived g s.content f.number f.returns x rest = value_arrives g s.content f.number f.returns x rest (frame_cleared s.content c f is.shows is.there) active (λ k listed. listed_shown s.content c k is.kept is.shows listed) (is_awaited f.returns rest lacks) in
-      moved (program_meaning p input) v i g s c (arrives f.returns x rest).after (arrives f.returns x rest).fill (grants_of_records (arrives f.returns x rest).dropped) came.content live is.shows came.shown (arrives_parent f.returns x rest) (arrives_task f.returns x rest) (sends f.number x (takes_turn (Sends x) end) came.comes) came.settles
+      moved (program_meaning p input) v i g s c (arrives f.returns x rest).after (arrives f.returns x rest).fill (grants_of_records (arrives f.returns x rest).dropped) came.content live is.shows came.shown (arrives_parent f.returns x rest) (arrives_task f.returns x rest) (sends f.number x (gives_number x gives) came.comes) came.settles
 
   -- it joins, and there is a place below its own
   join_moves : (u : ℕ) (slots : List Slot) → turn_of p f.thread numbers ≡ Some (Joins u slots) → length f.place < 1024 → IsMove (program_meaning p input) v i g s (replaced f.number (joined f u slots c.next) c).after None []
@@ -112,14 +142,19 @@ module _ (p : Program) (input : List ℤ) (v : View) (i : ℕ) (g : Grant) (s : 
       let place = (is.shows.frames f.number f is.there).place in
       moved (program_meaning p input) v i g s c (ends TooDeep c).after None (grants_of_records c.records) (ended s.content None) live is.shows (end_shown s.content c TooDeep is.shows) refl refl (is_deep f.number u (map part_of slots) (takes_turn (Joins u slots) end) (rw place long) (all_ends s.content None)) (all_settled s.content c None is.kept is.shows)
 
-  -- whatever the end
+  -- whatever the end of its turn
   pub turn_moves : (turn : Turn) → turn_of p f.thread numbers ≡ Some turn → IsMove (program_meaning p input) v i g s (turned f turn c).after (turned f turn c).fill (grants_of_records (turned f turn c).dropped)
-  turn_moves (Sends x) end = send_moves x end
+  turn_moves (Sends x) end = given_moves x (sent_is_given p (room f.place) f.thread numbers x end)
   turn_moves (Joins u slots) end = by_depth (nat_lt (length f.place) 1024) refl
     where
       by_depth : (b : Bool) → nat_lt (length f.place) 1024 ≡ b → (let change = if b then replaced f.number (joined f u slots c.next) c else ends TooDeep c in IsMove (program_meaning p input) v i g s change.after change.fill (grants_of_records change.dropped))
       by_depth true short = join_moves u slots end (ltb-true (length f.place) 1024 short)
       by_depth false long = deep_moves u slots end (ltb-false (length f.place) 1024 long)
+
+  -- whatever the end that it comes to
+  pub ended_moves : (turn : Turn) → Comes p f.place f.thread numbers turn → IsMove (program_meaning p input) v i g s (turned f turn c).after (turned f turn c).fill (grants_of_records (turned f turn c).dropped)
+  ended_moves (Sends x) end = given_moves x end
+  ended_moves (Joins u slots) end = turn_moves (Joins u slots) end
 
 -- an outcome comes for a record
 module _ (m : Meaning) (v : View) (i : ℕ) (g : Grant) (s : Sub) (c : Content) (r : Record) (live : Live v i g s) (kept : IsKept c) (shows : Shows s.content c) (there : record_in r.grant c.records ≡ Some r) where

@@ -37,14 +37,16 @@ pub fn write_turns<O: Write>(out: &mut O, program: &Program, turns: &TurnCounts)
     out.flush()
 }
 
-/// Writes the turns of a run on nodes as `write_turns` does, and behind them how often work was asked for, granted, refused, and done again,
-/// the packets by their kinds, and how many frames and subcomputations one node held at most; a line each.
+/// Writes the turns of a run on nodes as `write_turns` does, and behind them how many tasks were evaluated whole, if any was, and in how many
+/// turns; how often work was asked for, granted, refused, and done again; the packets by their kinds; and how many frames and subcomputations
+/// one node held at most; a line each.
 pub fn write_counts<O: Write>(
     out: &mut O,
     program: &Program,
     counts: &RunCounts,
 ) -> io::Result<()> {
     write_turns(out, program, counts.turns())?;
+    write_wholes(out, counts)?;
     writeln!(out, "steals asked {}", counts.asked())?;
     writeln!(out, "steals granted {}", counts.granted())?;
     writeln!(out, "steals refused {}", counts.refused())?;
@@ -53,6 +55,24 @@ pub fn write_counts<O: Write>(
     writeln!(out, "frames held at most {}", counts.most_frames())?;
     writeln!(out, "subcomputations held at most {}", counts.most_subs())?;
     out.flush()
+}
+
+/// Writes how many tasks were evaluated whole, and in how many turns; nothing where none was. Of a run on threads, how many values were used
+/// that evaluations had kept which ran out of turns, and how many turns were evaluated of which nothing was kept.
+fn write_wholes<O: Write>(out: &mut O, counts: &RunCounts) -> io::Result<()> {
+    if counts.wholes() == 0 {
+        return Ok(());
+    }
+    writeln!(out, "tasks evaluated whole {}", counts.wholes())?;
+    writeln!(out, "turns in them {}", counts.whole_turns())?;
+    let (used, vain) = counts.kept();
+    if used > 0 {
+        writeln!(out, "values kept and used {used}")?;
+    }
+    if vain > 0 {
+        writeln!(out, "turns evaluated in vain {vain}")?;
+    }
+    Ok(())
 }
 
 /// Writes how many packets were sent of each kind of which one was.

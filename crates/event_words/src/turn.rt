@@ -1,4 +1,4 @@
-//! The words of a turn: which frame a node ran, and what that came to.
+//! The words of a turn: which frame a node carried out, by its body or by its whole value, and what that came to.
 
 use crate::names::MinterName;
 use crate::packet::write_thread;
@@ -10,30 +10,37 @@ use subcomputation::Sub;
 use task_tree::Program;
 use world::World;
 
-/// A frame that an event runs, and the place whose node does.
+/// A frame that an event carries out, the place whose node does, and whether it is by the frame's whole value.
 #[derive(Clone, Copy)]
 pub(crate) struct Ran {
     place: NodePlace,
     frame: FrameOf,
+    is_whole: bool,
 }
 
-/// What an event runs, if it does.
+/// What an event carries out, if it does.
 pub(crate) fn ran_in(event: &Event) -> Option<Ran> {
-    match event {
-        Event::AtNode(place, NodeEvent::Exec(frame)) => Some(Ran {
-            place: *place,
-            frame: *frame,
-        }),
-        _ => None,
-    }
+    let Event::AtNode(place, event) = event else {
+        return None;
+    };
+    let (frame, is_whole) = match event {
+        NodeEvent::Exec(frame) => (frame, false),
+        NodeEvent::Whole(frame, _) => (frame, true),
+        _ => return None,
+    };
+    Some(Ran {
+        place: *place,
+        frame: *frame,
+        is_whole,
+    })
 }
 
-/// Writes an event that runs a frame: its place, the grant, and the frame's number.
+/// Writes an event that carries out a frame: its place, the grant, and the frame's number.
 pub(crate) fn write_ran<O: Write>(out: &mut O, ran: &Ran) -> io::Result<()> {
-    let frame = ran.frame;
+    let (name, frame) = (if ran.is_whole { "whole" } else { "exec" }, ran.frame);
     write!(
         out,
-        "exec {} {}/{} {}",
+        "{name} {} {}/{} {}",
         ran.place.index(),
         MinterName(frame.minter),
         frame.number,
@@ -86,51 +93,62 @@ fn write_frame<O: Write>(out: &mut O, program: &Program, frame: &Frame) -> io::R
     write!(out, ")")
 }
 
-/// Writes what a turn came to, in the world after it: the value that it sent, and whither; or the frames that it made.
+/// Writes what a turn came to, in the world after it: the value that it sent, and whither; or the frames that it made. Of a task that was
+/// evaluated whole, the value that it gave.
 pub(crate) fn write_end<O: Write>(
     out: &mut O,
     world: &World<'_>,
     ran: &Ran,
     fills: usize,
 ) -> io::Result<()> {
-    let last = world.fills().saturating_sub(1) as u64;
-    if let (true, Some(fill)) = (fills > 0, world.fill(last)) {
-        return write_sent(out, fill);
-    }
     let Some(node) = world.node(ran.place) else {
         return Ok(());
     };
+    let last = world.fills().saturating_sub(1) as u64;
+    if let (true, Some(fill)) = (fills > 0, world.fill(last)) {
+        write_value(out, node, ran, fill.value)?;
+        return write_slot(out, ran, fill);
+    }
     let Some(sub) = sub_of(node, ran) else {
         return Ok(());
     };
     match &sub.content().progress {
         Progress::Active => write_join(out, world, sub, node.parts().last_turn().came),
-        Progress::Finished(outcome) => write_outcome(out, *outcome),
-    }
-}
-
-/// Writes where a value went.
-fn write_sent<O: Write>(out: &mut O, fill: &Fill) -> io::Result<()> {
-    write!(
-        out,
-        " sends {} to slot {} of frame {}",
-        fill.value,
-        fill.slot,
-        fill.frame.number()
-    )
-}
-
-/// Writes that a turn ended the whole.
-fn write_outcome<O: Write>(out: &mut O, outcome: Outcome) -> io::Result<()> {
-    match outcome {
-        Outcome::Value(value) => write!(out, " sends {value}, the subcomputation's outcome"),
-        Outcome::TooDeep => {
+        Progress::Finished(Outcome::Value(value)) => {
+            write_value(out, node, ran, *value)?;
+            write!(out, ", the subcomputation's outcome")
+        }
+        Progress::Finished(Outcome::TooDeep) => {
             write!(
                 out,
                 " is too deep to join: the subcomputation's outcome is too deep"
             )
         }
     }
+}
+
+/// Writes the value that a turn sent; or that a task gave which was evaluated whole, and in how many turns.
+fn write_value<O: Write>(out: &mut O, node: &Node<'_>, ran: &Ran, value: i64) -> io::Result<()> {
+    if !ran.is_whole {
+        return write!(out, " sends {value}");
+    }
+    let turns = node.last_whole();
+    write!(
+        out,
+        " gives {value} in {turns} turn{}",
+        if turns == 1 { "" } else { "s" }
+    )
+}
+
+/// Writes where a value went.
+fn write_slot<O: Write>(out: &mut O, ran: &Ran, fill: &Fill) -> io::Result<()> {
+    write!(
+        out,
+        "{} to slot {} of frame {}",
+        if ran.is_whole { "," } else { "" },
+        fill.slot,
+        fill.frame.number()
+    )
 }
 
 /// Writes the last frames, so many: the successor that a turn made, and the kids of its holes.

@@ -7,6 +7,7 @@ use crate::place::part;
 pub(crate) enum Form {
     Start,
     Exec,
+    Whole,
     Deliver,
     Ask,
     Resend,
@@ -19,9 +20,10 @@ pub(crate) enum Form {
     Cut,
 }
 
-const FORMS: [Form; 12] = [
+const FORMS: [Form; 13] = [
     Form::Start,
     Form::Exec,
+    Form::Whole,
     Form::Deliver,
     Form::Ask,
     Form::Resend,
@@ -59,6 +61,7 @@ impl Form {
         match self {
             Form::Start => "start",
             Form::Exec => "exec",
+            Form::Whole => "whole",
             Form::Deliver => "deliver",
             Form::Ask => "ask",
             Form::Resend => "resend",
@@ -79,6 +82,7 @@ impl Form {
             Form::Resend | Form::Crash | Form::HouseDeliver | Form::HouseTick => 1,
             Form::Start | Form::Deliver | Form::Ask | Form::Depart | Form::Cut => 2,
             Form::Exec => 4,
+            Form::Whole => 5,
         }
     }
 
@@ -87,6 +91,9 @@ impl Form {
         match self {
             Form::Start => "takes 2 numbers: a place and a start word",
             Form::Exec => "takes 4 numbers: a place, a grant's minter and number, and a frame",
+            Form::Whole => {
+                "takes 5 numbers: a place, a grant's minter and number, a frame, and how many turns it may take"
+            }
             Form::Deliver => "takes 2 numbers: a place and a packet",
             Form::Ask => "takes a place, and a start word or `house`",
             Form::Resend | Form::Crash => "takes 1 number: a place",
@@ -106,6 +113,7 @@ impl Form {
             self,
             Form::Start
                 | Form::Exec
+                | Form::Whole
                 | Form::Deliver
                 | Form::Ask
                 | Form::Resend

@@ -5,6 +5,7 @@ pub fn sentence_of(number: u8) -> &'static str {
         9 | 96 => "there is no memory",
         20 | 95 => "more turns are needed than `--turns` allows",
         21 => "`main` takes another count of numbers",
+        41 => { "the task takes more turns than the line gives, or is too deep below its place" }
         62 => "no number is left for a frame, a grant, an epoch or a commit",
         70 => "the store is of a job of another number, see `--job`",
         71 => "the file is no store",

@@ -46,6 +46,7 @@ meets_alone s (Ok step) old new meets = meets
 meets_alone s (Err error.Memory) old new meets = meets.1
 meets_alone s (Err (error.Bytes fault)) old new meets = let wrong = meets.0 in cc
 meets_alone s (Err error.Stale) old new meets = let wrong = meets.0 in cc
+meets_alone s (Err error.NoValue) old new meets = let wrong = meets.0 in cc
 meets_alone s (Err error.Pending) old new meets = let wrong = meets.0 in cc
 meets_alone s (Err error.TooBig) old new meets = let wrong = meets.0 in cc
 meets_alone s (Err error.HopSpent) old new meets = let wrong = meets.0 in cc

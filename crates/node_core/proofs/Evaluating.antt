@@ -1,6 +1,6 @@
 -- What the turn of a ready frame itself leads to.
-use Rattle.std.proofs.Common.{◌≡◌, ℕ, ℤ, ◌^◌, Bool, true, false, cond, is_some, nat_eq, nat_lt, List, [], ◌∷◌, length, Option, Some, None, Result, Ok, Err, refl, sym, ap, ◌∙◌}
-use Rattle.std.proofs.lemmas.Bool.{and_parts, eq-eqb, not-false}
+use Rattle.std.proofs.Common.{◌≡◌, ◌<◌, ◌≤◌, ℕ, ℤ, ◌^◌, Bool, true, false, cond, is_some, nat_eq, nat_le, nat_lt, List, [], ◌∷◌, length, Option, Some, None, Result, Ok, Err, refl, sym, ap, ◌∙◌}
+use Rattle.std.proofs.lemmas.Bool.{and_parts, eq-eqb, le-leb, lt-leb, not-false}
 use Rattle.std.proofs.lemmas.Bool.Decides.{Decides-eqb, Decides-int_eq}
 use Rattle.std.specs.Ordering.{int_eq}
 use Rattle.ids.specs.Names.{Grant}
@@ -11,10 +11,14 @@ use Rattle.task_tree.specs.declared.tree.Program.{Program}
 use Rattle.kind_check.specs.Total.{IsTotal, Takes}
 use Rattle.kind_check.specs.Turns.{turn_of}
 use Rattle.kind_check.specs.declared.turn.Turn.{Turn}
+use Rattle.kind_check.specs.declared.turn.Turn.TheVariants.{Sends}
 use Rattle.body_eval.specs.Done.{DoneOf}
 use Rattle.frames.specs.Frames.{frame_in}
 use Rattle.serial_meaning.specs.Job.{JobOf}
-use Rattle.sub_rules.specs.Carrying.{exec_content as carry, executed, holds_numbers, is_stale_of, is_turn_of, within_numbers}
+use Rattle.serial_meaning.specs.Places.{room}
+use Rattle.serial_meaning.specs.Serial.{serial_turns}
+use Rattle.serial_meaning.specs.Whole.{IsWhole, WholeOf}
+use Rattle.sub_rules.specs.Carrying.{ended, exec_content as carry, executed, holds_numbers, is_stale_of, is_turn_of, within_numbers}
 use Rattle.sub_rules.specs.Changes.{granted_out, turned}
 use Rattle.sub_rules.specs.Content.{Ready, ready, ready_in, task_of}
 use Rattle.sub_rules.specs.declared.change.ContentChange.{ContentChange}
@@ -160,9 +164,14 @@ own_is : (p : Program) (r : Ready) (turn : Turn) → turn_of p r.frame.thread r.
 own_is p r turn reached = ap (λ (o : Option Turn). o >>= λ (t : Turn). Some (record { program = p; thread = r.frame.thread; numbers = r.numbers; turn = t })) reached
 
 -- two choices in turn, where both are there
-both_there : {A B : Type 0} {C : Type 0} (a : Option A) (x : A) (y : B) (next : A → Option B) (none : C) (some : A → B → C) → a ≡ Some x → next x ≡ Some y → by_option a none (λ k. by_option (next k) none (some k)) ≡ some x y
+both_there : {A B : Type 0} {C : Type 0} (a : Option A) (x : A) (y : B) (next : A → Option B) (none other : C) (some : A → B → C) → a ≡ Some x → next x ≡ Some y → by_option a none (λ k. by_option (next k) other (some k)) ≡ some x y
 unfolding by_option
-both_there a x y next none some first second = rw first (rw second refl)
+both_there a x y next none other some first second = rw first (rw second refl)
+
+-- and where only the first one is
+first_there : {A B : Type 0} {C : Type 0} (a : Option A) (x : A) (next : A → Option B) (none other : C) (some : A → B → C) → a ≡ Some x → next x ≡ None → by_option a none (λ k. by_option (next k) other (some k)) ≡ other
+unfolding by_option
+first_there a x next none other some first second = rw first (rw second refl)
 
 module _ (job : JobOf) (g : Grant) (f : ℕ) (n : NodeOf) (s : SubOf) (member : IsMember n.state) (there : sub_in g n.subs ≡ Some s) where
   ready_here : (o : Option Ready) → ready_in f s.content ≡ o → ready_at n g f ≡ (o >>= λ r. Some (record { sub = s; ready = r }))
@@ -178,7 +187,7 @@ module _ (job : JobOf) (g : Grant) (f : ℕ) (n : NodeOf) (s : SubOf) (member : 
       let own : calls.own_turn job.program r ≡ Some d = own_is job.program r d.turn turn ∙ ap Some (same_done d job.program r.frame.thread r.numbers program thread numbers) in
       let x : ReadyFrame = record { sub = s; ready = r } in
       joined n.state _ _ (Refused error.NotJoined) (calls.exec job d g f n) member (λ _.
-      both_there (ready_at n g f) x d (λ (k : ReadyFrame). calls.own_turn job.program k.ready) (Refused error.Stale) (λ _ (e : DoneOf). calls.exec job e g f n) (ready_here (Some r) is) own)
+      both_there (ready_at n g f) x d (λ (k : ReadyFrame). calls.own_turn job.program k.ready) (Refused error.Stale) (Refused error.Stale) (λ _ (e : DoneOf). calls.exec job e g f n) (ready_here (Some r) is) own)
 
   -- so it is by one that isn't stale
   pub fresh_known : (d : DoneOf) → d.program ≡ job.program → turn_of d.program d.thread d.numbers ≡ Some d.turn → is_stale_of d (frame_in f s.content.frames) ≡ false → calls.exec_ready job g f n ≡ calls.exec job d g f n
@@ -209,3 +218,59 @@ module _ (job : JobOf) (g : Grant) (f : ℕ) (n : NodeOf) (s : SubOf) (member : 
       let known : calls.exec job d g f n ≡ calls.changed job s n (within_numbers (turned r.frame d.turn s.content)) =
       exec_is d ∙ ap (calls.changed job s n) carried in
       rw (ready_known r d is refl refl refl reaches.reached ∙ known) (turned_lacks_memory (turned r.frame d.turn s.content))
+
+  -- by its whole value a frame is carried out as by a turn that sends it
+  pub whole_known : (most : ℕ) (r : Ready) (v : ℤ) → ready_in f s.content ≡ Some r → calls.own_whole job.program most r ≡ Some v → calls.whole_ready job most g f n ≡ calls.exec job (calls.sends_it job.program r v) g f n
+  whole_known most r v is own =
+      let x : ReadyFrame = record { sub = s; ready = r } in
+      joined n.state _ _ (Refused error.NotJoined) (calls.exec job (calls.sends_it job.program r v) g f n) member (λ _.
+      both_there (ready_at n g f) x v (λ (k : ReadyFrame). calls.own_whole job.program most k.ready) (Refused error.Stale) (Refused error.NoValue) (λ (k : ReadyFrame) (w : ℤ). calls.exec job (calls.sends_it job.program k.ready w) g f n) (ready_here (Some r) is) own)
+
+  -- and without one it isn't
+  pub whole_unknown : (most : ℕ) (r : Ready) → ready_in f s.content ≡ Some r → calls.own_whole job.program most r ≡ None → calls.whole_ready job most g f n ≡ Refused error.NoValue
+  whole_unknown most r is own =
+      let x : ReadyFrame = record { sub = s; ready = r } in
+      joined n.state _ _ (Refused error.NotJoined) (Refused error.NoValue) member (λ _.
+      first_there (ready_at n g f) x (λ (k : ReadyFrame). calls.own_whole job.program most k.ready) (Refused error.Stale) (Refused error.NoValue) (λ (k : ReadyFrame) (w : ℤ). calls.exec job (calls.sends_it job.program k.ready w) g f n) (ready_here (Some r) is) own)
+
+  -- of a frame that is ready the task is evaluated
+  pub whole_lacks_memory : (most : ℕ) → is_some (ready_in f s.content) ≡ true → MayLackMemory (calls.whole_ready job most g f n)
+  whole_lacks_memory most some = by_value (calls.own_whole job.program most (some_ready f s.content some).ready) refl
+    where
+      by_value : (o : Option ℤ) → calls.own_whole job.program most (some_ready f s.content some).ready ≡ o → MayLackMemory (calls.whole_ready job most g f n)
+      by_value None own = rw (whole_unknown most (some_ready f s.content some).ready (some_ready f s.content some).there own) tt
+      by_value (Some v) own =
+          let r = (some_ready f s.content some).ready in
+          let there = (some_ready f s.content some).there in
+          let d : DoneOf = calls.sends_it job.program r v in
+          let carried : carry d f s.content ≡ within_numbers (turned r.frame d.turn s.content) = carried_is f s.content r d there refl refl in
+          rw (whole_known most r v there own ∙ exec_is d ∙ ap (calls.changed job s n) carried) (turned_lacks_memory (turned r.frame d.turn s.content))
+
+  -- what was evaluated whole, of that frame's task, within so many turns
+  pub whole_given : (most : ℕ) (w : WholeOf) (r : Ready) → ready_in f s.content ≡ Some r → w.program ≡ job.program → w.thread ≡ r.frame.thread → w.numbers ≡ r.numbers → w.room ≡ room r.frame.place → w.turns ≤ most → IsWhole w → calls.whole_ready job most g f n ≡ calls.exec job (ended job.program w.thread w.numbers (Sends w.value)) g f n
+  whole_given most w r is program thread numbers place within whole =
+      let turns : serial_turns job.program (room r.frame.place) r.frame.thread r.numbers ≡ w.turns = rw (← program) (rw (← thread) (rw (← numbers) (rw (← place) whole.takes))) in
+      let gives : calls.whole_value job.program r ≡ Some w.value = rw (← program) (rw (← thread) (rw (← numbers) (rw (← place) whole.gives))) in
+      let less : nat_le (serial_turns job.program (room r.frame.place) r.frame.thread r.numbers) most ≡ true = rw turns (le-leb _ most within) in
+      let own : calls.own_whole job.program most r ≡ Some w.value = ap (λ b. cond b (calls.whole_value job.program r) None) less ∙ gives in
+      rw thread (rw numbers (whole_known most r w.value is own))
+
+  -- a task that takes more turns, or gives nothing
+  pub whole_spent : (most : ℕ) (r : Ready) → ready_in f s.content ≡ Some r → most < serial_turns job.program (room r.frame.place) r.frame.thread r.numbers → calls.whole_ready job most g f n ≡ Refused error.NoValue
+  whole_spent most r is more = whole_unknown most r is (ap (λ b. cond b (calls.whole_value job.program r) None) (lt-leb _ most more))
+
+  pub whole_deep : (most : ℕ) (r : Ready) → ready_in f s.content ≡ Some r → calls.whole_value job.program r ≡ None → calls.whole_ready job most g f n ≡ Refused error.NoValue
+  whole_deep most r is none = whole_unknown most r is (by_turns (nat_le (serial_turns job.program (room r.frame.place) r.frame.thread r.numbers) most))
+    where
+      by_turns : (b : Bool) → cond b (calls.whole_value job.program r) None ≡ None
+      by_turns true = none
+      by_turns false = refl
+
+  -- so it is by one whose thread and numbers the frame has, and whose room its place
+  pub whole_fresh : (most : ℕ) (w : WholeOf) (x : Frame) → frame_in f s.content.frames ≡ Some x → w.program ≡ job.program → w.room ≡ room x.place → w.turns ≤ most → IsWhole w → is_stale_of (ended job.program w.thread w.numbers (Sends w.value)) (frame_in f s.content.frames) ≡ false → calls.whole_ready job most g f n ≡ calls.exec job (ended job.program w.thread w.numbers (Sends w.value)) g f n
+  whole_fresh most w x there program place within whole fresh =
+      let own = fresh_is_own (ended job.program w.thread w.numbers (Sends w.value)) f s.content fresh in
+      let full = is_full f s.content own.ready own.there in
+      let both : Some own.ready.frame ≡ Some x = sym full.there ∙ there in
+      let same : own.ready.frame ≡ x = cc in
+      whole_given most w own.ready own.there program own.thread own.numbers (place ∙ ap (λ (y : Frame). room y.place) (sym same)) within whole

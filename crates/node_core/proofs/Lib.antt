@@ -13,5 +13,6 @@ mod Arriving
 mod Offering
 mod Chosen
 mod Evaluating
+pub mod WholeValues
 mod Naming
 mod Changing

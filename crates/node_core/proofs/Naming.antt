@@ -36,6 +36,7 @@ pub meets_refused : (a : Answer) (e : NodeError) (old : NodeOn) → a ≡ Refuse
 meets_refused a error.Memory old is = refl
 meets_refused a (error.Bytes fault) old is = (is, refl)
 meets_refused a error.Stale old is = (is, refl)
+meets_refused a error.NoValue old is = (is, refl)
 meets_refused a error.Pending old is = (is, refl)
 meets_refused a error.TooBig old is = (is, refl)
 meets_refused a error.HopSpent old is = (is, refl)
@@ -107,6 +108,9 @@ none_there a none some is = rw is refl
 
 pub ready_unnamed : (job : JobOf) (g : Grant) (f : ℕ) (n : NodeOf) → HasNoFrame g f n.subs → calls.exec_ready job g f n ≡ Refused (unnamed n.state)
 ready_unnamed job g f n none = stale_by n.state _ _ (λ r. none_there (ready_at n g f) (Refused error.Stale) _ (none_live g f n.subs n.state none)) (λ r heir. refl)
+
+pub whole_unnamed : (job : JobOf) (most : ℕ) (g : Grant) (f : ℕ) (n : NodeOf) → HasNoFrame g f n.subs → calls.whole_ready job most g f n ≡ Refused (unnamed n.state)
+whole_unnamed job most g f n none = stale_by n.state _ _ (λ r. none_there (ready_at n g f) (Refused error.Stale) _ (none_live g f n.subs n.state none)) (λ r heir. refl)
 
 -- a victim, or an heir, that no roster shows live
 not_asked : (b live : Bool) → live ≡ false → (b && live) ≡ false

@@ -78,6 +78,7 @@ meets_behind p s (Ok step) old new meets = meets
 meets_behind p s (Err error.Memory) old new meets = meets.1
 meets_behind p s (Err (error.Bytes fault)) old new meets = let wrong = meets.0 in cc
 meets_behind p s (Err error.Stale) old new meets = let wrong = meets.0 in cc
+meets_behind p s (Err error.NoValue) old new meets = let wrong = meets.0 in cc
 meets_behind p s (Err error.Pending) old new meets = let wrong = meets.0 in cc
 meets_behind p s (Err error.TooBig) old new meets = let wrong = meets.0 in cc
 meets_behind p s (Err error.HopSpent) old new meets = let wrong = meets.0 in cc

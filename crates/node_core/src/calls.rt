@@ -14,9 +14,8 @@ use crate::node::Node;
 use crate::parts::{Step, Victim};
 use crate::rosters::{says_live, status_of};
 use crate::sending::{send_results, sends};
-use body_eval::Done;
 use codec::{Beat, Datagram, Join, Packet, Roster, Steal, alone, send};
-use ids::{Actor, Count, FrameNo, GrantId, Incarnation, Listed};
+use ids::{Actor, Count, Incarnation, Listed};
 use node_state::{Parts, State};
 use serial_meaning::Job;
 use std::alloc::{AllocError, Global};
@@ -66,36 +65,6 @@ impl<'a> Node<'a> {
     {
         let asked = self.parts.asker().asked().checked_add(1)?;
         Count::of(asked)
-    }
-
-    /// Carries out a ready frame of a grant's subcomputation by a turn that was evaluated, of this job's program. E60 where the
-    /// node isn't joined or has ended; E40 where the frame isn't ready here with that thread and those numbers, as none is at a
-    /// leaving node; E62 where no
-    /// frame numbers are left; E63 where there is no memory. A refusal changes nothing.
-    #[tactic(auto, unfolding(crate::specs::Calls::exec, crate::specs::Cases::by_option, node_state::specs::Node::by_state))]
-    pub fn exec(
-        &mut self,
-        alloc: Global,
-        grant: GrantId,
-        frame: FrameNo,
-        done: &Done,
-    ) -> Result<Step, NodeError>
-        requires { done.now.program ≡ self.old.job.program }
-        ensures answer { Meets (calls.exec self.old.job done.now grant frame self.old.node) result self.old self.new }
-        ensures out_of_memory { IsErrOf result Memory → MayLackMemory
-            (calls.exec self.old.job done.now grant frame self.old.node) }
-    {
-        match self.parts.state() {
-            State::Member(_) => {}
-            State::Leaving(_, _) => return Err(NodeError::Stale),
-            State::Joining | State::Ended => return Err(NodeError::NotJoined),
-        }
-        let Some(sub) = self.parts.sub(grant) else {
-            return Err(NodeError::Stale);
-        };
-        let _ = done.turn();
-        let prepared = sub.prepare_exec(alloc, frame, done)?;
-        self.change(alloc, Listed::new(alloc), grant, prepared)
     }
 
     /// Sends again what isn't answered yet: a joining node its Join, a member its Beat, its pending Steal, and the Result of each

@@ -15,6 +15,7 @@ mod rosters;
 mod sending;
 mod turns;
 mod views;
+mod wholes;
 
 pub use error::NodeError;
 pub use node::Node;

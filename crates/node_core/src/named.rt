@@ -20,6 +20,7 @@ use crate::parts::{Step, Victim};
 use body_eval::Done;
 use ids::{FrameNo, GrantId, Incarnation, Member, item_of};
 use node_state::State;
+use serial_meaning::{Flat, Whole};
 use std::alloc::Global;
 use subcomputation::Sub;
 
@@ -60,6 +61,54 @@ impl<'a> Node<'a> {
     {
         match self.named(minter, number, frame) {
             Some((grant, frame)) => self.exec_turn(alloc, grant, frame, done),
+            None => Err(self.unnamed()),
+        }
+    }
+
+    /// As `whole_ready`, for a grant and a frame by their numbers: E40 too where these name none, at a node that is joined.
+    pub fn whole_ready_named(
+        &mut self,
+        alloc: Global,
+        flat: &Flat,
+        minter: u64,
+        number: u64,
+        frame: u64,
+        most_turns: u64,
+    ) -> Result<Step, NodeError>
+        requires { flat.now.program ≡ self.old.job.program }
+        ensures answer { Meets (calls.whole_ready self.old.job most_turns (record { minter = minter; number = number })
+            frame self.old.node) result self.old self.new }
+        ensures out_of_memory { IsErrOf result Memory → MayLackMemory (calls.whole_ready self.old.job most_turns
+            (record { minter = minter; number = number }) frame self.old.node) }
+    {
+        match self.named(minter, number, frame) {
+            Some((grant, frame)) => self.whole_ready(alloc, flat, grant, frame, most_turns),
+            None => Err(self.unnamed()),
+        }
+    }
+
+    /// As `whole_with`, for a grant and a frame by their numbers: E40 too where these name none, at a node that is joined.
+    pub fn whole_with_named(
+        &mut self,
+        alloc: Global,
+        flat: &Flat,
+        minter: u64,
+        number: u64,
+        frame: u64,
+        most_turns: u64,
+        whole: &Whole,
+    ) -> Result<Step, NodeError>
+        requires flat { flat.now.program ≡ self.old.job.program }
+        requires whole { whole.now.program ≡ self.old.job.program }
+        ensures answer { Meets (calls.whole_ready self.old.job most_turns (record { minter = minter; number = number })
+            frame self.old.node) result self.old self.new }
+        ensures out_of_memory { IsErrOf result Memory → MayLackMemory (calls.whole_ready self.old.job most_turns
+            (record { minter = minter; number = number }) frame self.old.node) }
+    {
+        match self.named(minter, number, frame) {
+            Some((grant, frame)) => {
+                self.whole_with(alloc, flat, grant, frame, most_turns, whole)
+            }
             None => Err(self.unnamed()),
         }
     }

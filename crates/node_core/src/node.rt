@@ -51,6 +51,8 @@ macro_rules! case {
 pub struct Node<'a> {
     pub(crate) job: &'a Job,
     pub(crate) parts: Parts,
+    // In how many turns the task was evaluated that was last carried out whole.
+    pub(crate) whole_turns: u64,
 }
 
 impl<'a> Model for Node<'a> {
@@ -93,6 +95,7 @@ impl<'a> Node<'a> {
         let node = Node {
             job,
             parts: Parts::new(alloc, incarnation),
+            whole_turns: 0,
         };
         Ok((
             node,

@@ -1,27 +1,30 @@
 //! What a node shows of itself.
 ghost use Rattle.std.specs.Prelude.{◌≡◌, ◌==◌, IfOk, IfErr, map};
 ghost use Rattle.frames.specs.Frames.{missing_in};
+ghost use Rattle.serial_meaning.specs.Places.{room};
 ghost use Rattle.node_core.specs.Views as views;
 ghost use Rattle.node_core.specs.declared.error.NodeError.TheVariants.{Memory};
 
 use crate::error::NodeError;
 use crate::node::Node;
 use frames::Frames;
-use ids::{FrameNo, GrantId, Hop, Incarnation, Listed, Numbers, Outcome, Progress};
+use ids::limits::MOST_STEPS;
+use ids::{FrameNo, GrantId, Hop, Incarnation, Listed, Numbers, Outcome, Place, Progress};
 use node_state::{Parts, State};
 use std::alloc::{AllocError, Global};
 use sub_rules::numbers_in;
 use subcomputation::Sub;
 use victim_records::Records;
 
-/// A ready frame: the grant of its subcomputation, its number there, the thread that is to run, and the numbers that the
-/// thread takes.
+/// A ready frame: the grant of its subcomputation, its number there, the thread that is to run, the numbers that the thread takes, and
+/// how many places can be below its own.
 #[derive(Drop)]
 pub struct Work {
     pub grant: GrantId,
     pub frame: FrameNo,
     pub thread: u8,
     pub numbers: Numbers,
+    pub room: u16,
 }
 
 /// The state of a subcomputation, as it is shown: active; frozen for the heir to which the node leaves, with how far it was then; or
@@ -117,7 +120,15 @@ pub fn work_in(
         frame: number,
         thread: frame.thread,
         numbers,
+        room: room_of(&frame.place),
     }))
+}
+
+/// How many places can be below a place.
+pub fn room_of(place: &Place) -> u16
+    ensures { result ≡ room place.now }
+{
+    MOST_STEPS - place.len()
 }
 
 /// The state that is shown of a subcomputation: frozen, where it is for an heir.

@@ -1,5 +1,5 @@
 -- The content of a subcomputation changes: the node tells its outcome, if it has one, and tells holders to stop.
-use Rattle.std.proofs.Common.{◌≡◌, ℕ, List, [], ◌∷◌, ◌++◌, inl, inr, Option, None, Some, Result, Ok, Err, refl}
+use Rattle.std.proofs.Common.{◌≡◌, if◌then◌else◌, ℤ, ℕ, List, [], ◌∷◌, ◌++◌, inl, inr, Option, None, Some, Result, Ok, Err, refl}
 use Rattle.ids.specs.Names.{Grant}
 use Rattle.ids.specs.Options.{◌>>=◌}
 use Rattle.ids.specs.declared.outcome.Progress.{Progress}
@@ -37,12 +37,18 @@ use Rattle.run_tables.specs.Moves.{alter}
 use Rattle.run_tables.specs.Runs.{Run}
 use Rattle.run_tables.proofs.Lists.{early}
 use Rattle.content_moves.specs.Moved.{IsKept, IsMove, fill_of, grants_of_records, told, told_by}
-use Rattle.content_moves.proofs.Carrying.{turn_moves}
+use Rattle.content_moves.proofs.Carrying.{Comes, comes_of, ended_moves}
 use Rattle.content_moves.proofs.Evaluated.{IsCarried, carried}
 use Rattle.content_moves.proofs.Keeping.{turn_kept}
 use Rattle.content_moves.proofs.Orders.{put_order}
 use Rattle.actor_moves.specs.Beside.{KeepsSent, unmoved, moved}
 use Rattle.actor_moves.proofs.Sent.{keeps_one, of_alter}
+use Rattle.ids.specs.declared.work.Frame.{Frame}
+use Rattle.frames.specs.Frames.{frame_in}
+use Rattle.sub_rules.specs.Content.{ready}
+use Rattle.node_state.specs.Posts.{ready_of_sub}
+use Rattle.node_core.specs.Calls.{own_whole, sends_it, whole_ready, whole_value}
+use Rattle.node_core.proofs.WholeValues.{ReadyThere, given_within, one_frame, one_sub, ready_there}
 use Rattle.node_moves.specs.Shows.{IsShown, PartsShown, NodeShown}
 use Rattle.node_moves.specs.Steps.{AllShown, StepShown, AnswerShown, shown_fills}
 use Rattle.node_moves.proofs.Held.{HeldAt, held_at, shows_put}
@@ -107,42 +113,75 @@ module _ (m : Meaning) (job : JobOf) (v : View) (n : NodeOf) (run : Run m v) (sh
   pub changes_shown : (s : SubOf) (c : ContentChange) (gone : List Grant) (held : HeldAt (v.subs n.incarnation s.grant) s) → IsMove m v n.incarnation s.grant held.sub c.after c.fill gone → IsKept c.after → ((g : Grant) → g ∈ grants_of_records c.dropped → g ∈ gone) → StepShown m job.number v n (changes job s c n)
   changes_shown s c gone held move kept all = changes_behind [] s c gone held move kept all (λ w k x p m. absurd m)
 
--- a turn is carried out that ends as the job's program does
+-- whatever frame of that number the sub of a grant has, the turn is an end that it comes to
+abbrev pub EndsRight : JobOf → NodeOf → Grant → ℕ → DoneOf → Type 0
+EndsRight job n g f d = (s : SubOf) (x : Frame) → sub_in g n.subs ≡ Some s → frame_in f s.content.frames ≡ Some x → Comes job.program x.place d.thread d.numbers d.turn
+
+-- a frame is carried out by an end that it comes to
 module _ (job : JobOf) (v : View) (n : NodeOf) (r : Roster) (run : Run (program_meaning job.program job.input) v) (is : n.state ≡ Member r) (shown : NodeShown v n) where
-  turned_shown : (d : DoneOf) (s : SubOf) (f : ℕ) (c : ContentChange) → turn_of job.program d.thread d.numbers ≡ Some d.turn → sub_in s.grant n.subs ≡ Some s → carried_out d f s.content ≡ Ok c → StepShown (program_meaning job.program job.input) job.number v n (changes job s c n)
+  turned_shown : (d : DoneOf) (s : SubOf) (f : ℕ) (c : ContentChange) → ((x : Frame) → frame_in f s.content.frames ≡ Some x → Comes job.program x.place d.thread d.numbers d.turn) → sub_in s.grant n.subs ≡ Some s → carried_out d f s.content ≡ Ok c → StepShown (program_meaning job.program job.input) job.number v n (changes job s c n)
   turned_shown d s f c end there ok =
       let h = member_shown v n r is shown in
       let held : HeldAt (v.subs n.incarnation s.grant) s = held_at (v.subs n.incarnation s.grant) (sub_in s.grant n.subs) s (h.parts.subs s.grant) there in
       let live : Live v n.incarnation s.grant held.sub = record { member = h.mode; holds = held.is } in
       let x : IsCarried d f s.content c = carried d f s.content c ok in
-      let turn : turn_of job.program x.frame.thread d.numbers ≡ Some d.turn = rw x.thread end in
-      let move : IsMove (program_meaning job.program job.input) v n.incarnation s.grant held.sub c.after c.fill (grants_of_records c.dropped) = rw (← x.is) (turn_moves job.program job.input v n.incarnation s.grant held.sub s.content x.frame d.numbers live (record { kept = held.shown.kept; shows = held.shown.content; there = x.there; full = x.full }) d.turn turn) in
+      let turn : Comes job.program x.frame.place x.frame.thread d.numbers d.turn = rw x.thread (end x.frame x.at) in
+      let move : IsMove (program_meaning job.program job.input) v n.incarnation s.grant held.sub c.after c.fill (grants_of_records c.dropped) = rw (← x.is) (ended_moves job.program job.input v n.incarnation s.grant held.sub s.content x.frame d.numbers live (record { kept = held.shown.kept; shows = held.shown.content; there = x.there; full = x.full }) d.turn turn) in
       let kept : IsKept c.after = rw (← x.is) (turn_kept s.content x.frame d.numbers held.shown.kept x.there x.full d.turn) in
       changes_shown (program_meaning job.program job.input) job v n run shown h.parts s c (grants_of_records c.dropped) held move kept (λ g y. y)
 
-  pub exec_member_shown : (d : DoneOf) (g : Grant) (f : ℕ) → turn_of job.program d.thread d.numbers ≡ Some d.turn → AnswerShown (program_meaning job.program job.input) job.number v n (by_option (sub_in g n.subs) (Refused error.Stale) (λ s. calls.changed job s n (carried_out d f s.content)))
+  pub exec_member_shown : (d : DoneOf) (g : Grant) (f : ℕ) → EndsRight job n g f d → AnswerShown (program_meaning job.program job.input) job.number v n (by_option (sub_in g n.subs) (Refused error.Stale) (λ s. calls.changed job s n (carried_out d f s.content)))
   unfolding by_option
   exec_member_shown d g f end = by_sub (sub_in g n.subs) refl
     where
-      by_change : (s : SubOf) → sub_in s.grant n.subs ≡ Some s → (o : Result ContentChange SubError) → carried_out d f s.content ≡ o → AnswerShown (program_meaning job.program job.input) job.number v n (calls.changed job s n o)
-      by_change s there (Ok c) ok = turned_shown d s f c end there ok
-      by_change s there (Err sub.Stale) e = tt
-      by_change s there (Err sub.Spent) e = tt
-      by_change s there (Err sub.Memory) e = tt
+      by_change : (s : SubOf) → ((x : Frame) → frame_in f s.content.frames ≡ Some x → Comes job.program x.place d.thread d.numbers d.turn) → sub_in s.grant n.subs ≡ Some s → (o : Result ContentChange SubError) → carried_out d f s.content ≡ o → AnswerShown (program_meaning job.program job.input) job.number v n (calls.changed job s n o)
+      by_change s ends there (Ok c) ok = turned_shown d s f c ends there ok
+      by_change s ends there (Err sub.Stale) e = tt
+      by_change s ends there (Err sub.Spent) e = tt
+      by_change s ends there (Err sub.Memory) e = tt
 
       by_sub : (o : Option SubOf) → sub_in g n.subs ≡ o → AnswerShown (program_meaning job.program job.input) job.number v n (by_option o (Refused error.Stale) (λ s. calls.changed job s n (carried_out d f s.content)))
       by_sub None none = tt
-      by_sub (Some s) there = by_change s (rw (own_sub g s n.subs there) at there) (carried_out d f s.content) refl
+      by_sub (Some s) there = by_change s (λ x at. end s x there at) (rw (own_sub g s n.subs there) at there) (carried_out d f s.content) refl
+
+-- a ready frame that sends its whole value comes to that
+pub whole_ends : (job : JobOf) (n : NodeOf) (g : Grant) (f : ℕ) (x : ReadyFrame) (v : ℤ) → ReadyThere n.subs g f x → whole_value job.program x.ready ≡ Some v → EndsRight job n g f (sends_it job.program x.ready v)
+whole_ends job n g f x v there gives = λ s y at here.
+    let sub : x.sub ≡ s = one_sub (sub_in g n.subs) x.sub s there.sub at in
+    let found : frame_in f x.sub.content.frames ≡ Some y = rw sub here in
+    let frame : x.ready.frame ≡ y = one_frame (frame_in f x.sub.content.frames) x.ready.frame y there.frame found in
+    rw (← frame) gives
 
 -- wherever the node stands
 module _ (job : JobOf) (v : View) (n : NodeOf) (run : Run (program_meaning job.program job.input) v) (shown : NodeShown v n) where
-  pub exec_shown : (d : DoneOf) (g : Grant) (f : ℕ) → turn_of job.program d.thread d.numbers ≡ Some d.turn → AnswerShown (program_meaning job.program job.input) job.number v n (calls.exec job d g f n)
+  ended_shown : (d : DoneOf) (g : Grant) (f : ℕ) → EndsRight job n g f d → AnswerShown (program_meaning job.program job.input) job.number v n (calls.exec job d g f n)
   unfolding calls.exec by_state
-  exec_shown d g f end = by_where n.state refl
+  ended_shown d g f end = by_where n.state refl
     where
       by_where : (x : State) → n.state ≡ x → AnswerShown (program_meaning job.program job.input) job.number v n (by_state x (Refused error.NotJoined) (λ y. by_option (sub_in g n.subs) (Refused error.Stale) (λ s. calls.changed job s n (carried_out d f s.content))) (λ y heir. Refused error.Stale) (Refused error.NotJoined))
       by_where Joining e = tt
       by_where (Member y) e = exec_member_shown job v n y run e shown d g f end
+      by_where (Leaving y heir) e = tt
+      by_where Ended e = tt
+
+  pub exec_shown : (d : DoneOf) (g : Grant) (f : ℕ) → turn_of job.program d.thread d.numbers ≡ Some d.turn → AnswerShown (program_meaning job.program job.input) job.number v n (calls.exec job d g f n)
+  exec_shown d g f end = ended_shown d g f (λ s x there at. comes_of job.program x.place d.thread d.numbers d.turn end)
+
+  pub whole_ready_shown : (most : ℕ) (g : Grant) (f : ℕ) → AnswerShown (program_meaning job.program job.input) job.number v n (whole_ready job most g f n)
+  unfolding by_state by_option
+  whole_ready_shown most g f = by_where n.state refl
+    where
+      by_value : (x : ReadyFrame) → ReadyThere n.subs g f x → (o : Option ℤ) → own_whole job.program most x.ready ≡ o → AnswerShown (program_meaning job.program job.input) job.number v n (by_option o (Refused error.NoValue) (λ w. calls.exec job (sends_it job.program x.ready w) g f n))
+      by_value x there None e = tt
+      by_value x there (Some w) e = ended_shown (sends_it job.program x.ready w) g f (whole_ends job n g f x w there (given_within job.program most x.ready w e))
+
+      by_frame : (o : Option ReadyFrame) → ((x : ReadyFrame) → o ≡ Some x → ReadyThere n.subs g f x) → AnswerShown (program_meaning job.program job.input) job.number v n (by_option o (Refused error.Stale) (λ x. by_option (own_whole job.program most x.ready) (Refused error.NoValue) (λ w. calls.exec job (sends_it job.program x.ready w) g f n)))
+      by_frame None there = tt
+      by_frame (Some x) there = by_value x (there x refl) (own_whole job.program most x.ready) refl
+
+      by_where : (s : State) → n.state ≡ s → AnswerShown (program_meaning job.program job.input) job.number v n (by_state s (Refused error.NotJoined) (λ y. by_option (ready_of_sub f (sub_in g (by_state s [] (λ r. n.subs) (λ r heir. []) []))) (Refused error.Stale) (λ x. by_option (own_whole job.program most x.ready) (Refused error.NoValue) (λ w. calls.exec job (sends_it job.program x.ready w) g f n))) (λ y heir. Refused error.Stale) (Refused error.NotJoined))
+      by_where Joining e = tt
+      by_where (Member y) e = by_frame (ready_of_sub f (sub_in g n.subs)) (λ x at. ready_there n.subs g f x at)
       by_where (Leaving y heir) e = tt
       by_where Ended e = tt
 

@@ -1,7 +1,8 @@
 -- Which values of a run are shared by its threads, and which go to others.
 use denote.RattleType.{RattleType}
 use denote.Ref.{NamedLft}
-use denote.Param.Send.{IsSend, IsSync, recorded_send, recorded_sync, sendable, struct_send, struct_sync}
+use denote.Enum.Declared.{shape as cases}
+use denote.Param.Send.{IsSend, IsSync, enum_send, recorded_send, recorded_sync, sendable, struct_send, struct_sync}
 use denote.Struct.Declared.{shape}
 use denote.Struct.Tuple.{TupleAt, type_at}
 use denote.Param.SendFields.{declared_send, declared_sync}
@@ -33,6 +34,9 @@ use Rattle.node_runner.specs.contracts.desk.Desk as Desk
 use Rattle.event_script.specs.contracts.event.FrameOf as FrameOf
 use Rattle.node_runner.specs.contracts.desk.Ticket as Ticket
 use Rattle.node_runner.specs.contracts.turn.Evaluated as Evaluated
+use Rattle.node_runner.specs.contracts.turn.Found as Found
+use Rattle.serial_meaning.specs.contracts.whole.Whole as Whole
+use Rattle.serial_meaning.specs.contracts.keeping.UnderWay as UnderWay
 use Rattle.node_runner.specs.contracts.turn.Finished as Finished
 use Rattle.node_runner.specs.contracts.line.Line as Line
 use Rattle.node_runner.specs.contracts.pace.Pace as Pace
@@ -88,8 +92,23 @@ ticket = search (sendable, short.the_send, crosses) depth 25
 done : IsSend Done.the_row
 done = search (sendable, listed.the_send, short.the_send, crosses) depth 25
 
+whole : IsSend Whole.the_row
+whole = search (sendable, short.the_send, crosses) depth 25
+
+under_way : IsSend UnderWay.the_row
+under_way = search (sendable, short.the_send, crosses) depth 25
+
+under_ways : IsSend (Vec.the_row UnderWay.the_row Heap.the_row ghosts)
+under_ways = Vec-send UnderWay.the_row under_way
+
+found_field : IsSend (Found.the_field).row
+found_field = enum_send (cases Found.the_type) ((search (sendable, done) depth 12, tt), ((search (sendable, whole) depth 12, tt), tt))
+
+evaluated_field : IsSend (Evaluated.the_field).row
+evaluated_field = struct_send (shape Evaluated.the_type) (search sendable depth 12, (search sendable depth 12, (found_field, (search (sendable, under_ways) depth 12, tt))))
+
 evaluated : IsSend Evaluated.the_row
-evaluated = search (sendable, done) depth 25
+evaluated = recorded_send (Evaluated.the_field).row _ _ (Evaluated.the_type).to_one evaluated_field
 
 finished : IsSend Finished.the_row
 finished = search (sendable, evaluated, crosses) depth 25
@@ -118,10 +137,16 @@ desk_field = struct_send (shape Desk.the_type) (
         (
           search sendable depth 12,
           (
-            search (sendable, crosses) depth 12,
+            search (sendable, under_ways) depth 12,
             (
-              search (sendable, frames) depth 12,
-              tt,
+              search sendable depth 12,
+              (
+                search (sendable, crosses) depth 12,
+                (
+                  search (sendable, frames) depth 12,
+                  tt,
+                ),
+              ),
             ),
           ),
         ),

@@ -3,16 +3,26 @@ use Rattle.std.specs.Prelude.{◌≡◌, Option, IfSome}
 use Rattle.std.specs.declared.snapshot.Snapshot.{Snapshot}
 use Rattle.task_tree.specs.declared.tree.Program.{Program}
 use Rattle.node_runner.specs.declared.turn.Evaluated.{Evaluated}
+use Rattle.node_runner.specs.declared.turn.Found.{Found}
+use Rattle.node_runner.specs.declared.turn.Found.TheVariants.{Turn, Whole}
 
--- a program, and a turn of it, if there is one
+-- what was found is of a program, and so is what was evaluated
+abbrev pub IsFoundOf : Program → Found → Type 0
+IsFoundOf p (Turn d) = d.program ≡ p
+IsFoundOf p (Whole w) = w.program ≡ p
+
+abbrev pub IsEvaluatedOf : Program → Evaluated → Type 0
+IsEvaluatedOf p e = IsFoundOf p e.found
+
+-- a program, and what was evaluated of it, if something was
 pub record FinishedOf : Type 0 where
   pub program : Program
   pub evaluated : Option Evaluated
 
 abbrev pub IsFinished : FinishedOf → Type 0
-IsFinished f = IfSome f.evaluated (λ e. e.turn.program ≡ f.program)
+IsFinished f = IfSome f.evaluated (IsEvaluatedOf f.program)
 
--- turns of one program have one stamp
+-- what is of one program has one stamp
 abbrev pub stamp : Program → Snapshot Program
 stamp program = record { marker = record {}; value = program }
 

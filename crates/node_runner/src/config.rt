@@ -38,6 +38,7 @@ pub struct RunConfig {
     bodies: u8,
     faults: Faults,
     turns: u64,
+    grain: u64,
 }
 
 impl Model for RunConfig {
@@ -75,7 +76,21 @@ impl RunConfig {
             bodies: bodies as u8,
             faults,
             turns,
+            grain: 0,
         })
+    }
+
+    /// The same, where a ready frame's task is evaluated whole, with all that comes of it, in at most so many turns; where it takes more, or
+    /// for 0, the frame takes its own turn.
+    pub fn with_grain(self, grain: u64) -> RunConfig
+        ensures { result ≡ self }
+    {
+        RunConfig { grain, ..self }
+    }
+
+    /// In at most how many turns a task is evaluated whole; 0 where each frame takes its own turn. No clause speaks of it.
+    pub fn grain(&self) -> u64 {
+        self.grain
     }
 
     /// How many nodes.

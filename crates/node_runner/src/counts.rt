@@ -21,6 +21,9 @@ const BATCH: u64 = 64;
 /// For so many turns that a run may take a thread takes one at once, and one more for each as many again.
 const SHARE: u64 = 65_536;
 
+/// Of the turns that are left a thread takes one in so many for an evaluation at most.
+const SPARED: u64 = 1_024;
+
 /// What the actors of a run count together, each number by one step of an atomic word. The words lie on cache lines of their own: a thread
 /// that counts turns or bodies takes no line from one that counts events.
 #[derive(Drop)]
@@ -31,6 +34,7 @@ pub(crate) struct Counts {
     turns: CachePadded<AtomicU64>,
     events: CachePadded<AtomicU64>,
     bodies: CachePadded<AtomicU64>,
+    vain: AtomicU64,
     end: CachePadded<AtomicU64>,
 }
 
@@ -66,6 +70,7 @@ impl Counts {
             turns: CachePadded::new(AtomicU64::new(0)),
             events: CachePadded::new(AtomicU64::new(0)),
             bodies: CachePadded::new(AtomicU64::new(0)),
+            vain: AtomicU64::new(0),
             end: CachePadded::new(AtomicU64::new(0)),
         }
     }
@@ -103,6 +108,30 @@ impl Counts {
             self.ends(End::Turns);
         }
         left.min(batch)
+    }
+
+    /// How many turns of at most so many a thread gets for an evaluation, besides its own. They are few where few are left, so that all body
+    /// workers together leave others enough.
+    pub(crate) fn takes_for(&self, most: u64) -> u64 {
+        let left = self.limit.saturating_sub(self.turns.load(SeqCst));
+        let taken = most.min(left / SPARED);
+        let _ = self.turns.fetch_add(taken, SeqCst);
+        taken
+    }
+
+    /// Turns that were taken for an evaluation aren't needed.
+    pub(crate) fn gives_back(&self, turns: u64) {
+        let _ = self.turns.fetch_sub(turns, SeqCst);
+    }
+
+    /// So many turns were evaluated in vain.
+    pub(crate) fn wastes(&self, turns: u64) {
+        let _ = self.vain.fetch_add(turns, SeqCst);
+    }
+
+    /// How many turns were evaluated in vain.
+    pub(crate) fn vain(&self) -> u64 {
+        self.vain.load(SeqCst)
     }
 
     /// An event was committed.

@@ -41,12 +41,14 @@ pub(crate) struct WorkerContext {
     pub(crate) bells: Arc<Bells, Global>,
 }
 
-/// The actors' contexts, a seat each, and a pen and a desk for each node; and those of their body workers, so many a node.
+/// The actors' contexts, a seat each, and a pen and a desk for each node; and those of their body workers, so many a node. The desks know
+/// in how many turns a task is evaluated whole.
 pub(crate) fn contexts<'a, R: Wait>(
     rt: &R,
     alloc: Global,
     job: &Job,
     bodies: u8,
+    grain: u64,
     mut seats: Vec<ActorSeat<'a>>,
     mut pens: Vec<Pen>,
 ) -> Result<(Vec<ActorContext<'a>>, Vec<WorkerContext>), AllocError>
@@ -59,7 +61,16 @@ pub(crate) fn contexts<'a, R: Wait>(
     let mut contexts = Vec::with_capacity(alloc, seats.len())?;
     let mut workers = Vec::new(alloc);
     while let Some(seat) = seats.pop() {
-        let node = node_of(rt, alloc, job, bodies, &seat, &mut pens, &mut workers)?;
+        let node = node_of(
+            rt,
+            alloc,
+            job,
+            bodies,
+            grain,
+            &seat,
+            &mut pens,
+            &mut workers,
+        )?;
         contexts.push(ActorContext { seat, node })?;
     }
     Ok((contexts, workers))
@@ -71,6 +82,7 @@ fn node_of<R: Wait>(
     alloc: Global,
     job: &Job,
     bodies: u8,
+    grain: u64,
     seat: &ActorSeat,
     pens: &mut Vec<Pen>,
     workers: &mut Vec<WorkerContext>,
@@ -86,7 +98,7 @@ fn node_of<R: Wait>(
     let Some(pen) = pens.pop() else {
         return Ok(None);
     };
-    let desk = desk_of(rt, alloc, job, bodies, workers)?;
+    let desk = desk_of(rt, alloc, job, bodies, grain, workers)?;
     Ok(Some(NodeContext { pen, desk }))
 }
 
@@ -96,6 +108,7 @@ fn desk_of<R: Wait>(
     alloc: Global,
     job: &Job,
     bodies: u8,
+    grain: u64,
     workers: &mut Vec<WorkerContext>,
 ) -> Result<Desk, AllocError>
     requires { bodies ≤ 8 }
@@ -112,7 +125,7 @@ fn desk_of<R: Wait>(
     };
     let bells = Arc::new(alloc, Bells::new(bodies))?;
     hire(job, &queue, &bells, thieves, passes, workers)?;
-    let desk = Desk::new(alloc, owner, Line { queue, pass }, bells, bodies)?;
+    let desk = Desk::new(alloc, owner, Line { queue, pass }, bells, bodies, grain)?;
     Ok(desk)
 }
 

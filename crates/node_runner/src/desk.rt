@@ -1,28 +1,42 @@
 ghost use Rattle.std.specs.Prelude.{◌≡◌, IfOk, IfSome};
 ghost use Rattle.node_runner.specs.Lines.{IsLineOf};
+ghost use Rattle.node_runner.specs.Turns.{IsFoundOf};
 
 use crate::bells::Bells;
 use crate::line::Line;
-use crate::turn::Evaluated;
+use crate::turn::{Evaluated, Found};
 use chronicle::frame_of;
 use event_script::FrameOf;
 use kind_check::Checked;
 use local_pool::Owner;
 use node_core::Work;
+use serial_meaning::UnderWay;
 use std::alloc::{AllocError, Global};
 use std::sync::{Arc, Wait};
 
 /// How many tickets of a node are out at most for each of its body workers.
 const TICKETS: usize = 2;
 
-/// A ready frame of a node that waits for a body worker, with the number of the ticket.
+/// From how many tasks on that are known to be large older ones are forgotten.
+const MOST_LARGE: usize = 4_096;
+
+/// A ready frame of a node that waits for a body worker, with the number of the ticket, and in at most how many turns its task is to be
+/// evaluated whole; 0 where only its own turn is.
 #[derive(Drop)]
 pub(crate) struct Ticket {
     pub(crate) number: u64,
     pub(crate) work: Work,
+    pub(crate) most_turns: u64,
 }
 
-/// What a node's owner has of its body workers: it offers ready frames to them, and takes turns that they evaluated. It knows which of its
+/// What came back, without what the desk keeps of it: the frame, and what was found for it.
+#[derive(Drop)]
+pub(crate) struct Returned {
+    pub(crate) frame: FrameOf,
+    pub(crate) found: Found,
+}
+
+/// What a node's owner has of its body workers: it offers ready frames to them, and takes what they evaluated. It knows which of its
 /// tickets are out, neither come back nor forgotten.
 #[derive(Drop)]
 pub(crate) struct Desk {
@@ -30,6 +44,10 @@ pub(crate) struct Desk {
     pub(crate) line: Line,
     bells: Arc<Bells, Global>,
     workers: usize,
+    // In at most how many turns a task is evaluated whole; 0 where each frame takes its own turn.
+    grain: u64,
+    // Tasks that were under way where an evaluation ran out of turns.
+    large: Vec<UnderWay>,
     next: u64,
     // The tickets that are out, and the frame of each at the same index.
     tickets: Vec<u64>,
@@ -44,6 +62,7 @@ impl Desk {
         line: Line,
         bells: Arc<Bells, Global>,
         workers: usize,
+        grain: u64,
     ) -> Result<Desk, AllocError>
         ensures { IfOk result (λ d. d.line ≡ line) }
     {
@@ -53,6 +72,8 @@ impl Desk {
             line,
             bells,
             workers,
+            grain,
+            large: Vec::new(alloc),
             next: 0,
             tickets: Vec::with_capacity(alloc, room)?,
             frames: Vec::with_capacity(alloc, room)?,
@@ -92,13 +113,43 @@ impl Desk {
         if !self.notes(number, frame_of(&work)) {
             return false;
         }
-        if self.owner.offer(Ticket { number, work }).is_err() {
+        let ticket = Ticket {
+            number,
+            most_turns: self.most_turns(&work),
+            work,
+        };
+        if self.owner.offer(ticket).is_err() {
             self.removes(number);
             return false;
         }
         self.next = number.wrapping_add(1);
         self.bells.offers();
         true
+    }
+
+    /// In at most how many turns a ready frame's task is to be evaluated whole: only its own turn is where it is known to be large, which it
+    /// isn't any more then.
+    fn most_turns(&mut self, work: &Work) -> u64
+        ensures { self.new.line ≡ self.old.line }
+    {
+        if self.grain == 0 {
+            return 0;
+        }
+        let Some(index) = self.large.iter().position(|task| is_same(task, work)) else {
+            return self.grain;
+        };
+        let _ = self.large.swap_remove(index);
+        0
+    }
+
+    /// Tasks are known to be large, as far as there is memory.
+    fn learns(&mut self, mut large: Vec<UnderWay>)
+        ensures { self.new.line ≡ self.old.line }
+    {
+        if self.large.len() >= MOST_LARGE {
+            self.large.clear();
+        }
+        let _ = self.large.append(&mut large);
     }
 
     /// A ticket is out. Whether there was memory.
@@ -115,15 +166,21 @@ impl Desk {
         true
     }
 
-    /// The next turn that comes back, if one does. Its ticket isn't out any more.
-    pub(crate) fn take<R: Wait>(&mut self, rt: &R, checked: &Checked) -> Option<Evaluated>
+    /// What comes back next, if something does. Its ticket isn't out any more.
+    pub(crate) fn take<R: Wait>(&mut self, rt: &R, checked: &Checked) -> Option<Returned>
         requires { IsLineOf checked.now self.old.line }
         ensures line { IsLineOf checked.now self.new.line }
-        ensures own { IfSome result (λ e. e.turn.program ≡ checked.now) }
+        ensures own { IfSome result (λ r. IsFoundOf checked.now r.found) }
     {
-        let evaluated = self.line.take(rt, checked)?;
-        self.removes(evaluated.ticket);
-        Some(evaluated)
+        let Evaluated {
+            ticket,
+            frame,
+            found,
+            under_way,
+        } = self.line.take(rt, checked)?;
+        self.removes(ticket);
+        self.learns(under_way);
+        Some(Returned { frame, found })
     }
 
     /// Takes those tickets back that no worker has begun, and forgets them.
@@ -146,6 +203,7 @@ impl Desk {
         self.takes_back();
         self.tickets.clear();
         self.frames.clear();
+        self.large.clear();
     }
 
     /// A ticket isn't out any more.
@@ -160,4 +218,11 @@ impl Desk {
             let _ = self.frames.swap_remove(index);
         }
     }
+}
+
+/// Whether a task that was under way is a ready frame's.
+fn is_same(task: &UnderWay, work: &Work) -> bool {
+    task.thread == work.thread
+        && task.room == work.room
+        && task.numbers.as_slice() == work.numbers.as_slice()
 }

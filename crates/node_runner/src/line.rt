@@ -1,5 +1,6 @@
 ghost use Rattle.std.specs.Prelude.{◌≡◌, IfErr, IfSome};
 ghost use Rattle.node_runner.specs.Lines.{IsLineOf};
+ghost use Rattle.node_runner.specs.Turns.{IsEvaluatedOf};
 
 use crate::turn::{Evaluated, Finished};
 use kind_check::Checked;
@@ -34,7 +35,7 @@ impl Line {
     pub(crate) fn take<R: Wait>(&mut self, rt: &R, checked: &Checked) -> Option<Evaluated>
         requires { IsLineOf checked.now self.old }
         ensures line { IsLineOf checked.now self.new }
-        ensures own { IfSome result (λ e. e.turn.program ≡ checked.now) }
+        ensures own { IfSome result (IsEvaluatedOf checked.now) }
     {
         let _ = checked;
         let finished = self.queue.take(rt, &mut self.pass)?;

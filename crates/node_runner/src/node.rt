@@ -1,20 +1,23 @@
 ghost use Rattle.std.specs.Prelude.{◌≡◌};
 ghost use Rattle.chronicle.specs.Seats.{IsSeatIn};
 ghost use Rattle.node_runner.specs.Lines.{IsLineOf};
+ghost use Rattle.node_runner.specs.Turns.{IsFoundOf};
 
 use crate::counts::{Counts, End, Turns};
-use crate::desk::Desk;
+use crate::desk::{Desk, Returned};
 use crate::fates::Fates;
 use crate::gate::Gate;
 use crate::inbox::{Delivered, Inbox};
 use crate::members::Members;
 use crate::plans::Plans;
 use crate::resting::{YIELDS, asks_in_vain, nap, pause, pauses, rest, rest_idle, sleeps};
-use crate::shared::{Shared, commit, commit_turn};
-use crate::turn::Evaluated;
+use crate::shared::{Shared, commit, commit_turn, commit_whole};
+use crate::turn::Found;
+use body_eval::Done;
 use chronicle::{ActorSeat, Continued, Receiver};
-use event_script::{Event, NodeEvent, NodePlace};
+use event_script::{Event, FrameOf, NodeEvent, NodePlace};
 use node_core::NodeError;
+use serial_meaning::Whole;
 use start_words::Pen;
 use std::alloc::Global;
 use std::sync::Wait;
@@ -199,8 +202,8 @@ fn goes_on<'a, R: Wait + Clock, G: Gate + Sync>(
             return false;
         }
     }
-    if let Some(evaluated) = desk.take(rt, shared.chronicle.job().checked()) {
-        return executes(rt, alloc, shared, seat, desk, node, &evaluated);
+    if let Some(returned) = desk.take(rt, shared.chronicle.job().checked()) {
+        return executes(rt, alloc, shared, seat, desk, node, &returned);
     }
     if offers(rt, alloc, shared, seat, desk, node) {
         return true;
@@ -410,8 +413,7 @@ fn offers<'a, R: Wait, G: Gate + Sync>(
     desk.offer(work)
 }
 
-/// A frame of the node is carried out by the turn that a body worker evaluated. A ready frame that is found right behind it is offered to
-/// the workers, if they take one more. Whether there was memory.
+/// A frame of the node is carried out by what a body worker found for it. Whether there was memory.
 fn executes<'a, R: Wait, G: Gate + Sync>(
     rt: &R,
     alloc: Global,
@@ -419,27 +421,96 @@ fn executes<'a, R: Wait, G: Gate + Sync>(
     seat: &mut ActorSeat<'a>,
     desk: &mut Desk,
     node: &mut Node,
-    evaluated: &Evaluated,
+    returned: &Returned,
 ) -> bool
     requires seat { IsSeatIn shared.now.chronicle.now seat.old }
-    requires own { evaluated.now.turn.program ≡ shared.now.chronicle.now.job.program }
+    requires own { IsFoundOf shared.now.chronicle.now.job.program returned.now.found }
     ensures seat { IsSeatIn shared.entry.now.chronicle.now seat.new }
     ensures line { desk.new.line ≡ desk.old.line }
 {
-    let event = Event::AtNode(node.place, NodeEvent::Exec(evaluated.frame));
-    let Some(Continued { committed, next }) = commit_turn(
+    match &returned.found {
+        Found::Turn(turn) => takes_turn(rt, alloc, shared, seat, desk, node, returned.frame, turn),
+        Found::Whole(whole) => {
+            sends_whole(rt, alloc, shared, seat, desk, node, returned.frame, whole)
+        }
+    }
+}
+
+/// A frame of the node is carried out by its turn. Whether there was memory.
+fn takes_turn<'a, R: Wait, G: Gate + Sync>(
+    rt: &R,
+    alloc: Global,
+    shared: &Shared<'_, 'a, G>,
+    seat: &mut ActorSeat<'a>,
+    desk: &mut Desk,
+    node: &mut Node,
+    frame: FrameOf,
+    turn: &Done,
+) -> bool
+    requires seat { IsSeatIn shared.now.chronicle.now seat.old }
+    requires own { turn.now.program ≡ shared.now.chronicle.now.job.program }
+    ensures seat { IsSeatIn shared.entry.now.chronicle.now seat.new }
+    ensures line { desk.new.line ≡ desk.old.line }
+{
+    let event = Event::AtNode(node.place, NodeEvent::Exec(frame));
+    let (chronicle, counts) = (shared.chronicle, shared.counts);
+    let Some(continued) = commit_turn(
         rt,
         alloc,
-        shared.chronicle,
-        shared.counts,
+        chronicle,
+        counts,
         seat,
         event,
-        &evaluated.turn,
+        turn,
         node.place,
         desk.frames(),
     ) else {
         return false;
     };
+    follows(desk, node, continued);
+    true
+}
+
+/// A frame of the node is carried out by what its task gives. Whether there was memory.
+fn sends_whole<'a, R: Wait, G: Gate + Sync>(
+    rt: &R,
+    alloc: Global,
+    shared: &Shared<'_, 'a, G>,
+    seat: &mut ActorSeat<'a>,
+    desk: &mut Desk,
+    node: &mut Node,
+    frame: FrameOf,
+    whole: &Whole,
+) -> bool
+    requires seat { IsSeatIn shared.now.chronicle.now seat.old }
+    requires own { whole.now.program ≡ shared.now.chronicle.now.job.program }
+    ensures seat { IsSeatIn shared.entry.now.chronicle.now seat.new }
+    ensures line { desk.new.line ≡ desk.old.line }
+{
+    let event = Event::AtNode(node.place, NodeEvent::Whole(frame, whole.turns()));
+    let (chronicle, counts) = (shared.chronicle, shared.counts);
+    let Some(continued) = commit_whole(
+        rt,
+        alloc,
+        chronicle,
+        counts,
+        seat,
+        event,
+        whole,
+        node.place,
+        desk.frames(),
+    ) else {
+        return false;
+    };
+    follows(desk, node, continued);
+    true
+}
+
+/// A frame was carried out. A ready frame that was found right behind it is offered to the workers, if they take one more.
+fn follows(desk: &mut Desk, node: &mut Node, continued: Continued)
+    ensures { desk.new.line ≡ desk.old.line }
+{
+    let Continued { committed, next } = continued;
     node.notes(committed.told);
     node.dry = 0;
     node.pauses = 0;
@@ -451,7 +522,6 @@ fn executes<'a, R: Wait, G: Gate + Sync>(
         Some(_) => {}
         None => node.may_be_ready = false,
     }
-    true
 }
 
 /// The node asks for work, where somebody is listed. Whether it did; none where there was no memory.

@@ -59,7 +59,8 @@ pub fn run_job<'a, R: Threads + Wait + Clock + Sync, G: Gate + Sync>(
             return Err(RunError::Memory);
         }
         let counts = Counts::new(config.turns(), patience);
-        let trace = traced(rt, alloc, job, config, gate, &counts)?;
+        let mut trace = traced(rt, alloc, job, config, gate, &counts)?;
+        trace.tell_kept(0, counts.vain());
         if let Some(outcome) = trace.outcome() {
             return Ok(Ran { outcome, trace });
         }
@@ -92,7 +93,15 @@ fn traced<'a, R: Threads + Wait + Clock + Sync, G: Gate + Sync>(
     let Ok((words, pens)) = WordTable::new(alloc, usize::from(nodes)) else {
         return Err(RunError::Memory);
     };
-    let Ok((contexts, workers)) = contexts(rt, alloc, job, config.bodies(), seats, pens) else {
+    let Ok((contexts, workers)) = contexts(
+        rt,
+        alloc,
+        job,
+        config.bodies(),
+        config.grain(),
+        seats,
+        pens,
+    ) else {
         return Err(RunError::Memory);
     };
     let Ok(pace) = Pace::new(alloc, config) else {

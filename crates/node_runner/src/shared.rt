@@ -12,6 +12,7 @@ use board::Board;
 use body_eval::Done;
 use chronicle::{ActorSeat, Chronicle, Committed, Continued};
 use event_script::{Event, FrameOf, NodePlace};
+use serial_meaning::Whole;
 use start_words::WordTable;
 use std::alloc::Global;
 use std::sync::Wait;
@@ -73,6 +74,34 @@ pub(crate) fn commit_turn<'a, R: Wait>(
         return None;
     }
     let Ok(continued) = chronicle.commit_turn(rt, alloc, seat, event, turn, place, besides) else {
+        counts.ends(End::Memory);
+        return None;
+    };
+    counts.commits();
+    Some(continued)
+}
+
+/// The same, with a task that was evaluated whole before, and with a ready frame of the node of a place that isn't among these, if one is found
+/// right behind the event.
+pub(crate) fn commit_whole<'a, R: Wait>(
+    rt: &R,
+    alloc: Global,
+    chronicle: &Chronicle<'a>,
+    counts: &Counts,
+    seat: &mut ActorSeat<'a>,
+    event: Event,
+    whole: &Whole,
+    place: NodePlace,
+    besides: &[FrameOf],
+) -> Option<Continued>
+    requires seat { IsSeatIn chronicle.now seat.old }
+    requires whole { whole.now.program ≡ chronicle.now.job.program }
+    ensures { IsSeatIn chronicle.entry.now seat.new }
+{
+    if !seat.owns(&event) {
+        return None;
+    }
+    let Ok(continued) = chronicle.commit_whole(rt, alloc, seat, event, whole, place, besides) else {
         counts.ends(End::Memory);
         return None;
     };

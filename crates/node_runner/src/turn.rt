@@ -1,21 +1,33 @@
+//! What comes back from body workers.
 ghost use Rattle.std.specs.Prelude.{◌≡◌, IfSome};
+ghost use Rattle.node_runner.specs.Turns.{IsEvaluatedOf};
 
 use body_eval::Done;
 use event_script::FrameOf;
 use kind_check::Checked;
 use local_pool::Stamped;
+use serial_meaning::{UnderWay, Whole};
 use std::marker::Model;
 use std::snapshot::Snapshot;
 
-/// A turn that a body worker evaluated: the number of its ticket, its frame, and the turn.
+/// What a body worker found for a ready frame: its turn, or what its task gives with all that comes of it.
+#[derive(Drop)]
+pub(crate) enum Found {
+    Turn(Done),
+    Whole(Whole),
+}
+
+/// What a body worker evaluated: the number of the ticket, its frame, and what was found; and where the task took too many turns, which
+/// tasks below it were under way then.
 #[derive(Drop)]
 pub(crate) struct Evaluated {
     pub(crate) ticket: u64,
     pub(crate) frame: FrameOf,
-    pub(crate) turn: Done,
+    pub(crate) found: Found,
+    pub(crate) under_way: Vec<UnderWay>,
 }
 
-/// What comes back from body workers: turns of one program. The first one has none, and stands for the program. Contracts see both.
+/// What comes back from body workers, all of one program. The first one has nothing, and stands for the program. Contracts see both.
 #[derive(Drop)]
 pub(crate) struct Finished {
     // It has no bytes.
@@ -58,9 +70,9 @@ impl Finished {
         }
     }
 
-    /// A turn of a program.
+    /// What was evaluated of a program.
     pub(crate) fn of(checked: &Checked, evaluated: Evaluated) -> Finished
-        requires { evaluated.turn.program ≡ checked.now }
+        requires { IsEvaluatedOf checked.now evaluated }
         ensures { result.program ≡ checked.now }
     {
         Finished {
@@ -69,9 +81,9 @@ impl Finished {
         }
     }
 
-    /// The turn, if it has one.
+    /// What was evaluated, if something was.
     pub(crate) fn into_evaluated(self) -> Option<Evaluated>
-        ensures { IfSome result (λ e. e.turn.program ≡ self.program) }
+        ensures { IfSome result (IsEvaluatedOf self.program) }
     {
         self.evaluated
     }

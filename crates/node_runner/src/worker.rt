@@ -1,8 +1,10 @@
-ghost use Rattle.std.specs.Prelude.{◌≡◌};
+ghost use Rattle.std.specs.Prelude.{◌≡◌, length, IfSome};
+ghost use Rattle.kind_check.specs.Total.{Takes};
 ghost use Rattle.node_runner.specs.Lines.{IsLineOf};
+ghost use Rattle.node_runner.specs.Turns.{IsEvaluatedOf};
 
 use crate::bells::Bells;
-use crate::counts::{End, Turns};
+use crate::counts::{Counts, End, Turns};
 use crate::crew::WorkerContext;
 use crate::desk::Ticket;
 use crate::gate::Gate;
@@ -10,17 +12,23 @@ use crate::line::Line;
 use crate::muster::musters;
 use crate::resting::{YIELDS, rest};
 use crate::shared::Shared;
-use crate::turn::{Evaluated, Finished};
+use crate::turn::{Evaluated, Finished, Found};
 use board::Note;
 use body_eval::Done;
 use chronicle::{frame_of, takes_its_numbers};
+use kind_check::Checked;
+use node_core::Work;
+use serial_meaning::{Flat, Keeper, Whole};
 use std::alloc::Global;
 use std::sync::Wait;
 use std::thread::yield_now;
 use std::time::Clock;
 
-/// A body worker's turns, until the run ends: it steals a ticket of its node, evaluates the body once the gate lets it, and gives the turn
-/// back.
+/// On how many levels below a task it is told what was under way, where it takes too many turns.
+const LEVELS: u16 = 10;
+
+/// A body worker's turns, until the run ends: it steals a ticket of its node, evaluates the frame once the gate lets it, and gives
+/// back what it found.
 pub(crate) fn run_worker<R: Wait + Clock, G: Gate + Sync>(
     rt: &R,
     alloc: Global,
@@ -37,6 +45,10 @@ pub(crate) fn run_worker<R: Wait + Clock, G: Gate + Sync>(
         mut line,
         bells,
     } = context;
+    let Ok(flat) = Flat::of(alloc, shared.chronicle.job().checked()) else {
+        shared.counts.ends(End::Memory);
+        return;
+    };
     let mut note = shared.board.note();
     let mut turns = Turns::new();
     let mut idle: u64 = 0;
@@ -48,7 +60,9 @@ pub(crate) fn run_worker<R: Wait + Clock, G: Gate + Sync>(
         if let Some(ticket) = worker.steal() {
             idle = 0;
             bells.takes();
-            if !works(rt, alloc, shared, &mut line, &mut turns, &mut note, ticket) {
+            if !works(
+                rt, alloc, shared, &flat, &mut line, &mut turns, &mut note, ticket,
+            ) {
                 break;
             }
             bells.returns();
@@ -76,38 +90,33 @@ fn goes_on<G: Gate + Sync>(shared: &Shared<'_, '_, G>, turns: &mut Turns, note: 
     shared.counts.takes_turn(turns) && shared.board.read(note).is_none()
 }
 
-/// The body of a ticket is evaluated, and the turn goes back. Whether the run goes on, and there was memory.
+/// A ticket's frame is evaluated, and what was found goes back. Whether the run goes on, and there was memory.
 fn works<R: Wait + Clock, G: Gate + Sync>(
     rt: &R,
     alloc: Global,
     shared: &Shared<'_, '_, G>,
+    flat: &Flat,
     line: &mut Line,
     turns: &mut Turns,
     note: &mut Note,
     ticket: Ticket,
 ) -> bool
+    requires flat { flat.now.program ≡ shared.now.chronicle.now.job.program }
     requires line { IsLineOf shared.now.chronicle.now.job.program line.old }
     requires note { note.old.board ≡ shared.now.board.now.board }
     ensures line { IsLineOf shared.entry.now.chronicle.now.job.program line.new }
     ensures note { note.new.board ≡ note.old.board }
 {
-    let Ticket { number, work } = ticket;
     let checked = shared.chronicle.job().checked();
-    if !takes_its_numbers(checked, &work) {
+    if !takes_its_numbers(checked, &ticket.work) {
         return true;
     }
     if !passes(rt, shared, turns, note) {
         return false;
     }
-    let frame = frame_of(&work);
-    let Ok(turn) = Done::on(alloc, checked, work.thread, work.numbers) else {
+    let Some(evaluated) = evaluates(alloc, checked, flat, shared.counts, ticket) else {
         shared.counts.ends(End::Memory);
         return false;
-    };
-    let evaluated = Evaluated {
-        ticket: number,
-        frame,
-        turn,
     };
     returns(
         rt,
@@ -117,6 +126,61 @@ fn works<R: Wait + Clock, G: Gate + Sync>(
         note,
         Finished::of(checked, evaluated),
     )
+}
+
+/// Evaluates a ticket's task whole, in as many turns as it says or are left; where that isn't done, its frame's turn. None where there is no
+/// memory for that.
+fn evaluates(
+    alloc: Global,
+    checked: &Checked,
+    flat: &Flat,
+    counts: &Counts,
+    ticket: Ticket,
+) -> Option<Evaluated>
+    requires flat { flat.now.program ≡ checked.now }
+    requires takes { Takes checked.now ticket.work.thread (length ticket.work.numbers) }
+    ensures { IfSome result (IsEvaluatedOf checked.now) }
+{
+    let frame = frame_of(&ticket.work);
+    let Work {
+        thread,
+        numbers,
+        room,
+        ..
+    } = ticket.work;
+    let most = counts.takes_for(ticket.most_turns);
+    let mut keeper = Keeper::new(alloc, LEVELS);
+    match Whole::of(
+        alloc,
+        checked,
+        flat,
+        &mut keeper,
+        room,
+        thread,
+        numbers,
+        most,
+    ) {
+        Ok(whole) => {
+            counts.gives_back(most - whole.turns());
+            Some(Evaluated {
+                ticket: ticket.number,
+                frame,
+                found: Found::Whole(whole),
+                under_way: Vec::new(alloc),
+            })
+        }
+        Err((numbers, _)) => {
+            let (_, under_way) = keeper.into_parts();
+            counts.wastes(most);
+            let turn = Done::on(alloc, checked, thread, numbers).ok()?;
+            Some(Evaluated {
+                ticket: ticket.number,
+                frame,
+                found: Found::Turn(turn),
+                under_way,
+            })
+        }
+    }
 }
 
 /// Numbers a body, and asks the gate, each time in a turn, until it lets it be evaluated. Whether it did before the run ended.

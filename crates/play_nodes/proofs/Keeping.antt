@@ -16,6 +16,7 @@ keeps_job a (Ok step) before after is = carried a step before after is
 keeps_job a (Err error.Memory) before after is = ap (λ n. n.job) is
 keeps_job a (Err (error.Bytes fault)) before after is = ap (λ n. n.job) is.1
 keeps_job a (Err error.Stale) before after is = ap (λ n. n.job) is.1
+keeps_job a (Err error.NoValue) before after is = ap (λ n. n.job) is.1
 keeps_job a (Err error.Pending) before after is = ap (λ n. n.job) is.1
 keeps_job a (Err error.TooBig) before after is = ap (λ n. n.job) is.1
 keeps_job a (Err error.HopSpent) before after is = ap (λ n. n.job) is.1

@@ -2,8 +2,10 @@
 
 use crate::held::Held;
 use crate::layout::Layout;
+use crate::marks::write_title;
 use crate::px::Px;
 use crate::record::Recorder;
+use crate::shown::Turn;
 use crate::texts::HeldText;
 use event_script::NodePlace;
 use node_core::SubState;
@@ -60,19 +62,44 @@ fn gap(layout: &Layout) -> Px {
     layout.track().over(5)
 }
 
-/// Writes a stroke into a bar for each thread body that ran.
+/// Writes a stroke into a bar for each thread body that ran, and a broad one with a title for each task that was evaluated whole.
 pub(crate) fn write_turns<O: Write>(
     out: &mut O,
     layout: &Layout,
     run: &Recorder,
 ) -> io::Result<()> {
-    let height = layout.track().minus(gap(layout)).over(2);
     for turn in &run.turns {
-        let x = layout.x(turn.at);
-        let y = layout
-            .track_top(turn.place, turn.track)
-            .plus(height.over(2));
-        writeln!(out, "<path class=\"turn\" d=\"M{x} {y}v{height}\"/>")?;
+        if turn.is_of_whole {
+            write_whole(out, layout, run, turn)?;
+        } else {
+            write_stroke(out, layout, turn, "turn")?;
+            writeln!(out)?;
+        }
     }
     Ok(())
+}
+
+/// Writes a broad stroke, with a title.
+fn write_whole<O: Write>(
+    out: &mut O,
+    layout: &Layout,
+    run: &Recorder,
+    turn: &Turn,
+) -> io::Result<()> {
+    let Some(step) = run.steps.get(turn.at) else {
+        return Ok(());
+    };
+    write_title(out, run, turn.at, step)?;
+    write_stroke(out, layout, turn, "whole")?;
+    writeln!(out, "</g>")
+}
+
+/// Writes a stroke of a look.
+fn write_stroke<O: Write>(out: &mut O, layout: &Layout, turn: &Turn, look: &str) -> io::Result<()> {
+    let height = layout.track().minus(gap(layout)).over(2);
+    let x = layout.x(turn.at);
+    let y = layout
+        .track_top(turn.place, turn.track)
+        .plus(height.over(2));
+    write!(out, "<path class=\"{look}\" d=\"M{x} {y}v{height}\"/>")
 }

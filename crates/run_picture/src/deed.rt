@@ -15,6 +15,8 @@ pub(crate) enum Deed {
     Start(u64),
     Deliver(u64),
     Exec(FrameOf),
+    /// A frame is carried out by its whole value, in so many turns: in at most so many, where it isn't done.
+    Whole(FrameOf, u64),
     Ask(Asked),
     Resend,
     Depart(u64),
@@ -39,7 +41,7 @@ pub(crate) enum Effect {
     Nothing,
 }
 
-/// An event, what came of it, and the thread whose body ran, if one did.
+/// An event, what came of it, and the thread whose body ran, or whose task was evaluated whole, if one was.
 #[derive(Clone, Copy)]
 pub(crate) struct Step {
     pub(crate) site: Site,
@@ -77,6 +79,7 @@ fn node_deed(event: NodeEvent) -> Deed {
     match event {
         NodeEvent::Deliver(packet) => Deed::Deliver(packet),
         NodeEvent::Exec(frame) => Deed::Exec(frame),
+        NodeEvent::Whole(frame, most) => Deed::Whole(frame, most),
         NodeEvent::Ask(whom) => Deed::Ask(whom),
         NodeEvent::Resend => Deed::Resend,
         NodeEvent::Depart(heir) => Deed::Depart(heir),

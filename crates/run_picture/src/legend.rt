@@ -45,6 +45,11 @@ const ROWS: &str = "<rect class=\"live\" x=\"14\" y=\"-6\" width=\"30\" height=\
 <text x=\"578\" y=\"76\">event that changes nothing, or is refused</text>
 ";
 
+/// What the second row has more where a task was evaluated whole.
+const WHOLE: &str = "<path class=\"whole\" d=\"M678.6 20v8\"/>
+<text x=\"690.6\" y=\"28\">task that was evaluated whole</text>
+";
+
 /// Writes the legend, in a wide picture a screen's width on once more, as often as there is room for it.
 pub(crate) fn write_legend<O: Write>(
     out: &mut O,
@@ -52,9 +57,10 @@ pub(crate) fn write_legend<O: Write>(
     run: &Recorder,
 ) -> io::Result<()> {
     let top = layout.lanes_end.plus(Px(260));
+    let more = if run.has_wholes() { WHOLE } else { "" };
     write!(
         out,
-        "<g class=\"legend\" id=\"legend\" transform=\"translate(0 {top})\">\n{ROWS}"
+        "<g class=\"legend\" id=\"legend\" transform=\"translate(0 {top})\">\n{ROWS}{more}"
     )?;
     write_note(out, layout, run)?;
     for screen in 1..4usize {

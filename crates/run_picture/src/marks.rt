@@ -43,8 +43,13 @@ pub(crate) fn write_marks<O: Write>(
     write_outcome(out, layout, run)
 }
 
-/// Writes the title of an event.
-fn write_title<O: Write>(out: &mut O, run: &Recorder, event: usize, step: &Step) -> io::Result<()> {
+/// Begins what has an event's title, and writes that.
+pub(crate) fn write_title<O: Write>(
+    out: &mut O,
+    run: &Recorder,
+    event: usize,
+    step: &Step,
+) -> io::Result<()> {
     let number = event.saturating_add(1);
     let (words, effect) = (run.words_of(step), EffectText(step.effect));
     write!(out, "<g><title>event {number}: {words}{effect}</title>")

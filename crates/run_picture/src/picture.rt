@@ -19,7 +19,7 @@ use std::io::{self, Write};
 /// runs, and nothing else changes that is shown but packets, are folded.
 pub fn write_picture<O: Write>(out: &mut O, run: &Recorder, shows: Shows) -> io::Result<()> {
     let layout = Layout::of(run, shows);
-    write_beginning(out, &layout)?;
+    write_beginning(out, &layout, run)?;
     write_heading(out, run)?;
     write_lanes(out, &layout, run)?;
     write_axis(out, &layout, run)?;

@@ -123,6 +123,11 @@ impl Recorder {
         self.folds.take(stands_out)
     }
 
+    /// Whether a task was evaluated whole.
+    pub(crate) fn has_wholes(&self) -> bool {
+        self.turns.iter().any(|turn| turn.is_of_whole)
+    }
+
     /// How much has changed so far.
     fn tally(&self) -> Tally {
         Tally {
@@ -139,6 +144,7 @@ impl Recorder {
         let effect = self.effect_of(&deed, &told);
         let ran = body_run(&site, &deed, effect, world);
         let deed = self.opened(deed, effect);
+        let deed = counted(&site, deed, effect, world);
         Step {
             site,
             deed,
@@ -290,17 +296,14 @@ impl Recorder {
         let Some(lane) = self.lanes.get_mut(usize::from(place.index())) else {
             return Ok(());
         };
+        if let Some(turn) = turn_of(lane, at, place, deed) {
+            keep(&mut self.turns, turn)?;
+        }
         match *deed {
             Deed::Start(word) => {
                 lane.start(at, word);
                 let place = *place;
                 keep(&mut self.workers, Worker { word, at, place })?;
-            }
-            Deed::Exec(frame) => {
-                if let Some(track) = lane.track_of(frame) {
-                    let place = *place;
-                    keep(&mut self.turns, Turn { at, place, track })?;
-                }
             }
             Deed::Crash => {
                 if let Some(since) = lane.up {
@@ -411,12 +414,38 @@ fn thread_names(alloc: Global, world: &World<'_>) -> Result<Vec<Vec<u8>>, Lost> 
     Ok(names)
 }
 
-/// The thread whose body an event ran, in the world after it.
+/// The stroke of an event that carried out a frame of a lane, if it did.
+fn turn_of(lane: &Lane, at: usize, place: &NodePlace, deed: &Deed) -> Option<Turn> {
+    let (frame, is_of_whole) = match *deed {
+        Deed::Exec(frame) => (frame, false),
+        Deed::Whole(frame, _) => (frame, true),
+        _ => return None,
+    };
+    Some(Turn {
+        at,
+        place: *place,
+        track: lane.track_of(frame)?,
+        is_of_whole,
+    })
+}
+
+/// What happens, with the turns that it took where a task was evaluated whole, in the world after it.
+fn counted(site: &Site, deed: Deed, effect: Effect, world: &World<'_>) -> Deed {
+    let (Site::At(place), Deed::Whole(frame, most), Effect::Done) = (site, deed, effect) else {
+        return deed;
+    };
+    match world.node(*place) {
+        Some(node) => Deed::Whole(frame, node.last_whole()),
+        None => Deed::Whole(frame, most),
+    }
+}
+
+/// The thread whose body an event ran, or whose task it evaluated whole, in the world after it.
 fn body_run(site: &Site, deed: &Deed, effect: Effect, world: &World<'_>) -> Option<u8> {
     let Site::At(place) = site else {
         return None;
     };
-    if !matches!(deed, Deed::Exec(_)) || effect != Effect::Done {
+    if !matches!(deed, Deed::Exec(_) | Deed::Whole(_, _)) || effect != Effect::Done {
         return None;
     }
     Some(world.node(*place)?.parts().last_turn().thread)

@@ -33,12 +33,13 @@ pub(crate) struct Worker {
     pub(crate) place: NodePlace,
 }
 
-/// A thread body that ran, in the subcomputation on a track.
+/// A thread body that ran, or all those of a task that was evaluated whole, in the subcomputation on a track.
 #[derive(Clone, Copy)]
 pub(crate) struct Turn {
     pub(crate) at: usize,
     pub(crate) place: NodePlace,
     pub(crate) track: usize,
+    pub(crate) is_of_whole: bool,
 }
 
 /// A packet that was sent: at which event and where, to whom, its kind and the grant that it names.

@@ -1,6 +1,7 @@
 //! How a picture looks.
 
 use crate::layout::Layout;
+use crate::record::Recorder;
 use std::io::{self, Write};
 
 /// The looks of all that is drawn, by class.
@@ -44,6 +45,10 @@ const LOOKS: &str =
 .done{fill:#f2b701;stroke:#5c4500;stroke-width:1}
 ";
 
+/// The look of a task that was evaluated whole.
+const LOOK_OF_WHOLE: &str = ".whole{stroke:#0b3a66;stroke-width:5;fill:none}
+";
+
 /// What is referred to: the hatching, and for each family of packets the heads of its arrows, a full one, and an open one for packets that
 /// are ignored; and those of arrows that stand for any family, in the legend. The shape of its heads tells a family apart without colours.
 const PARTS: &str =
@@ -63,14 +68,19 @@ const PARTS: &str =
 ";
 
 /// Writes the beginning of a picture: its size, its looks, the hatching and the heads of arrows.
-pub(crate) fn write_beginning<O: Write>(out: &mut O, layout: &Layout) -> io::Result<()> {
+pub(crate) fn write_beginning<O: Write>(
+    out: &mut O,
+    layout: &Layout,
+    run: &Recorder,
+) -> io::Result<()> {
     let (width, height) = (layout.width(), layout.height());
+    let more = if run.has_wholes() { LOOK_OF_WHOLE } else { "" };
     write!(
         out,
         "<svg xmlns=\"http://www.w3.org/2000/svg\" width=\"{width}\" height=\"{height}\" viewBox=\"0 0 {width} {height}\">\n"
     )?;
     write!(
         out,
-        "<style>\n{LOOKS}</style>\n<defs>\n{PARTS}</defs>\n<rect width=\"{width}\" height=\"{height}\" fill=\"#fff\"/>\n"
+        "<style>\n{LOOKS}{more}</style>\n<defs>\n{PARTS}</defs>\n<rect width=\"{width}\" height=\"{height}\" fill=\"#fff\"/>\n"
     )
 }

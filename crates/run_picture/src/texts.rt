@@ -123,7 +123,7 @@ impl<'r> fmt::Display for EventWords<'r> {
     fn fmt<W: fmt::Write>(&self, f: &mut fmt::Formatter<W>) -> fmt::Result {
         match self.step.site {
             Site::House => write_house_words(f, self.step.deed)?,
-            Site::At(place) => write_node_words(f, place.index(), self.step.deed)?,
+            Site::At(place) => write_node_words(f, place.index(), &self.step)?,
         }
         match self.thread {
             Some(thread) => write!(f, ": {}", ThreadName(thread)),
@@ -163,14 +163,19 @@ fn write_house_words<W: fmt::Write>(f: &mut fmt::Formatter<W>, deed: Deed) -> fm
 fn write_node_words<W: fmt::Write>(
     f: &mut fmt::Formatter<W>,
     place: u8,
-    deed: Deed,
+    step: &Step,
 ) -> fmt::Result {
-    match deed {
+    match step.deed {
         Deed::Start(word) => write!(f, "start {place} {word}"),
         Deed::Deliver(packet) => write!(f, "deliver {place} {packet}"),
         Deed::Exec(frame) => {
             let (minter, number, frame) = (Who(frame.minter), frame.number, frame.frame);
             write!(f, "exec {place} {minter}/{number} {frame}")
+        }
+        Deed::Whole(frame, turns) => {
+            let (minter, number, frame) = (Who(frame.minter), frame.number, frame.frame);
+            write!(f, "whole {place} {minter}/{number} {frame} in ")?;
+            write_turns(f, turns, step.effect)
         }
         Deed::Ask(Asked::House) => write!(f, "ask {place} house"),
         Deed::Ask(Asked::Worker(word)) => write!(f, "ask {place} {word}"),
@@ -179,6 +184,19 @@ fn write_node_words<W: fmt::Write>(
         Deed::Crash => write!(f, "crash {place}"),
         _ => Ok(()),
     }
+}
+
+/// How many turns a task took that was evaluated whole, or might have taken.
+fn write_turns<W: fmt::Write>(
+    f: &mut fmt::Formatter<W>,
+    turns: u64,
+    effect: Effect,
+) -> fmt::Result {
+    if effect != Effect::Done {
+        write!(f, "at most ")?;
+    }
+    let s = if turns == 1 { "" } else { "s" };
+    write!(f, "{turns} turn{s}")
 }
 
 /// What came of an event, where it isn't just done.

@@ -9,10 +9,10 @@ use Rattle.kind_check.specs.declared.turn.Turn.TheVariants.{Sends as TurnSends, 
 use Rattle.kind_check.specs.Turns.{◌>>=◌, turn_of}
 use Rattle.serial_meaning.specs.Serial.{TaskValue, slot_value, slot_values, serial}
 use Rattle.serial_meaning.specs.Places.{Call, room, after_step, task_at, turn_at, value_within, value_at}
-use Rattle.serial_meaning.proofs.FrameLaws.{call_of, sent_value, joined_value, last_value, kid_small, kid_task}
+use Rattle.serial_meaning.proofs.FrameLaws.{call_of, joined_value, last_value, kid_small, kid_task}
 use Rattle.run_tables.specs.Content.{given}
-use Rattle.run_tables.specs.Meaning.{Part, Kid, Sends, Joins, begun, SlotFits, FitsMeaning, Runs, IsSerial}
-use Rattle.run_tables.specs.Program.{part_of, end_of, ends_on, next_thread, next_slot, number_slot, frame_slot, program_meaning}
+use Rattle.run_tables.specs.Meaning.{Part, Kid, Joins, begun, SlotFits, FitsMeaning, Runs, IsSerial}
+use Rattle.run_tables.specs.Program.{part_of, end_of, gives_at, next_thread, next_slot, number_slot, frame_slot, program_meaning}
 use Rattle.run_tables.proofs.Lists.{some_same}
 
 -- numbers fit their own slots, and no others
@@ -55,15 +55,7 @@ held p input (zero ∷ q) t numbers fits =
     sym (then_again (task_at p input q) (λ (call : Call). turn_of p call.thread call.numbers) (λ (turn : Turn). after_step f 0 turn)) ∙ succeeded f (turn_at p input q) t numbers fits.thread fits.slots
 held p input (suc i ∷ q) t numbers fits = called (task_at p input (suc i ∷ q)) t numbers fits.thread fits.slots
 
--- a turn that ends by sending, or by joining
-sends_turn : (p : Program) (t : ℕ) (numbers : List ℤ) (v : ℤ) → ends_on p t numbers ≡ Some (Sends v) → turn_of p t numbers ≡ Some (TurnSends v)
-sends_turn p t numbers v e = by (turn_of p t numbers) e
-  where
-    by : (o : Option Turn) → (o >>= λ (turn : Turn). Some (end_of turn)) ≡ Some (Sends v) → o ≡ Some (TurnSends v)
-    by None e = cc
-    by (Some (TurnSends w)) e = let is : w ≡ v = cc in rw is refl
-    by (Some (TurnJoins s slots)) e = cc
-
+-- a turn that ends by joining
 record JoinTurn (o : Option Turn) (u : ℕ) (parts : List Part) : Type 0 where
   slots : List JoinSlot
   turn : o ≡ Some (TurnJoins u slots)
@@ -179,9 +171,14 @@ module _ (p : Program) (input : List ℤ) (place : List ℕ) (t u : ℕ) (number
   kid_gives j hole x own e = let kid = named j hole x own e in
       slot_gets p input place t u numbers turn.slots j hole x own kid.kid task turn.turn kid.there kid.thread kid.numbers (task_there j hole x own e)
 
+-- what the task at a place gives is the value there
+given_value : (p : Program) (input : List ℤ) (place : List ℕ) (t : ℕ) (numbers : List ℤ) (v : ℤ) → task_at p input place ≡ Some (call_of t numbers) → gives_at p place t numbers ≡ Some v → value_at p input place ≡ Some v
+unfolding value_within
+given_value p input place t numbers v task gives = rw task gives
+
 pub program_serial : (p : Program) (input : List ℤ) → IsSerial (program_meaning p input)
 program_serial p input = record {
-  sent = λ place t numbers v run. sent_value p input place t numbers v (held p input place t numbers run.fits) (sends_turn p t numbers v run.ends);
+  gives = λ place t numbers v from. given_value p input place t numbers v (held p input place t numbers from.fits) from.gives;
   joined = λ place t u numbers parts run short. let turn = joins_turn (turn_of p t numbers) u parts run.ends in
       joined_value p input place t numbers u turn.slots short (held p input place t numbers run.fits) turn.turn;
   deep = λ place t u numbers parts run long. let turn = joins_turn (turn_of p t numbers) u parts run.ends in

@@ -12,14 +12,14 @@ use Rattle.node_core.specs.Cases as cases
 use Rattle.event_script.specs.declared.event.Event.{Event}
 use Rattle.event_script.specs.declared.event.Event.TheVariants.{Start, AtNode, Crash, AtHouse, HouseCrash, Cut}
 use Rattle.event_script.specs.declared.event.NodeEvent.{NodeEvent}
-use Rattle.event_script.specs.declared.event.NodeEvent.TheVariants.{Deliver, Exec, Ask, Resend, Depart}
+use Rattle.event_script.specs.declared.event.NodeEvent.TheVariants.{Deliver, Exec, Whole, Ask, Resend, Depart}
 use Rattle.run_tables.specs.Tables.{◌∈◌}
 use Rattle.run_tables.specs.View.{View}
 use Rattle.run_tables.specs.Facts.{of_worker}
 use Rattle.run_tables.specs.Runs.{at_start}
 use Rattle.run_tables.specs.View as tables
 use Rattle.run_tables.proofs.Among.{got}
-use Rattle.node_moves.proofs.Changing.{exec_ready_shown}
+use Rattle.node_moves.proofs.Changing.{exec_ready_shown, whole_ready_shown}
 use Rattle.node_moves.proofs.Resending.{resend_shown}
 use Rattle.node_moves.proofs.Table.{ask_shown, depart_shown, packet_shown}
 use Rattle.world_steps.specs.Answers.{StepResult, Unfit, answered, same, stepped, with_some}
@@ -53,6 +53,7 @@ module _ (job : JobOf) (base : View) (w : WorldOf) (tied : TiedSince job base w)
     at_node_tied : (choice : Option Candidate) (e : NodeEvent) → TiedSince job base (at_node job choice a e n w).world
     at_node_tied choice (Deliver i) = with_there (slice_get w.net i) (λ p. answered a (cases.on_packet job choice p n) w) (λ p e. answered_tied job base tied.view w tied.run tied.since tied.shown a n there (cases.on_packet job choice p n) (packet_shown (tables_meaning job) job tied.view n tied.run (tied.shown.nodes a n there) choice p (tied.shown.net p (got w.net i p e))))
     at_node_tied choice (Exec f) = answered_tied job base tied.view w tied.run tied.since tied.shown a n there (call.exec_ready job (grant_of f) f.frame n) (exec_ready_shown job tied.view n tied.run (tied.shown.nodes a n there) (grant_of f) f.frame)
+    at_node_tied choice (Whole f most) = answered_tied job base tied.view w tied.run tied.since tied.shown a n there (call.whole_ready job most (grant_of f) f.frame n) (whole_ready_shown job tied.view n tied.run (tied.shown.nodes a n there) most (grant_of f) f.frame)
     at_node_tied choice (Ask v) = answered_tied job base tied.view w tied.run tied.since tied.shown a n there (call.ask job (victim_of v) n) (ask_shown (tables_meaning job) job tied.view n tied.run (tied.shown.nodes a n there) (victim_of v))
     at_node_tied choice Resend = answered_tied job base tied.view w tied.run tied.since tied.shown a n there (call.resend job n) (resend_shown (tables_meaning job) job tied.view n tied.run (tied.shown.nodes a n there))
     at_node_tied choice (Depart heir) = answered_tied job base tied.view w tied.run tied.since tied.shown a n there (call.depart job heir n) (depart_shown (tables_meaning job) job tied.view n tied.run (tied.shown.nodes a n there) heir)

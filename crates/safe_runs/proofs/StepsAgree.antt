@@ -27,14 +27,14 @@ use Rattle.event_script.specs.declared.event.Event.TheVariants.{Start, AtNode, C
 use Rattle.event_script.specs.declared.event.HouseEvent.{HouseEvent}
 use Rattle.event_script.specs.declared.event.HouseEvent.TheVariants as at_house
 use Rattle.event_script.specs.declared.event.NodeEvent.{NodeEvent}
-use Rattle.event_script.specs.declared.event.NodeEvent.TheVariants.{Deliver, Exec, Ask, Resend, Depart}
+use Rattle.event_script.specs.declared.event.NodeEvent.TheVariants.{Deliver, Exec, Whole, Ask, Resend, Depart}
 use Rattle.run_tables.specs.Tables.{◌∈◌}
 use Rattle.run_tables.specs.View.{Works}
 use Rattle.run_tables.proofs.Lists.{either}
 use Rattle.run_tables.proofs.Among.{got}
 use Rattle.node_moves.specs.Shows.{mode_of, BodyShown}
 use Rattle.actor_agreement.specs.Values.{AllRight, AnswerIsRight, BodyIsRight, HouseAnswerIsRight, HouseStepIsRight, BodyMayCome, NodeIsRight, RepliesAreRight, StepIsRight}
-use Rattle.actor_agreement.proofs.Changing.{exec_ready_right}
+use Rattle.actor_agreement.proofs.Changing.{exec_ready_right, whole_ready_right}
 use Rattle.actor_agreement.proofs.House.{passes_right}
 use Rattle.actor_agreement.proofs.House.{packet_right as house_packet_right}
 use Rattle.actor_agreement.proofs.Leaving.{depart_right, resend_right}
@@ -152,6 +152,7 @@ module _ (job : JobOf) (w : WorldOf) (ok : IsJob job) (tied : Tied job w) (right
     at_node_right : (choice : Option Candidate) (e : NodeEvent) → WorldIsRight job (at_node job choice a e n w).world
     at_node_right choice (Deliver i) = with_there (slice_get w.net i) (λ p. answered a (on_packet job choice p n) w) (λ p e. answered_right a (on_packet job choice p n) (hears_right choice p (got w.net i p e)))
     at_node_right choice (Exec f) = answered_right a (call.exec_ready job (grant_of f) f.frame n) (exec_ready_right job n own ok (grant_of f) f.frame)
+    at_node_right choice (Whole f most) = answered_right a (call.whole_ready job most (grant_of f) f.frame n) (whole_ready_right job n own ok most (grant_of f) f.frame)
     at_node_right choice (Ask v) = answered_right a (call.ask job (victim_of v) n) (ask_right job n own (victim_of v))
     at_node_right choice Resend = answered_right a (call.resend job n) (resend_right job n own)
     at_node_right choice (Depart heir) = answered_right a (call.depart job heir n) (depart_right job n own heir)

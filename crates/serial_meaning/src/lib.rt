@@ -5,17 +5,21 @@ mod compile;
 mod counting;
 mod instr;
 mod job;
+mod keeping;
 mod laws;
 mod machine;
 mod meaning;
 mod sources;
+mod whole;
 
 pub use counting::{CountsTurns, TurnCounts, Uncounted};
 pub use ids::Outcome;
 pub use job::{Job, JobError};
+pub use keeping::{Keeper, UnderWay};
 pub use laws::{
     equal_programs_mean_alike, full_frame_holds_its_task, join_has_its_successors_value,
     kids_value_fills_its_slot, sent_value_is_the_tasks, successor_agrees,
     too_deep_anywhere_is_too_deep,
 };
 pub use meaning::{SerialError, serial, serial_counted};
+pub use whole::{Flat, Unfinished, Whole};

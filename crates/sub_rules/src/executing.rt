@@ -1,7 +1,9 @@
-ghost use Rattle.std.specs.Prelude.{◌≡◌, ◌<◌, ◌^◌, IfOk};
+ghost use Rattle.std.specs.Prelude.{◌≡◌, ◌<◌, ◌^◌, ◌&&◌, nat_eq, IfOk};
+ghost use Rattle.task_tree.specs.declared.tree.Program.{Program};
+ghost use Rattle.kind_check.specs.declared.turn.Turn as declared;
 ghost use Rattle.frames.specs.Frames.{frame_in};
 ghost use Rattle.sub_rules.specs.Carrying as carrying;
-ghost use Rattle.sub_rules.specs.Carrying.{IsAnswerTo, is_stale_of, is_turn_of, holds_numbers};
+ghost use Rattle.sub_rules.specs.Carrying.{IsAnswerTo, ended, is_stale_of, holds_numbers};
 ghost use Rattle.sub_rules.specs.Debts.{IsSound};
 ghost use Rattle.sub_rules.specs.Turning.{TurnFew};
 ghost use Rattle.sub_rules.specs.Updates.{change_by, IsPreparedFor, MayUpdate};
@@ -44,16 +46,40 @@ pub fn prepare_exec(
     requires sound { IsSound content.now }
     ensures { IsPreparedFor content.now (carrying.exec_content done.now number content.now) result }
 {
+    law_turn_is_few(done);
+    prepare_turn(
+        alloc,
+        content,
+        number,
+        done.thread(),
+        done.numbers(),
+        done.turn(),
+    )
+}
+
+/// The same, by the end to which that thread comes on these numbers, whoever found it.
+pub fn prepare_turn(
+    alloc: Global,
+    content: &Content,
+    number: FrameNo,
+    thread: u8,
+    numbers: &[i64],
+    turn: &Turn,
+) -> Result<Prepared, SubError>
+    requires sound { IsSound content.now }
+    requires few { TurnFew turn.now }
+    ensures { (p : Program) → IsPreparedFor content.now (carrying.exec_content
+        (ended p thread numbers.now turn.now) number content.now) result }
+{
     let Some(frame) = content.frames.get(number) else {
         return Err(SubError::Stale);
     };
-    if !is_turn_of(frame, done) {
+    if !holds(frame, thread, numbers) {
         return Err(SubError::Stale);
     }
     content.frames.law_stand_in_order();
     law_next_is_a_number(content);
-    law_turn_is_few(done);
-    match done.turn() {
+    match turn {
         Turn::Sends(value) => {
             let leaver = Leaver::FrameOf(number);
             Ok(prepare_arrival(alloc, content, leaver, frame.returns, *value)?)
@@ -91,7 +117,7 @@ fn law_next_is_a_number(content: &Content)
 }
 
 /// A turn that was evaluated has at most 8 slots, and holes 1 to 8, since its program was accepted. Does nothing.
-fn law_turn_is_few(done: &Done)
+pub fn law_turn_is_few(done: &Done)
     ensures { TurnFew done.now.turn }
 {
     kind_check::accepted_threads_are_few();
@@ -103,17 +129,25 @@ fn law_turn_is_few(done: &Done)
 pub fn is_stale(content: &Content, number: FrameNo, done: &Done) -> bool
     ensures { result ≡ is_stale_of done.now (frame_in number content.now.frames) }
 {
+    is_stale_for(content, number, done.thread(), done.numbers())
+}
+
+/// The same of any end to which that thread comes on these numbers.
+pub fn is_stale_for(content: &Content, number: FrameNo, thread: u8, numbers: &[i64]) -> bool
+    ensures { (p : Program) (turn : declared.Turn) → result ≡ is_stale_of (ended p thread numbers.now turn)
+        (frame_in number content.now.frames) }
+{
     match content.frames.get(number) {
-        Some(frame) => !is_turn_of(frame, done),
+        Some(frame) => !holds(frame, thread, numbers),
         None => true,
     }
 }
 
-/// Whether a turn is one of a frame: of its thread, on the numbers in its slots, of which none is empty.
-fn is_turn_of(frame: &Frame, done: &Done) -> bool
-    ensures { result ≡ is_turn_of done.now frame.now }
+/// Whether a frame is of a thread, and its slots are full, of these numbers.
+fn holds(frame: &Frame, thread: u8, numbers: &[i64]) -> bool
+    ensures { result ≡ (nat_eq frame.now.thread thread && holds_numbers frame.now.slots numbers.now) }
 {
-    frame.thread == done.thread() && holds_numbers(frame.slots.as_slice(), done.numbers())
+    frame.thread == thread && holds_numbers(frame.slots.as_slice(), numbers)
 }
 
 /// Whether the slots are full, of these numbers.

@@ -16,7 +16,7 @@ pub use change::{
     ContentChange, ContentGrant, ContentRedo, Filling, Opening, Readied, ReadyList, SubError,
 };
 pub use content::Content;
-pub use executing::{exec, is_stale, prepare_exec};
+pub use executing::{exec, is_stale, is_stale_for, law_turn_is_few, prepare_exec, prepare_turn};
 pub use granting::{close, grant_out, granted, numbers_in, prepare_close, prepare_grant_out, redo};
 pub use laws::{
     contents_without_records_have_a_ready_frame, granted_contents_are_sound,

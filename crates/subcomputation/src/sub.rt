@@ -4,7 +4,7 @@ ghost use Rattle.task_tree.specs.declared.tree.Program.{Program};
 ghost use Rattle.kind_check.specs.Total.{TurnFits};
 ghost use Rattle.victim_records.specs.Records.{record_in};
 ghost use Rattle.frames.specs.Frames.{frame_in};
-ghost use Rattle.sub_rules.specs.Carrying.{exec_content, is_stale_of};
+ghost use Rattle.sub_rules.specs.Carrying.{ended, exec_content, is_stale_of};
 ghost use Rattle.sub_rules.specs.declared.change.SubError.TheVariants.{Memory};
 ghost use Rattle.sub_rules.specs.Changes.{closed_in, given_away, done_again, with_parent, with_thief};
 ghost use Rattle.sub_rules.specs.Content.{ready_in};
@@ -12,10 +12,11 @@ ghost use Rattle.sub_rules.specs.Debts.{IsSound};
 ghost use Rattle.subcomputation.specs.Subs.{IsBegun, granted_sub, name_of_sub, with_content};
 ghost use Rattle.subcomputation.specs.Fitting.{Fits, task_fits};
 ghost use Rattle.sub_rules.specs.Readiness.{TellsReady};
+ghost use Rattle.sub_rules.specs.Turning.{TurnFew};
 ghost use Rattle.sub_rules.specs.Updates.{opened_in, updated, MayUpdate};
 ghost use Rattle.subcomputation.specs.Told.{HasNoOthers, HasNoOthersBut, IsPreparedAs, MayChange, changed_by, changed_of, changed_of_some, given_by, given_of_some, again_by, opened_sub};
 
-use body_eval::Done;
+use body_eval::{Done, Turn};
 use frames::Frames;
 use ids::{
     Actor, Exact, Frame, FrameNo, GrantId, Hop, Incarnation, Listed, Named, Outcome, Progress,
@@ -162,11 +163,43 @@ impl Sub {
         ensures fits { (p : Program) → Fits p self.now.content → TurnFits p done.now.turn
             → IfOk result (λ q. Fits p (changed_of self.now q).after.content) }
     {
-        if sub_rules::is_stale(&self.content, number, done) {
+        sub_rules::law_turn_is_few(done);
+        self.prepare_turn(alloc, number, done.thread(), done.numbers(), done.turn())
+    }
+
+    /// The same, by the end to which that thread comes on these numbers, whoever found it.
+    pub fn prepare_turn(
+        &self,
+        alloc: Global,
+        number: FrameNo,
+        thread: u8,
+        numbers: &[i64],
+        turn: &Turn,
+    ) -> Result<Prepared, SubError>
+        requires { TurnFew turn.now }
+        ensures answer { (p : Program) → IsPreparedAs self.now (exec_content
+            (ended p thread numbers.now turn.now) number self.now.content) result }
+        ensures out_of_memory { (p : Program) → IsErrOf result Memory → is_stale_of
+            (ended p thread numbers.now turn.now) (frame_in number self.now.content.frames) ≡ false }
+        ensures may { IfOk result (λ p. MayChange self.now p) }
+        ensures ready { IfOk result (λ p. TellsReady self.now.content (changed_of self.now p).after.content p.ready) }
+        ensures records { IfOk result (λ p. HasNoOthers self.now.content.records
+            (changed_of self.now p).after.content.records) }
+        ensures fits { (p : Program) → Fits p self.now.content → TurnFits p turn.now
+            → IfOk result (λ q. Fits p (changed_of self.now q).after.content) }
+    {
+        if sub_rules::is_stale_for(&self.content, number, thread, numbers) {
             return Err(SubError::Stale);
         }
         self.content.frames.law_stand_in_order();
-        let prepared = sub_rules::prepare_exec(alloc, &self.content, number, done)?;
+        let prepared = sub_rules::prepare_turn(
+            alloc,
+            &self.content,
+            number,
+            thread,
+            numbers,
+            turn,
+        )?;
         Ok(prepared)
     }
 

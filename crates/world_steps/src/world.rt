@@ -5,7 +5,7 @@ ghost use Rattle.node_core.specs.Cases.{Candidate};
 ghost use Rattle.node_core.specs.Choosing.{IsCandidate};
 ghost use Rattle.node_core.specs.declared.error.NodeError.TheVariants.{Memory};
 ghost use Rattle.node_state.specs.Node.{NodeOf};
-ghost use Rattle.world_steps.specs.Calls.{Came, IsOfJob, RanOutOfMemory, StepsTo, delivered_in, is_there};
+ghost use Rattle.world_steps.specs.Calls.{Came, IsOfJob, IsWholeOfJob, RanOutOfMemory, StepsTo, delivered_in, is_there};
 ghost use Rattle.world_steps.specs.Nodes.{can_start};
 ghost use Rattle.world_steps.specs.Places.{node_there};
 ghost use Rattle.world_steps.specs.Seats.{DeliversPacket};
@@ -24,7 +24,7 @@ use codec::Datagram;
 use event_script::{Cut, Event, HouseEvent, NodeEvent, NodePlace};
 use ids::{Incarnation, Outcome, SortedMap};
 use node_core::{Fill, Node, NodeError, Step, Work};
-use serial_meaning::Job;
+use serial_meaning::{Flat, Job, Whole};
 use std::alloc::Global;
 use std::marker::Model;
 use std::mem;
@@ -38,6 +38,7 @@ const PLACES: usize = 64;
 #[derive(Drop)]
 pub struct World<'a> {
     job: &'a Job,
+    flat: Flat,
     nodes: Vec<Option<Node<'a>>>,
     seat: HouseSlot<'a>,
     net: Kept<Datagram>,
@@ -61,7 +62,7 @@ impl<'a> Model for World<'a> {
 
     ghost view = { λ w. record { job = w.job.now; world = record { nodes = ups w.nodes.items; house = w.seat.house; disk = w.seat.disk; net = w.net.all; fills = w.fills.all; used = w.used }; is_placed = w.net.is_placed && w.fills.is_placed } };
 
-    ghost invariant = { λ w. IsWorld w.job.now w.seat.job w.nodes.items };
+    ghost invariant = { λ w. IsWorld w.job.now w.seat.job w.flat.program w.nodes.items };
 }
 
 impl<'a> World<'a> {
@@ -74,6 +75,7 @@ impl<'a> World<'a> {
     {
         Ok(World {
             job,
+            flat: Flat::of(alloc, job.checked())?,
             nodes: no_nodes(alloc)?,
             seat: HouseSlot::new(alloc, job)?,
             net: Kept::new(alloc),
@@ -165,8 +167,26 @@ impl<'a> World<'a> {
         ensures step { IfOk result (λ t. StepsTo self.old.job event.now self.old.world self.new.world t) }
         ensures out_of_memory { OnErr result (RanOutOfMemory event.now self.old self.new) }
     {
+        self.step_with(alloc, event, turn, None)
+    }
+
+    /// The same, where also for a Whole a task of the job's program may be at hand that was evaluated whole: one of the ready frame's
+    /// thread on its numbers, in the room below its place and in no more turns, is used, and another one is put aside.
+    pub fn step_with(
+        &mut self,
+        alloc: Global,
+        event: &Event,
+        turn: Option<&Done>,
+        whole: Option<&Whole>,
+    ) -> Result<EventAnswer, NoMemory>
+        requires turn { IsOfJob self.old.job (option_copied turn) }
+        requires whole { IsWholeOfJob self.old.job (option_copied whole) }
+        ensures job { self.new.job ≡ self.old.job }
+        ensures step { IfOk result (λ t. StepsTo self.old.job event.now self.old.world self.new.world t) }
+        ensures out_of_memory { OnErr result (RanOutOfMemory event.now self.old self.new) }
+    {
         let before = Before::of(event, self.nodes.as_slice());
-        let told = self.carry_out(alloc, event, turn)?;
+        let told = self.carry_out(alloc, event, turn, whole)?;
         self.count(event, before, told);
         Ok(told)
     }
@@ -190,15 +210,17 @@ impl<'a> World<'a> {
         alloc: Global,
         event: &Event,
         turn: Option<&Done>,
+        whole: Option<&Whole>,
     ) -> Result<EventAnswer, NoMemory>
-        requires { IsOfJob self.old.job (option_copied turn) }
+        requires turn { IsOfJob self.old.job (option_copied turn) }
+        requires whole { IsWholeOfJob self.old.job (option_copied whole) }
         ensures job { self.new.job ≡ self.old.job }
         ensures step { IfOk result (λ t. StepsTo self.old.job event.now self.old.world self.new.world t) }
         ensures out_of_memory { OnErr result (RanOutOfMemory event.now self.old self.new) }
     {
         match event {
             Event::Start(place, word) => self.start(alloc, *place, *word),
-            Event::AtNode(place, event) => self.at_node(alloc, *place, *event, turn),
+            Event::AtNode(place, event) => { self.at_node(alloc, *place, *event, turn, whole) }
             Event::Crash(place) => Ok(self.crash(*place)),
             Event::AtHouse(event) => self.at_house(alloc, *event),
             Event::HouseCrash => {
@@ -311,8 +333,10 @@ impl<'a> World<'a> {
         place: NodePlace,
         event: NodeEvent,
         turn: Option<&Done>,
+        whole: Option<&Whole>,
     ) -> Result<EventAnswer, NoMemory>
-        requires { IsOfJob self.old.job (option_copied turn) }
+        requires turn { IsOfJob self.old.job (option_copied turn) }
+        requires whole { IsWholeOfJob self.old.job (option_copied whole) }
         ensures job { self.new.job ≡ self.old.job }
         ensures step { IfOk result (λ t. StepsTo self.old.job (events.AtNode place event)
             self.old.world self.new.world t) }
@@ -323,7 +347,7 @@ impl<'a> World<'a> {
             return Ok(EventAnswer::Unfit);
         }
         self.place()?;
-        match self.come(alloc, place, event, turn) {
+        match self.come(alloc, place, event, turn, whole) {
             Ok(step) if step.ignored => Ok(EventAnswer::Ignored),
             Ok(step) => Ok(self.did(step)),
             Err(error) => refusal(error),
@@ -339,8 +363,11 @@ impl<'a> World<'a> {
         }
         match event {
             NodeEvent::Deliver(index) => self.net.get(index).is_some(),
-            NodeEvent::Exec(_) | NodeEvent::Ask(_) | NodeEvent::Resend | NodeEvent::Depart(_) =>
-                true,
+            NodeEvent::Exec(_)
+            | NodeEvent::Whole(_, _)
+            | NodeEvent::Ask(_)
+            | NodeEvent::Resend
+            | NodeEvent::Depart(_) => true,
         }
     }
 
@@ -351,8 +378,10 @@ impl<'a> World<'a> {
         place: NodePlace,
         event: NodeEvent,
         turn: Option<&Done>,
+        whole: Option<&Whole>,
     ) -> Result<Step, NodeError>
         requires own { IsOfJob self.old.job (option_copied turn) }
+        requires whole { IsWholeOfJob self.old.job (option_copied whole) }
         requires up { is_some (node_in place self.old.world.nodes) ≡ true }
         requires there { is_there event self.old.world.net ≡ true }
         ensures job { self.new.job ≡ self.old.job }
@@ -363,7 +392,15 @@ impl<'a> World<'a> {
         let Some(node) = &mut self.nodes[at] else {
             unreachable!();
         };
-        carry_out(alloc, node, event, handed(&self.net, event), turn)
+        carry_out(
+            alloc,
+            node,
+            event,
+            handed(&self.net, event),
+            &self.flat,
+            turn,
+            whole,
+        )
     }
 
     /// A node that is up may be asked to choose a frame. Does nothing.
@@ -454,6 +491,7 @@ fn refusal(error: NodeError) -> Result<EventAnswer, NoMemory>
         NodeError::Memory => Err(NoMemory),
         NodeError::Bytes(_)
         | NodeError::Stale
+        | NodeError::NoValue
         | NodeError::Pending
         | NodeError::TooBig
         | NodeError::HopSpent
@@ -483,7 +521,11 @@ fn handed(net: &Kept<Datagram>, event: NodeEvent) -> Option<&Datagram>
 {
     match event {
         NodeEvent::Deliver(index) => net.get(index),
-        NodeEvent::Exec(_) | NodeEvent::Ask(_) | NodeEvent::Resend | NodeEvent::Depart(_) => None,
+        NodeEvent::Exec(_)
+        | NodeEvent::Whole(_, _)
+        | NodeEvent::Ask(_)
+        | NodeEvent::Resend
+        | NodeEvent::Depart(_) => None,
     }
 }
 

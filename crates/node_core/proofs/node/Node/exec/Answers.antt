@@ -1,33 +1,15 @@
-use Rattle.std.proofs.Common.{◌≡◌, [], Some, Ok, rules}
-use Rattle.kind_check.specs.Total.{TurnFits}
-use Rattle.subcomputation.specs.Subs.{sub_in}
-use Rattle.subcomputation.specs.Told.{carried_out, changed_of}
-use Rattle.sub_rules.specs.Carrying.{exec_content}
-use Rattle.node_state.specs.Parts.{HasNoNewRecord, IsMember}
-use Rattle.node_core.specs.Meeting.{IsNode, MeetsBehind, changes_of}
-use Rattle.node_core.proofs.Carrying.{exec_known, meets_alone}
-use Rattle.node_core.proofs.Changing.{may_change}
+use Rattle.std.proofs.Common.{◌≡◌, subst, sym}
+use Rattle.task_tree.specs.declared.tree.Program.{Program}
+use Rattle.sub_rules.specs.Carrying.{ended}
+use Rattle.node_core.specs.Calls as calls
+use Rattle.node_core.specs.Meeting.{Meets}
 use Rattle.node_core.proofs.node.Node.exec.Goals as goal
 
-pub change-requires : goal.change-requires
-change-requires c =
-    let sub = c.in-Some.sub.now in
-    let prepared = c.in_ok-prepared.prepared in
-    let member : IsMember c.args.self.now.node.state = search rules in
-    let there : sub_in c.args.grant c.args.self.now.node.subs ≡ Some sub = search rules in
-    let named : sub.grant ≡ c.args.grant = search rules in
-    let none : HasNoNewRecord c.args.self.now.node sub = search rules in
-    let is : IsNode c.args.self.now = rw (← c.self.view_is) c.self.invariant in
-    let turn : TurnFits c.args.self.now.job.program c.args.done.now.turn = rw c.requires at c.turn.ensures.evaluated.fits in
-    may_change c.args.self.now c.args.grant sub prepared member there named c.in_ok-prepared.ensures.may c.in_ok-prepared.ensures.ready c.in_ok-prepared.ensures.records none
-    (c.in_ok-prepared.ensures.fits c.args.self.now.job.program (is.fits c.args.grant sub there) turn)
+pub ends-requires-clause-fits : goal.ends-requires-clause-fits
+ends-requires-clause-fits c = rw (c.turn.ensures.same, sym c.requires) c.turn.ensures.evaluated.fits
 
-pub returns : goal.returns
-returns c =
-    let sub = c.in-Some.sub.now in
-    let changed = changed_of sub c.in_ok-prepared.prepared in
-    let member : IsMember c.args.self.now.node.state = search rules in
-    let there : sub_in c.args.grant c.args.self.now.node.subs ≡ Some sub = search rules in
-    let is : carried_out sub (exec_content c.args.done.now c.args.frame sub.content) ≡ Ok changed = search rules in
-    let behind : MeetsBehind [] (changes_of c.args.self.now.job changed c.args.self.now.node) c.change.result c.args.self.now c.change.new.self = rw c.new.ensures at (c.change.ensures sub there) in
-    rw (exec_known c.args.self.now.job c.args.done.now c.args.grant c.args.frame c.args.self.now.node sub changed member there is) (record { answer = meets_alone (changes_of c.args.self.now.job changed c.args.self.now.node) c.change.result c.args.self.now c.change.new.self behind; out_of_memory = λ memory. tt })
+pub returns-clause-answer : goal.returns-clause-answer
+returns-clause-answer c =
+    let d = c.args.done.now in
+    let met : Meets (calls.exec c.args.self.now.job (ended c.args.self.now.job.program d.thread d.numbers d.turn) c.args.grant c.args.frame c.args.self.now.node) c.ends.result c.args.self.now c.ends.new.self = rw (c.thread.ensures.same, c.numbers.ensures.same, c.turn.ensures.same) at c.ends.ensures.answer in
+    subst (λ (p : Program). Meets (calls.exec c.args.self.now.job (ended p d.thread d.numbers d.turn) c.args.grant c.args.frame c.args.self.now.node) c.ends.result c.args.self.now c.ends.new.self) (sym c.requires) met

@@ -1,0 +1,135 @@
+"""What runs on nodes gain where tasks are evaluated whole: see bench/parallel."""
+import os
+import re
+import shutil
+import subprocess
+import sys
+import tempfile
+import time
+
+PROGRAM, EXAMPLES = sys.argv[1:3]
+TRIES = 3
+MANY = "100000000000"
+# As many tasks as calls; with a cut-off a programmer would write none below it.
+TASKS = r"""
+#include <stdio.h>
+#include <stdlib.h>
+
+static long cut;
+
+static long fib(long n) {
+  long x, y;
+  if (n < 2) return n;
+  if (n < cut) return fib(n - 1) + fib(n - 2);
+#pragma omp task shared(x)
+  x = fib(n - 1);
+  y = fib(n - 2);
+#pragma omp taskwait
+  return x + y;
+}
+
+int main(int count, char **words) {
+  long value;
+  cut = atol(words[2]);
+#pragma omp parallel
+#pragma omp single
+  value = fib(atol(words[1]));
+  printf("%ld\n", value);
+}
+"""
+# Some thousand levels, each with a FIB of 15 beside it; and nine levels of five kids.
+COMB = (
+    "thread main(k,n){if n<1{send_argument(k,0);}else{spawn_next sum(k,?x,?y);spawn main(x,n-1);spawn fib(y,15);}}"
+    "thread sum(k,x,y){send_argument(k,x+y);}"
+    "thread fib(k,n){if n<2{send_argument(k,n);}else{spawn_next sum(k,?x,?y);spawn fib(x,n-1);spawn fib(y,n-2);}}"
+)
+WIDE = (
+    "thread main(k,n){if n<1{send_argument(k,1);}else{spawn_next sum(k,?a,?b,?c,?d,?e);"
+    "spawn main(a,n-1);spawn main(b,n-1);spawn main(c,n-1);spawn main(d,n-1);spawn main(e,n-1);}}"
+    "thread sum(k,a,b,c,d,e){send_argument(k,a+b+c+d+e);}"
+)
+
+
+def timed(*words, env=None):
+    """Wall and processor time in seconds of a command's best run of three, and what it told."""
+    best = None
+    for _ in range(TRIES):
+        start = time.monotonic()
+        child = subprocess.Popen(words, stdout=subprocess.PIPE, stderr=subprocess.PIPE, text=True, env=env)
+        told = child.communicate()
+        wall = time.monotonic() - start
+        if child.returncode:
+            return None
+        took = wall, told[1]
+        best = min(best, took) if best else took
+    before = os.times()
+    subprocess.run(words, stdout=subprocess.DEVNULL, stderr=subprocess.DEVNULL, env=env)
+    after = os.times()
+    busy = after.children_user + after.children_system - before.children_user - before.children_system
+    return best[0], busy, best[1]
+
+
+def count(told, name):
+    found = re.search(rf"^{name} (\d+)$", told, re.M)
+    return int(found.group(1)) if found else 0
+
+
+def row(name, file, inputs):
+    """A row: serially, and on nodes."""
+    alone = timed(PROGRAM, "serial", file, "--turns", MANY, "--stats", *inputs)
+    needed = count(alone[2], "turns")
+    print(f"| {name} | `serial` | {alone[0] * 1e3:.0f} | 1.00 | {needed:,} | | |", flush=True)
+    for how in (["--bodies", "1"], ["--bodies", "2"], ["--bodies", "3"], ["--bodies", "4"], ["--nodes", "2"], ["--nodes", "3"], ["--nodes", "4"]):
+        words = (PROGRAM, "run", file, "--turns", MANY, "--grain", "100000", *how)
+        took, stats = timed(*words, *inputs), subprocess.run((*words, "--stats", *inputs), capture_output=True, text=True).stderr
+        if took is None:
+            print(f"| {name} | `run {' '.join(how)}` | no outcome | | | | |")
+            continue
+        turns, wholes = count(stats, "turns"), count(stats, "tasks evaluated whole")
+        spent = (turns + count(stats, "turns in them") + count(stats, "turns evaluated in vain")) / max(needed, 1)
+        print(f"| {name} | `run {' '.join(how)}` | {took[0] * 1e3:.0f} | {alone[0] / took[0]:.2f} | {spent:.3f} | {turns + wholes:,} | {took[1] / took[0]:.1f} |", flush=True)
+
+
+def openmp(folder):
+    """The same recursion by OpenMP's tasks."""
+    cc = shutil.which("gcc") or shutil.which("clang")
+    if not cc:
+        return
+    source, program = f"{folder}/tasks.c", f"{folder}/tasks"
+    with open(source, "w", encoding="utf-8") as out:
+        out.write(TASKS)
+    if subprocess.run((cc, "-O2", "-fopenmp", source, "-o", program), capture_output=True).returncode:
+        return
+    print("\n| OpenMP's tasks, FIB 36 | threads | ms | times as fast as one |\n|---|---|---|---|")
+    for name, cut in ("with a cut-off at 18", "18"), ("without", "0"):
+        first = None
+        for threads in 1, 2, 3, 4:
+            took = timed(program, "36", cut, env={**os.environ, "OMP_NUM_THREADS": str(threads)})
+            first = first or took[0]
+            print(f"| {name} | {threads} | {took[0] * 1e3:.0f} | {first / took[0]:.2f} |", flush=True)
+
+
+def crashed():
+    """How much later the answer comes where one of four nodes crashes."""
+    words = (PROGRAM, "run", f"{EXAMPLES}/fib.ck", "--turns", MANY, "--grain", "100000", "--nodes", "4")
+    print("\n| FIB 36 on 4 nodes | ms |\n|---|---|")
+    for name, faults in ("no fault", []), ("one crashes after 50 events", ["--crash", "1"]):
+        print(f"| {name} | {timed(*words, *faults, '36')[0] * 1e3:.0f} |", flush=True)
+
+
+print("| job | how | ms | times as fast as `serial` | turns, or evaluated for each needed | events that carry out frames | processors busy |")
+print("|---|---|---|---|---|---|---|")
+with tempfile.TemporaryDirectory() as here:
+    for title, text in ("comb", COMB), ("wide", WIDE):
+        with open(f"{here}/{title}.ck", "w", encoding="utf-8") as it:
+            it.write(text)
+    fib = f"{EXAMPLES}/fib.ck"
+    for n in 27, 30, 33, 36:
+        row(f"FIB {n}", fib, [str(n)])
+    for n in 9, 10, 11:
+        row(f"queens {n}", f"{EXAMPLES}/queens.ck", [str(n)])
+    row("a comb of 990 levels", f"{here}/comb.ck", ["990"])
+    row("9 levels of 5 kids", f"{here}/wide.ck", ["9"])
+    row("Ackermann 2 450", f"{EXAMPLES}/ackermann.ck", ["2", "450"])
+    openmp(here)
+crashed()

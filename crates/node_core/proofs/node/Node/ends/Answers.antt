@@ -1,0 +1,44 @@
+use Rattle.std.proofs.Common.{◌≡◌, [], Some, Ok, rules}
+use Rattle.body_eval.specs.Done.{DoneOf}
+use Rattle.subcomputation.specs.Subs.{sub_in}
+use Rattle.subcomputation.specs.Told.{carried_out, changed_of}
+use Rattle.sub_rules.specs.Carrying.{ended, exec_content}
+use Rattle.node_state.specs.Parts.{HasNoNewRecord, IsMember}
+use Rattle.node_core.specs.Meeting.{IsNode, MeetsBehind, changes_of}
+use Rattle.node_core.proofs.Carrying.{exec_known, meets_alone}
+use Rattle.node_core.proofs.Changing.{may_change}
+use Rattle.node_state.specs.Node.{by_state}
+use Rattle.node_core.specs.Calls as calls
+use Rattle.node_core.specs.Cases.{by_option}
+use Rattle.node_core.proofs.node.Node.ends.Goals as goal
+
+pub change-requires : goal.change-requires
+change-requires c =
+    let sub = c.in-Some.sub.now in
+    let prepared = c.in_ok-prepared.prepared in
+    let member : IsMember c.args.self.now.node.state = search rules in
+    let there : sub_in c.args.grant c.args.self.now.node.subs ≡ Some sub = search rules in
+    let named : sub.grant ≡ c.args.grant = search rules in
+    let none : HasNoNewRecord c.args.self.now.node sub = search rules in
+    let is : IsNode c.args.self.now = rw (← c.self.view_is) c.self.invariant in
+    may_change c.args.self.now c.args.grant sub prepared member there named c.in_ok-prepared.ensures.may c.in_ok-prepared.ensures.ready c.in_ok-prepared.ensures.records none
+    (c.in_ok-prepared.ensures.fits c.args.self.now.job.program (is.fits c.args.grant sub there) c.requires.fits)
+
+pub returns-in_err-prepared-clause-answer : goal.returns-in_err-prepared-clause-answer
+unfolding calls.exec by_option by_state
+returns-in_err-prepared-clause-answer c = let refused = c.in_err-prepared.ensures.answer c.args.self.now.job.program in search (rules, refused)
+
+pub returns-in_err-prepared-clause-out_of_memory : goal.returns-in_err-prepared-clause-out_of_memory
+unfolding calls.exec by_option by_state
+returns-in_err-prepared-clause-out_of_memory c = let lacks = c.in_err-prepared.ensures.out_of_memory c.args.self.now.job.program in search (rules, lacks)
+
+pub returns-clause-answer : goal.returns-clause-answer
+returns-clause-answer c =
+    let sub = c.in-Some.sub.now in
+    let done : DoneOf = ended c.args.self.now.job.program c.args.thread c.args.numbers.now c.args.turn.now in
+    let changed = changed_of sub c.in_ok-prepared.prepared in
+    let member : IsMember c.args.self.now.node.state = search rules in
+    let there : sub_in c.args.grant c.args.self.now.node.subs ≡ Some sub = search rules in
+    let is : carried_out sub (exec_content done c.args.frame sub.content) ≡ Ok changed = c.in_ok-prepared.ensures.answer c.args.self.now.job.program in
+    let behind : MeetsBehind [] (changes_of c.args.self.now.job changed c.args.self.now.node) c.change.result c.args.self.now c.change.new.self = rw c.new.ensures at (c.change.ensures sub there) in
+    rw (exec_known c.args.self.now.job done c.args.grant c.args.frame c.args.self.now.node sub changed member there is) (meets_alone (changes_of c.args.self.now.job changed c.args.self.now.node) c.change.result c.args.self.now c.change.new.self behind)

@@ -1,0 +1,235 @@
+//! What an evaluation keeps of the tasks that it finished, for where it doesn't come to its own end.
+ghost use Rattle.std.specs.Prelude.{◌≡◌, ◌≤◌, true, false, is_some, drop, take, vec_len, IfOk, Some};
+ghost use Rattle.serial_meaning.specs.Serial.{serial, serial_turns};
+
+use crate::whole::Whole;
+use ids::Numbers;
+use kind_check::Checked;
+use std::alloc::{AllocError, Global};
+
+/// How many tasks an evaluation had finished, and how many were under way, when a kid began.
+#[derive(Clone, Copy)]
+pub struct Mark {
+    finished: usize,
+    begun: usize,
+}
+
+/// Who keeps what the kids of a task give, and theirs. Nothing of the evaluation hangs on it.
+pub trait KeepsValues {
+    /// A kid begins: a task of a thread, with so many places below its own, whose numbers stand from `start` to `end` on the stack. Some
+    /// where what it gives is to be kept.
+    fn begins(&mut self, thread: u8, room: u16, start: usize, end: usize) -> Option<Mark>;
+
+    /// A task goes on as its successor, which is said in the same way.
+    fn goes_on(&mut self, thread: u8, room: u16, start: usize, end: usize);
+
+    /// A kid that began with this mark gave a number, in so many turns.
+    fn keeps(
+        &mut self,
+        checked: &Checked,
+        mark: Mark,
+        thread: u8,
+        room: u16,
+        numbers: &[i64],
+        turns: u64,
+        value: i64,
+    )
+        requires gives { serial checked.now room thread numbers.now ≡ Some value }
+        requires takes { serial_turns checked.now room thread numbers.now ≡ turns };
+}
+
+/// Where a kid's numbers begin, which are the last ones of a stack: those of one that is to be kept are doubled, so that they are at hand
+/// when it is done.
+#[inline(always)]
+pub fn kid_base(
+    stack: &mut Vec<i64>,
+    start: usize,
+    begun: Option<Mark>,
+) -> Result<usize, AllocError>
+    requires { start ≤ vec_len stack.old }
+    ensures inside { IfOk result (λ b. b ≤ vec_len stack.new) }
+    ensures above { IfOk result (λ b. start ≤ b) }
+    ensures numbers { IfOk result (λ b. drop b stack.new.items ≡ drop start stack.old.items) }
+    ensures below { IfOk result (λ b. take start (take b stack.new.items) ≡ take start stack.old.items) }
+    ensures doubled { IfOk result (λ b. is_some begun ≡ true → take b stack.new.items ≡ stack.old.items) }
+    ensures single { IfOk result (λ b. is_some begun ≡ false → b ≡ start) }
+{
+    if begun.is_none() {
+        return Ok(start);
+    }
+    let end = stack.len();
+    stack.extend_from_within(start..)?;
+    Ok(end)
+}
+
+/// A kid gave a number: it is kept, if it is to be, and its numbers go.
+#[inline(always)]
+pub fn kid_done<K: KeepsValues>(
+    keeper: &mut K,
+    checked: &Checked,
+    begun: Option<Mark>,
+    thread: u8,
+    room: u16,
+    stack: &mut Vec<i64>,
+    start: usize,
+    turns: u64,
+    value: i64,
+)
+    requires inside { start ≤ vec_len stack.old }
+    requires single { is_some begun ≡ false → vec_len stack.old ≡ start }
+    requires gives { is_some begun ≡ true → serial checked.now room thread (drop start stack.old.items)
+        ≡ Some value }
+    requires takes { is_some begun ≡ true → serial_turns checked.now room thread (drop start stack.old.items)
+        ≡ turns }
+    ensures { stack.new.items ≡ take start stack.old.items }
+{
+    if let Some(mark) = begun {
+        keeper.keeps(checked, mark, thread, room, &stack[start..], turns, value);
+        stack.truncate(start);
+    }
+}
+
+/// Nothing is kept.
+#[derive(Clone, Copy)]
+pub struct Unkept;
+
+impl KeepsValues for Unkept {
+    #[inline(always)]
+    fn begins(&mut self, _thread: u8, _room: u16, _start: usize, _end: usize) -> Option<Mark> {
+        None
+    }
+
+    #[inline(always)]
+    fn goes_on(&mut self, _thread: u8, _room: u16, _start: usize, _end: usize) {}
+
+    #[inline(always)]
+    fn keeps(
+        &mut self,
+        _checked: &Checked,
+        _mark: Mark,
+        _thread: u8,
+        _room: u16,
+        _numbers: &[i64],
+        _turns: u64,
+        _value: i64,
+    ) {}
+}
+
+/// How many turns a task takes at least that is kept.
+pub const LEAST_KEPT: u64 = 128;
+
+/// A task that has begun: its thread, how many places can be below its own, and where its numbers stand on the stack.
+#[derive(Clone, Copy)]
+struct Begun {
+    thread: u8,
+    room: u16,
+    start: usize,
+    end: usize,
+}
+
+/// A task that an evaluation had begun, and didn't finish: its thread, how many places can be below its own, and its numbers. It is a
+/// hint alone.
+#[derive(Drop)]
+pub struct UnderWay {
+    pub thread: u8,
+    pub room: u16,
+    pub numbers: Numbers,
+}
+
+/// Keeps the tasks that an evaluation finished and that are no part of another one that it finished, and those that it had begun, down to
+/// some level below the task itself. Where there is no memory it keeps less.
+#[derive(Drop)]
+pub struct Keeper {
+    alloc: Global,
+    levels: u16,
+    finished: Vec<Whole>,
+    begun: Vec<Begun>,
+    under_way: Vec<UnderWay>,
+}
+
+impl Keeper {
+    /// Nothing is kept yet, and kids will be so many levels deep: kids of the task itself are on the first one.
+    pub fn new(alloc: Global, levels: u16) -> Keeper {
+        Keeper {
+            alloc,
+            levels,
+            finished: Vec::new(alloc),
+            begun: Vec::new(alloc),
+            under_way: Vec::new(alloc),
+        }
+    }
+
+    /// The tasks that were finished, and those that were under way where the evaluation ran out of turns.
+    pub fn into_parts(self) -> (Vec<Whole>, Vec<UnderWay>) {
+        (self.finished, self.under_way)
+    }
+
+    /// The evaluation ended in the midst, with this stack: the numbers of what it had begun are taken from there.
+    pub(crate) fn breaks_off(&mut self, stack: &[i64]) {
+        for begun in &self.begun {
+            let Some(numbers) = stack.get(begun.start..begun.end) else {
+                continue;
+            };
+            if let Ok(numbers) = Numbers::copy_of(self.alloc, numbers) {
+                let _ = self.under_way.push(UnderWay {
+                    thread: begun.thread,
+                    room: begun.room,
+                    numbers,
+                });
+            }
+        }
+    }
+}
+
+impl KeepsValues for Keeper {
+    #[inline(always)]
+    fn begins(&mut self, thread: u8, room: u16, start: usize, end: usize) -> Option<Mark> {
+        let levels = self.levels;
+        if levels == 0 {
+            return None;
+        }
+        let mark = Mark {
+            finished: self.finished.len(),
+            begun: self.begun.len(),
+        };
+        self.goes_on(thread, room, start, end);
+        self.levels = levels - 1;
+        Some(mark)
+    }
+
+    #[inline(always)]
+    fn goes_on(&mut self, thread: u8, room: u16, start: usize, end: usize) {
+        if self.levels == 0 {
+            return;
+        }
+        let _ = self.begun.push(Begun {
+            thread,
+            room,
+            start,
+            end,
+        });
+    }
+
+    fn keeps(
+        &mut self,
+        checked: &Checked,
+        mark: Mark,
+        thread: u8,
+        room: u16,
+        numbers: &[i64],
+        turns: u64,
+        value: i64,
+    ) {
+        self.levels = self.levels.saturating_add(1);
+        self.begun.truncate(mark.begun);
+        if turns < LEAST_KEPT {
+            return;
+        }
+        self.finished.truncate(mark.finished);
+        if let Ok(numbers) = Numbers::copy_of(self.alloc, numbers) {
+            let _ = self
+                .finished
+                .push(Whole::kept(checked, thread, numbers, room, value, turns));
+        }
+    }
+}
