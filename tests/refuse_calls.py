@@ -364,7 +364,9 @@ def tried(trial, scene, refusal):
     wrong = []
     if told != ([] if refusal.name == "none" else [refusal[1:4]]):
         wrong.append(f"the call isn't refused: {told}")
-    if answer not in (scene.answer, *REFUSALS, *([KILLED] if refusal.how == "killed" else [])):
+    # (a read that gives no byte says that the file beside a store is empty, which names no job)
+    is_empty = (refusal.name, refusal.on, refusal.how, refusal.part) == ("read", "beside", "short", 0)
+    if answer not in (scene.answer, *REFUSALS, *([KILLED] if refusal.how == "killed" else []), *([NO_STORE] if is_empty else [])):
         wrong.append(f"it answers {answer}")
     # (what can't be had isn't written to, though it may be made)
     if not is_as_allowed(before, after) or (answer == NO_FILE and after not in (before, before or b"")):
