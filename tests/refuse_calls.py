@@ -27,6 +27,7 @@ import time
 from concurrent.futures import ThreadPoolExecutor
 
 import broken_stores
+import play_all
 from common import TOP
 
 LIMIT = 60
@@ -232,17 +233,6 @@ def is_line_as_allowed(scene, line, after, said):
     if after:
         return said == line
     return said in (None, scene.line) or line.startswith(said)
-
-
-def compiled(folder):
-    """The library that refuses, compiled by the toolchain."""
-    page = subprocess.run(["rt", "doc"], stdout=subprocess.PIPE, text=True, check=True).stdout.strip()
-    tools = f"{os.path.dirname(page)}/toolchain/bin"
-    with open(f"{folder}/calls.c", "w", encoding="utf-8") as it:
-        it.write(CALLS)
-    how = ["-O1", "-shared", "-fPIC", "-nostdlib", f"--ld-path={tools}/ld.lld"]
-    subprocess.run([f"{tools}/clang", *how, "-o", f"{folder}/calls.so", f"{folder}/calls.c"], check=True)
-    return f"{folder}/calls.so"
 
 
 def called(words, **more):
@@ -541,7 +531,7 @@ def main(words):
     with tempfile.TemporaryDirectory(prefix="refuse-calls-") as folder, ThreadPoolExecutor(os.cpu_count()) as pool:
         os.chmod(folder, 0o755)
         folder = os.path.realpath(folder)
-        trial = Trial(program, compiled(folder), folder)
+        trial = Trial(program, play_all.compiled(folder, CALLS), folder)
         all_scenes = list(scenes(trial))
         for scene in all_scenes:
             all_refusals = list(refusals(trial, scene))
