@@ -14,12 +14,10 @@ use play_language::Language;
 use play_nodes::Nodes;
 use play_packets::Packets;
 use play_scripts::Scripts;
-use play_words::{CommandLine, Ended, Played};
+use play_words::{Answers, CommandLine, Ended, Played, keep};
 use std::alloc::Global;
-use std::fs::File;
-use std::io::{BufRead, BufReader, BufWriter, Write};
+use std::io::{BufRead, BufReader, Write};
 use std::process::ExitCode;
-use std::rt::{Env, Files};
 
 /// What all libraries keep from one command to the next.
 #[derive(Drop)]
@@ -29,24 +27,6 @@ struct Libraries {
     nodes: Nodes,
     houses: Houses,
     scripts: Scripts,
-}
-
-/// What a line of a transcript is.
-#[derive(Clone, Copy, PartialEq, Eq, Debug)]
-enum Kind {
-    Comment,
-    Answer,
-    Command,
-}
-
-fn kind_of(text: &str) -> Kind {
-    if text.is_empty() || text.starts_with('#') {
-        Kind::Comment
-    } else if text == ">" || text.starts_with("> ") {
-        Kind::Answer
-    } else {
-        Kind::Command
-    }
 }
 
 impl Libraries {
@@ -60,108 +40,108 @@ impl Libraries {
         }
     }
 
-    /// Gives a command to those libraries that need no handle, in turn.
-    fn play_pure<O: Write>(
-        &mut self,
-        alloc: Global,
-        line: &CommandLine<'_>,
-        out: &mut O,
-    ) -> Result<Played, Ended> {
-        match self.nodes.play(alloc, line, out)? {
-            Played::NotMine => {}
-            played => return Ok(played),
+    /// Gives a command to the libraries, in turn, up to the one whose it is.
+    fn play(&mut self, rt: &HostRuntime, line: &CommandLine<'_>, out: &mut Answers) -> Played {
+        let alloc = rt.alloc();
+        let mut played = self.houses.play(rt, line, out);
+        if played == Played::NotMine {
+            played = self.nodes.play(alloc, line, out);
         }
-        match self.language.play(alloc, line, out)? {
-            Played::NotMine => {}
-            played => return Ok(played),
+        if played == Played::NotMine {
+            played = self.language.play(alloc, line, out);
         }
-        match self.packets.play(alloc, line, out)? {
-            Played::NotMine => self.scripts.play(alloc, line, out),
-            played => Ok(played),
+        if played == Played::NotMine {
+            played = self.packets.play(alloc, line, out);
         }
-    }
-
-    /// Gives a command to the libraries, in turn.
-    fn play<R: Env + Files<File = File> + AllocGlobal, O: Write>(
-        &mut self,
-        rt: &R,
-        text: &str,
-        out: &mut O,
-    ) -> Result<(), Ended> {
-        let line = CommandLine::of(text);
-        let played = match self.houses.play(rt, &line, out)? {
-            Played::NotMine => self.play_pure(rt.alloc(), &line, out)?,
-            played => played,
-        };
-        match played {
-            Played::Answered => {}
-            Played::NotMine => writeln!(out, "> ?")?,
-            Played::Malformed => writeln!(out, "> malformed")?,
+        if played == Played::NotMine {
+            played = self.scripts.play(alloc, line, out);
         }
-        Ok(())
+        played
     }
 }
 
-/// Plays a line of a transcript.
-fn play_line<R: Env + Files<File = File> + AllocGlobal, O: Write>(
-    libraries: &mut Libraries,
-    rt: &R,
-    text: &str,
-    out: &mut O,
-) -> Result<(), Ended> {
-    match kind_of(text) {
-        Kind::Answer => Ok(()),
-        Kind::Comment => Ok(writeln!(out, "{text}")?),
-        Kind::Command => {
-            writeln!(out, "{text}")?;
-            libraries.play(rt, text, out)
-        }
+/// Plays a line of a transcript: skips an answer, and writes a comment, or a command and what it answers.
+fn play_line(libraries: &mut Libraries, rt: &HostRuntime, text: &str, out: &mut Answers) {
+    if text == ">" || text.starts_with("> ") {
+        return;
+    }
+    out.text(text);
+    out.end();
+    if text.is_empty() || text.starts_with('#') {
+        return;
+    }
+    match libraries.play(rt, &CommandLine::of(text), out) {
+        Played::Answered => {}
+        Played::NotMine => out.line("?"),
+        Played::Malformed => out.line("malformed"),
     }
 }
 
-/// Plays all lines of a transcript.
-fn play_all<R: Env + Files<File = File> + AllocGlobal, I: BufRead + Drop, O: Write>(
+/// Prints what was gathered.
+fn print<O: Write>(out: &mut Answers, to: &mut O) {
+    if let Err(error) = to.write_all(out.gathered()) {
+        out.fails(&error);
+    }
+    out.clear();
+}
+
+/// Plays all lines of a transcript, up to one that isn't played on.
+fn play_all<I: BufRead + Drop, O: Write>(
     libraries: &mut Libraries,
-    rt: &R,
+    rt: &HostRuntime,
     input: I,
-    out: &mut O,
-) -> Result<(), Ended> {
+    out: &mut Answers,
+    to: &mut O,
+) {
     for line in input.lines(rt.alloc()) {
-        let line = line?;
-        play_line(libraries, rt, line.as_str(), out)?;
+        match line {
+            Ok(line) => play_line(libraries, rt, line.as_str(), out),
+            Err(error) => out.fails(&error),
+        }
+        if out.is_full() {
+            print(out, to);
+        }
+        if out.ended().is_some() {
+            break;
+        }
     }
-    Ok(())
+    print(out, to);
 }
 
-/// Plays them from the beginning on.
-fn play_anew<R: Env + Files<File = File> + AllocGlobal, I: BufRead + Drop, O: Write>(
-    rt: &R,
-    input: I,
-    out: &mut O,
-) -> Result<(), Ended> {
-    let mut libraries = Libraries::new(rt.alloc());
-    play_all(&mut libraries, rt, input, out)
+/// Plays the standard input, with room for what it answers.
+fn play_input(rt: &HostRuntime, out: &mut Answers) {
+    let mut to = rt.stdout();
+    match BufReader::new(rt.alloc(), rt.reader()) {
+        Ok(input) => {
+            let mut libraries = Libraries::new(rt.alloc());
+            play_all(&mut libraries, rt, input, out, &mut to);
+            keep(libraries);
+        }
+        Err(error) => out.fails(&error),
+    }
 }
 
-/// Plays the standard input.
-fn played(rt: &HostRuntime) -> Result<(), Ended> {
-    let alloc = rt.alloc();
-    let input = BufReader::new(alloc, rt.reader())?;
-    let mut out = BufWriter::new(alloc, rt.stdout())?;
-    let ended = play_anew(rt, input, &mut out);
-    out.flush()?;
-    ended
+/// Plays the standard input; why it isn't played to its end, where it isn't.
+fn played(rt: &HostRuntime) -> Option<Ended> {
+    match Answers::new(rt.alloc()) {
+        Ok(mut out) => {
+            play_input(rt, &mut out);
+            out.ended()
+        }
+        Err(_) => Some(Ended::Memory),
+    }
 }
 
 fn main(rt: HostRuntime) -> ExitCode {
     match played(&rt) {
-        Ok(()) => ExitCode::SUCCESS,
-        Err(ended) => {
-            let _ = eprintln!(rt; "{ended}");
-            ExitCode::from(match ended {
-                Ended::Memory => 3,
-                Ended::Output => 1,
-            })
+        None => ExitCode::SUCCESS,
+        Some(Ended::Memory) => {
+            let _ = eprintln!(rt; "E9");
+            ExitCode::from(3)
+        }
+        Some(Ended::Output) => {
+            let _ = eprintln!(rt; "no input or output");
+            ExitCode::from(1)
         }
     }
 }

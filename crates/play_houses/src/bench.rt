@@ -3,7 +3,8 @@
 use checkpoint::Store;
 use clearinghouse::House;
 use disk::Disk;
-use play_words::Ended;
+use play_words::{Answers, keep};
+use std::mem;
 
 /// A disk, and what has it.
 #[derive(Drop)]
@@ -35,11 +36,32 @@ impl<D: Disk> Bench<D> {
     }
 }
 
+impl<D: Disk + Drop> Bench<D> {
+    /// Something has the disk again, which nothing had while a command was carried out.
+    pub fn holds(&mut self, held: Held<D>) {
+        keep(mem::replace(&mut self.held, Some(held)));
+    }
+
+    /// The disk is let go.
+    pub fn empties(self) {
+        match self.held {
+            Some(Held::Bare(disk)) => {
+                let _disk = disk;
+            }
+            Some(Held::Store(store)) => {
+                let _disk = store.into_disk();
+            }
+            Some(Held::House(house)) => {
+                let _disk = house.into_disk();
+            }
+            None => {}
+        }
+    }
+}
+
 /// Goes on behind a call of the device that failed, if the transcript planned that one fails; else there was no memory.
-pub fn go_on(is_planned: bool) -> Result<(), Ended> {
-    if is_planned {
-        Ok(())
-    } else {
-        Err(Ended::Memory)
+pub fn go_on(is_planned: bool, out: &mut Answers) {
+    if !is_planned {
+        out.lacks();
     }
 }

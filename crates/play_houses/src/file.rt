@@ -1,32 +1,44 @@
 //! The file of a transcript, and files that fail.
 
 use crate::shown::{bytes_in, write_bytes};
-use play_words::{CommandLine, Ended, Played};
+use play_words::{Answers, CommandLine};
 use std::alloc::Global;
 use std::cell::Cell;
 use std::env;
 use std::fs::{self, File, Metadata, OpenFile};
-use std::io::{self, ErrorKind, Write};
+use std::io::{self, ErrorKind};
 use std::os::unix::fs::FileExt;
+use std::path::{Path, PathBuf};
 use std::rt::{Env, Files};
 
 /// How many names are tried for a file.
 const NAMES: u32 = 1_000;
 
-/// A new file among those that are kept for a while, open for reading and writing. Its name is removed at once.
+/// The path of a name that is tried.
+fn path_of(alloc: Global, folder: Path<'_>, number: u32) -> io::Result<PathBuf> {
+    let name = format!(in alloc; "transcript-{number}")?;
+    Ok(folder.join(alloc, name.as_str())?)
+}
+
+/// A new file, whose name is removed at once; none where there is one of this name.
+fn opened<R: Files<File = File>>(rt: &R, path: Path<'_>) -> io::Result<Option<File>> {
+    match File::create_new(rt, path) {
+        Ok(file) => match fs::remove_file(rt, path) {
+            Ok(()) => Ok(Some(file)),
+            Err(error) => Err(error),
+        },
+        Err(error) if error.kind() == ErrorKind::AlreadyExists => Ok(None),
+        Err(error) => Err(error),
+    }
+}
+
+/// A new file among those that are kept for a while, open for reading and writing.
 fn nameless<R: Env + Files<File = File> + AllocGlobal>(rt: &R) -> io::Result<File> {
-    let alloc = rt.alloc();
     let folder = env::temp_dir(rt)?;
     for number in 0..NAMES {
-        let name = format!(in alloc; "transcript-{number}")?;
-        let path = folder.join(alloc, name.as_str())?;
-        match File::create_new(rt, path.as_path()) {
-            Ok(file) => {
-                fs::remove_file(rt, path.as_path())?;
-                return Ok(file);
-            }
-            Err(error) if error.kind() == ErrorKind::AlreadyExists => {}
-            Err(error) => return Err(error),
+        let path = path_of(rt.alloc(), folder.as_path(), number)?;
+        if let Some(file) = opened(rt, path.as_path())? {
+            return Ok(file);
         }
     }
     Err(io::Error::from(ErrorKind::AlreadyExists))
@@ -42,51 +54,71 @@ fn content(alloc: Global, file: &File) -> io::Result<Vec<u8>> {
     Ok(bytes)
 }
 
+/// Writes bytes into a file.
+fn put(file: &File, at: u64, bytes: &[u8], out: &mut Answers) {
+    if let Err(error) = file.write_all_at(bytes, at) {
+        out.fails(&error);
+    }
+}
+
 /// Makes the file of a transcript, with these bytes.
 fn made<R: Env + Files<File = File> + AllocGlobal>(
     rt: &R,
-    line: &CommandLine<'_>,
-) -> Result<Option<File>, Ended> {
-    let Some(bytes) = bytes_in(rt.alloc(), line, 2)? else {
-        return Ok(None);
-    };
-    let file = nameless(rt)?;
-    file.write_all_at(&bytes, 0)?;
-    Ok(Some(file))
+    bytes: &[u8],
+    out: &mut Answers,
+) -> Option<File> {
+    match nameless(rt) {
+        Ok(file) => {
+            put(&file, 0, bytes, out);
+            Some(file)
+        }
+        Err(error) => {
+            out.fails(&error);
+            None
+        }
+    }
 }
 
-/// Writes bytes into the file, which no disk over it knows of.
-fn write(file: &File, alloc: Global, line: &CommandLine<'_>) -> Result<Played, Ended> {
-    let (Some(at), Some(bytes)) = (line.number(2), bytes_in(alloc, line, 3)?) else {
-        return Ok(Played::Malformed);
-    };
-    file.write_all_at(&bytes, at)?;
-    Ok(Played::Answered)
+/// Shows the bytes of a file.
+fn read(alloc: Global, file: &File, out: &mut Answers) {
+    match content(alloc, file) {
+        Ok(bytes) => write_bytes(out, &bytes),
+        Err(error) => out.fails(&error),
+    }
+}
+
+/// Plays a command on the file that is there.
+fn play_made(file: &File, alloc: Global, line: &CommandLine<'_>, out: &mut Answers) -> Option<()> {
+    match line.word(1)? {
+        "read" => {
+            read(alloc, file, out);
+            Some(())
+        }
+        "write" => {
+            let at = line.number(2)?;
+            let bytes = bytes_in(alloc, line, 3, out)?;
+            put(file, at, &bytes, out);
+            Some(())
+        }
+        _ => None,
+    }
 }
 
 /// Plays a command on the file of a transcript.
-pub fn play_file<R: Env + Files<File = File> + AllocGlobal, O: Write>(
+pub fn play_file<R: Env + Files<File = File> + AllocGlobal>(
     kept: &mut Option<File>,
     rt: &R,
     line: &CommandLine<'_>,
-    out: &mut O,
-) -> Result<Played, Ended> {
-    match (line.word(1), &*kept) {
-        (Some("new"), _) => {
-            match made(rt, line)? {
-                Some(file) => {
-                    *kept = Some(file);
-                    Ok(Played::Answered)
-                }
-                None => Ok(Played::Malformed),
-            }
-        }
-        (Some("write"), Some(file)) => write(file, rt.alloc(), line),
-        (Some("read"), Some(file)) => {
-            write_bytes(out, &content(rt.alloc(), file)?)?;
-            Ok(Played::Answered)
-        }
-        _ => Ok(Played::Malformed),
+    out: &mut Answers,
+) -> Option<()> {
+    if line.word(1) == Some("new") {
+        let bytes = bytes_in(rt.alloc(), line, 2, out)?;
+        *kept = made(rt, &bytes, out);
+        return Some(());
+    }
+    match &*kept {
+        Some(file) => play_made(file, rt.alloc(), line, out),
+        None => None,
     }
 }
 

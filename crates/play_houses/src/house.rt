@@ -3,15 +3,15 @@
 use crate::bench::{Bench, Held, go_on};
 use crate::device::plan_in;
 use crate::job::Setting;
-use crate::shown::{MOST_SHOWN, bytes_in, write_found};
+use crate::shown::{MOST_SHOWN, bytes_in, write_failures, write_found};
 use clearinghouse::{House, HouseError, HouseStep};
 use codec::{Datagram, EncodeError, Join, Packet, ReadError, decode};
 use disk::Disk;
-use ids::Incarnation;
-use play_packets::{Mail, kind_name, packet_number, read_packet, write_packet};
-use play_words::{CommandLine, Ended, Played};
+use ids::{Incarnation, Outcome};
+use play_packets::{Mail, kind_name, let_go, packet_number, read_packet, write_packet};
+use play_words::{Answers, CommandLine};
+use serial_meaning::Job;
 use std::alloc::Global;
-use std::io::Write;
 
 /// What a command on a clearinghouse needs beside it: the job that is set, all packets that were sent, and whether those that
 /// are sent are left out.
@@ -24,253 +24,308 @@ pub struct Desk {
 }
 
 /// Writes a refusal. One when out of memory stops the clearinghouse, and ends the transcript.
-fn write_refused<O: Write>(
-    refused: HouseError,
-    is_planned: bool,
-    out: &mut O,
-) -> Result<(), Ended> {
-    writeln!(out, "> {refused}")?;
+fn write_refused(refused: HouseError, is_planned: bool, out: &mut Answers) {
+    out.refusal(&refused);
     match refused {
-        HouseError::Device => go_on(is_planned),
-        HouseError::Memory => Err(Ended::Memory),
-        _ => Ok(()),
+        HouseError::Device => go_on(is_planned, out),
+        HouseError::Memory => out.lacks(),
+        _ => {}
     }
 }
 
-/// Writes a packet that was sent, behind its number.
-fn write_sent<O: Write>(
-    alloc: Global,
-    mail: &mut Mail,
-    datagram: Datagram,
-    out: &mut O,
-) -> Result<(), Ended> {
+/// Writes a packet that is sent, behind its number.
+fn write_packet_sent(mail: &mut Mail, packet: &Packet, datagram: Datagram, out: &mut Answers) {
     let length = datagram.as_bytes().len();
-    let packet = match decode(alloc, datagram.as_bytes()) {
-        Ok(packet) => packet,
-        Err(ReadError::Memory) => return Err(Ended::Memory),
-        Err(ReadError::Fault(fault)) => {
-            writeln!(out, "> E{}", fault.number())?;
-            return Ok(());
-        }
-    };
-    let number = mail.send(None, &packet, datagram)?;
+    let number = mail.send(None, packet, datagram, out);
+    out.text("> #");
+    out.number(number);
+    out.text(" ");
     if length > MOST_SHOWN {
-        let kind = kind_name(packet.body());
-        writeln!(out, "> #{number} {kind} of {length} bytes")?;
+        out.text(kind_name(packet.body()));
+        out.text(" of ");
+        out.number(length as u64);
+        out.text(" bytes");
     } else {
-        write!(out, "> #{number} ")?;
-        write_packet(out, &packet)?;
-        writeln!(out)?;
+        write_packet(out, packet);
     }
-    Ok(())
+    out.end();
+}
+
+/// The same of bytes that are to be a packet's.
+fn write_sent(alloc: Global, mail: &mut Mail, datagram: Datagram, out: &mut Answers) {
+    match decode(alloc, datagram.as_bytes()) {
+        Ok(packet) => {
+            write_packet_sent(mail, &packet, datagram, out);
+            let_go(packet);
+        }
+        Err(ReadError::Memory) => out.lacks(),
+        Err(ReadError::Fault(fault)) => out.refusal_number(fault.number()),
+    }
+}
+
+/// Writes what a call did, unless this is left out.
+fn write_step(desk: &mut Desk, step: HouseStep, out: &mut Answers) {
+    if step.ignored {
+        out.line("ignored");
+    } else if step.sent.is_empty() && !desk.is_brief {
+        out.line("nothing");
+    }
+    for datagram in step.sent.into_vec() {
+        if !desk.is_brief {
+            write_sent(desk.alloc, &mut desk.mail, datagram, out);
+        }
+    }
 }
 
 /// Writes what a call answered.
-fn write_step<O: Write>(
+fn write_answer(
     desk: &mut Desk,
     answer: Result<HouseStep, HouseError>,
     is_planned: bool,
-    out: &mut O,
-) -> Result<Played, Ended> {
+    out: &mut Answers,
+) {
     match answer {
-        Ok(step) => {
-            if step.ignored {
-                writeln!(out, "> ignored")?;
-            } else if desk.is_brief {
-                return Ok(Played::Answered);
-            } else if step.sent.is_empty() {
-                writeln!(out, "> nothing")?;
-            }
-            for datagram in step.sent.into_vec() {
-                write_sent(desk.alloc, &mut desk.mail, datagram, out)?;
-            }
-        }
-        Err(refused) => write_refused(refused, is_planned, out)?,
+        Ok(step) => write_step(desk, step, out),
+        Err(refused) => write_refused(refused, is_planned, out),
     }
-    Ok(Played::Answered)
 }
 
 /// The bytes of a packet; none where it is too big.
-fn spelled(alloc: Global, packet: &Packet) -> Result<Option<Vec<u8>>, Ended> {
+fn spelled(alloc: Global, packet: &Packet, out: &mut Answers) -> Option<Datagram> {
     match Datagram::of(alloc, packet) {
-        Ok(datagram) => Ok(Some(Vec::from_slice(alloc, datagram.as_bytes())?)),
-        Err(EncodeError::TooBig) => Ok(None),
-        Err(EncodeError::Memory) => Err(Ended::Memory),
+        Ok(datagram) => Some(datagram),
+        Err(EncodeError::TooBig) => None,
+        Err(EncodeError::Memory) => {
+            out.lacks();
+            None
+        }
     }
 }
 
-/// The bytes that the words of a command `house hear` name.
-fn packet_in(desk: &Desk, line: &CommandLine<'_>) -> Result<Option<Vec<u8>>, Ended> {
-    let alloc = desk.alloc;
-    let Some(first) = line.word(2) else {
-        return Ok(None);
-    };
-    if first == "bytes" {
-        return Ok(bytes_in(alloc, line, 3)?);
-    }
-    if let Some(number) = packet_number(first) {
-        return match desk.mail.at(number) {
-            Some(bytes) => Ok(Some(Vec::from_slice(alloc, bytes)?)),
-            None => Ok(None),
-        };
-    }
-    match read_packet(alloc, line, 2)? {
-        Some(packet) => spelled(alloc, &packet),
-        None => Ok(None),
-    }
+/// The bytes of a packet in words.
+fn in_words(alloc: Global, line: &CommandLine<'_>, out: &mut Answers) -> Option<Datagram> {
+    let packet = read_packet(alloc, line, 2, out)?;
+    let datagram = spelled(alloc, &packet, out);
+    let_go(packet);
+    datagram
 }
 
-/// Opens a clearinghouse over a bare disk.
-fn open<D: Disk + Drop, O: Write>(
-    bench: &mut Bench<D>,
+/// Carries bytes to a clearinghouse, and writes what it answers.
+fn carry<D: Disk>(
+    house: &mut House<'static, D>,
+    is_planned: bool,
+    desk: &mut Desk,
+    bytes: &[u8],
+    out: &mut Answers,
+) {
+    let answer = house.on_bytes(desk.alloc, bytes);
+    write_answer(desk, answer, is_planned, out);
+}
+
+/// Carries the bytes to it that the words of a command name.
+fn hear<D: Disk>(
+    house: &mut House<'static, D>,
+    is_planned: bool,
     desk: &mut Desk,
     line: &CommandLine<'_>,
-    out: &mut O,
-) -> Result<Played, Ended> {
-    let (Some(limit), Some(job)) = (line.number(2), desk.setting.job(desk.alloc, out)?) else {
-        return Ok(Played::Malformed);
-    };
-    match bench.held.take() {
-        Some(Held::Bare(disk)) => {
-            match House::open(desk.alloc, disk, job, limit) {
-                Ok(house) => {
-                    bench.held = Some(Held::House(house));
-                    writeln!(out, "> ok")?;
-                }
-                Err((refused, disk)) => {
-                    bench.held = Some(Held::Bare(disk));
-                    write_refused(refused, bench.is_planned, out)?;
-                }
-            }
-            Ok(Played::Answered)
-        }
-        other => {
-            bench.held = other;
-            Ok(Played::Malformed)
-        }
+    out: &mut Answers,
+) -> Option<()> {
+    let first = line.word(2)?;
+    if first == "bytes" {
+        let bytes = bytes_in(desk.alloc, line, 3, out)?;
+        carry(house, is_planned, desk, &bytes, out);
+    } else if let Some(number) = packet_number(first) {
+        let bytes = out.made(Vec::from_slice(desk.alloc, desk.mail.at(number)?))?;
+        carry(house, is_planned, desk, &bytes, out);
+    } else {
+        let datagram = in_words(desk.alloc, line, out)?;
+        carry(house, is_planned, desk, datagram.as_bytes(), out);
     }
-}
-
-/// Gives the disk of a clearinghouse back.
-fn close<D: Disk + Drop>(bench: &mut Bench<D>) -> Played {
-    match bench.held.take() {
-        Some(Held::House(house)) => {
-            bench.held = Some(Held::Bare(house.into_disk()));
-            Played::Answered
-        }
-        other => {
-            bench.held = other;
-            Played::Malformed
-        }
-    }
+    Some(())
 }
 
 /// The Join of a worker, as bytes.
-fn join(alloc: Global, job: u64, word: u64) -> Result<Option<Vec<u8>>, Ended> {
-    match Incarnation::worker(word) {
-        Some(from) => spelled(alloc, &Packet::join(job, Join { from })),
-        None => Ok(None),
-    }
+fn join(desk: &Desk, word: u64, out: &mut Answers) -> Option<Datagram> {
+    let from = Incarnation::worker(word)?;
+    let packet = Packet::join(desk.setting.number(), Join { from });
+    let datagram = spelled(desk.alloc, &packet, out);
+    let_go(packet);
+    datagram
+}
+
+/// A worker joins.
+fn joined<D: Disk>(
+    house: &mut House<'static, D>,
+    desk: &Desk,
+    word: u64,
+    out: &mut Answers,
+) -> Option<Result<HouseStep, HouseError>> {
+    let datagram = join(desk, word, out)?;
+    Some(house.on_bytes(desk.alloc, datagram.as_bytes()))
+}
+
+/// Lets what was sent go, here alone, as each place where it may be let go is long to prove.
+fn let_go_step(step: HouseStep) {
+    let _step = step;
 }
 
 /// Workers join in turn, up to one that is refused: what the last one answers.
 fn joins<D: Disk>(
     house: &mut House<'static, D>,
     desk: &Desk,
-    line: &CommandLine<'_>,
-) -> Result<Option<Result<HouseStep, HouseError>>, Ended> {
-    let (Some(first), Some(last)) = (line.number(2), line.number(3)) else {
-        return Ok(None);
-    };
-    let mut answer = None;
-    for word in first..=last {
-        let Some(bytes) = join(desk.alloc, desk.setting.number(), word)? else {
-            return Ok(None);
-        };
-        let answered = house.on_bytes(desk.alloc, &bytes);
-        let is_refused = answered.is_err();
-        answer = Some(answered);
-        if is_refused {
-            break;
+    (first, last): (u64, u64),
+    out: &mut Answers,
+) -> Option<Result<HouseStep, HouseError>> {
+    if first > last {
+        return None;
+    }
+    for word in first..last {
+        match joined(house, desk, word, out) {
+            Some(Ok(step)) => let_go_step(step),
+            answer => return answer,
         }
     }
-    Ok(answer)
+    joined(house, desk, last, out)
 }
 
-/// What a call by the words of a command answers; none where they name no such call.
-fn answered<D: Disk>(
-    house: &mut House<'static, D>,
-    desk: &Desk,
-    line: &CommandLine<'_>,
-) -> Result<Option<Result<HouseStep, HouseError>>, Ended> {
-    match line.word(1) {
-        Some("hear") => {
-            match packet_in(desk, line)? {
-                Some(bytes) => Ok(Some(house.on_bytes(desk.alloc, &bytes))),
-                None => Ok(None),
-            }
+/// Writes the outcome that it has.
+fn write_outcome_found(
+    found: Result<Option<Outcome>, HouseError>,
+    is_planned: bool,
+    out: &mut Answers,
+) {
+    match found {
+        Ok(outcome) => {
+            out.text("> outcome ");
+            write_found(out, outcome);
+            out.end();
         }
-        Some("joins") => joins(house, desk, line),
-        Some("tick") => {
-            match line.number(2) {
-                Some(now) => Ok(Some(house.tick(desk.alloc, now))),
-                None => Ok(None),
-            }
-        }
-        _ => Ok(None),
+        Err(refused) => write_refused(refused, is_planned, out),
     }
 }
 
 /// Plays a command on a clearinghouse that is open.
-fn play_open<D: Disk, O: Write>(
+fn play_open<D: Disk>(
+    house: &mut House<'static, D>,
+    is_planned: bool,
+    desk: &mut Desk,
+    line: &CommandLine<'_>,
+    out: &mut Answers,
+) -> Option<()> {
+    match line.word(1)? {
+        "hear" => return hear(house, is_planned, desk, line, out),
+        "joins" => {
+            let (first, last) = (line.number(2)?, line.number(3)?);
+            let answer = joins(house, desk, (first, last), out)?;
+            write_answer(desk, answer, is_planned, out);
+        }
+        "tick" => {
+            let answer = house.tick(desk.alloc, line.number(2)?);
+            write_answer(desk, answer, is_planned, out);
+        }
+        "outcome" => write_outcome_found(house.outcome(), is_planned, out),
+        "failures" => write_failures(out, house.failures()),
+        "arm" => {
+            let (calls, bytes) = plan_in(desk.alloc, line, out)?;
+            house.arm(calls, bytes);
+        }
+        _ => return None,
+    }
+    Some(())
+}
+
+/// Plays a command on the clearinghouse that has the disk.
+fn play_held<D: Disk>(
     bench: &mut Bench<D>,
     desk: &mut Desk,
     line: &CommandLine<'_>,
-    out: &mut O,
-) -> Result<Played, Ended> {
-    let is_planned = bench.is_planned;
-    let (Some(verb), Some(Held::House(house))) = (line.word(1), &mut bench.held) else {
-        return Ok(Played::Malformed);
+    out: &mut Answers,
+) -> Option<()> {
+    let Some(Held::House(house)) = &mut bench.held else {
+        return None;
     };
-    match verb {
-        "outcome" => {
-            match house.outcome() {
-                Ok(outcome) => {
-                    write!(out, "> outcome ")?;
-                    write_found(out, outcome)?;
-                    writeln!(out)?;
-                }
-                Err(refused) => write_refused(refused, is_planned, out)?,
-            }
+    play_open(house, bench.is_planned, desk, line, out)?;
+    if line.word(1) == Some("arm") {
+        bench.is_planned = true;
+    }
+    Some(())
+}
+
+/// What has a disk behind the opening of a clearinghouse over it, and writes what that answers.
+fn opened<D: Disk>(
+    answer: Result<House<'static, D>, (HouseError, D)>,
+    is_planned: bool,
+    out: &mut Answers,
+) -> Held<D> {
+    match answer {
+        Ok(house) => {
+            out.line("ok");
+            Held::House(house)
         }
-        "failures" => writeln!(out, "> failures {}", house.failures())?,
-        "arm" => {
-            let Some((calls, bytes)) = plan_in(desk.alloc, line)? else {
-                return Ok(Played::Malformed);
-            };
-            house.arm(calls, bytes);
-            bench.is_planned = true;
-        }
-        _ => {
-            return match answered(house, desk, line)? {
-                Some(answer) => write_step(desk, answer, is_planned, out),
-                None => Ok(Played::Malformed),
-            };
+        Err((refused, disk)) => {
+            write_refused(refused, is_planned, out);
+            Held::Bare(disk)
         }
     }
-    Ok(Played::Answered)
+}
+
+/// Opens a clearinghouse over a bare disk: what has the disk then, and whether it was bare.
+fn open<D: Disk>(
+    held: Held<D>,
+    is_planned: bool,
+    alloc: Global,
+    (job, limit): (&'static Job, u64),
+    out: &mut Answers,
+) -> (Held<D>, bool) {
+    match held {
+        Held::Bare(disk) => {
+            let answer = House::open(alloc, disk, job, limit);
+            (opened(answer, is_planned, out), true)
+        }
+        other => (other, false),
+    }
+}
+
+/// Gives the disk of a clearinghouse back, likewise.
+fn close<D: Disk>(held: Held<D>) -> (Held<D>, bool) {
+    match held {
+        Held::House(house) => (Held::Bare(house.into_disk()), true),
+        other => (other, false),
+    }
+}
+
+/// Opens a clearinghouse, where a job is set.
+fn play_opening<D: Disk + Drop>(
+    bench: &mut Bench<D>,
+    desk: &mut Desk,
+    line: &CommandLine<'_>,
+    out: &mut Answers,
+) -> Option<()> {
+    let limit = line.number(2)?;
+    let job = desk.setting.job(desk.alloc, out)?;
+    let held = bench.held.take()?;
+    let (held, is_done) = open(held, bench.is_planned, desk.alloc, (job, limit), out);
+    bench.holds(held);
+    if is_done { Some(()) } else { None }
+}
+
+/// Closes it.
+fn play_closing<D: Disk + Drop>(bench: &mut Bench<D>) -> Option<()> {
+    let (held, is_done) = close(bench.held.take()?);
+    bench.holds(held);
+    if is_done { Some(()) } else { None }
 }
 
 /// Plays a command on a clearinghouse.
-pub fn play_house<D: Disk + Drop, O: Write>(
+pub fn play_house<D: Disk + Drop>(
     bench: &mut Bench<D>,
     desk: &mut Desk,
     line: &CommandLine<'_>,
-    out: &mut O,
-) -> Result<Played, Ended> {
-    match line.word(1) {
-        Some("open") => open(bench, desk, line, out),
-        Some("close") => Ok(close(bench)),
-        _ => play_open(bench, desk, line, out),
+    out: &mut Answers,
+) -> Option<()> {
+    match line.word(1)? {
+        "open" => play_opening(bench, desk, line, out),
+        "close" => play_closing(bench),
+        _ => play_held(bench, desk, line, out),
     }
 }

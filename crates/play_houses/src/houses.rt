@@ -9,10 +9,11 @@ use crate::shown::write_bytes;
 use crate::store::{play_epoch, play_store};
 use disk::{Disk, FailOnce, FileDisk, MemDisk};
 use play_packets::{Mail, packet_number};
-use play_words::{CommandLine, Ended, Played};
+use play_words::{Answers, CommandLine, Played};
 use std::alloc::Global;
-use std::fs::{File, OpenFile};
-use std::io::{self, ErrorKind, Write};
+use std::fs::File;
+use std::io::{self, ErrorKind};
+use std::mem;
 use std::rt::{Env, Files};
 
 /// The disk that is there.
@@ -38,41 +39,66 @@ pub struct Houses {
     desk: Desk,
 }
 
-/// What a command is on.
-#[derive(Clone, Copy, PartialEq, Eq, Debug)]
-enum On {
-    Disk,
-    Store,
-    House,
-}
-
 /// Plays a command on what there is over a disk.
-fn play_over<D: Disk + Drop, O: Write>(
+fn play_over<D: Disk + Drop>(
     bench: &mut Bench<D>,
     desk: &mut Desk,
-    on: On,
     line: &CommandLine<'_>,
-    out: &mut O,
-) -> Result<Played, Ended> {
-    match on {
-        On::Disk => play_disk(bench, desk.alloc, line, out),
-        On::Store => play_store(bench, desk.alloc, line, out),
-        On::House => play_house(bench, desk, line, out),
+    out: &mut Answers,
+) -> Option<()> {
+    match line.word(0)? {
+        "disk" => play_disk(bench, desk.alloc, line, out),
+        "store" => play_store(bench, desk.alloc, line, out),
+        _ => play_house(bench, desk, line, out),
     }
 }
 
 /// The disk over a file, unless that fails, and writes which.
-fn made<D: Drop, O: Write>(answer: io::Result<D>, out: &mut O) -> Result<Option<D>, Ended> {
+fn made<D: Drop>(answer: io::Result<D>, out: &mut Answers) -> Option<D> {
     match answer {
         Ok(disk) => {
-            writeln!(out, "> ok")?;
-            Ok(Some(disk))
+            out.line("ok");
+            Some(disk)
         }
-        Err(error) if error.kind() == ErrorKind::OutOfMemory => Err(Ended::Memory),
-        Err(_) => {
-            writeln!(out, "> failed")?;
-            Ok(None)
+        Err(error) => {
+            if error.kind() == ErrorKind::OutOfMemory {
+                out.lacks();
+            } else {
+                out.line("failed");
+            }
+            None
         }
+    }
+}
+
+/// The bytes of the packet whose number the word at an index is.
+fn numbered<'a>(mail: &'a Mail, line: &CommandLine<'_>, index: usize) -> Option<&'a [u8]> {
+    mail.at(packet_number(line.word(index)?)?)
+}
+
+/// Tells whether two packets have the same bytes.
+fn write_same(mail: &Mail, line: &CommandLine<'_>, out: &mut Answers) -> Option<()> {
+    let one = numbered(mail, line, 2)?;
+    let other = numbered(mail, line, 3)?;
+    out.line(if one == other {
+        "same bytes"
+    } else {
+        "other bytes"
+    });
+    Some(())
+}
+
+/// Shows the bytes of a packet.
+fn write_packet_bytes(mail: &Mail, line: &CommandLine<'_>, out: &mut Answers) -> Option<()> {
+    write_bytes(out, numbered(mail, line, 2)?);
+    Some(())
+}
+
+/// A disk of which a call is chosen, which is to fail: the disk in memory, where it was bare, and else what had it.
+fn chosen(held: Held<MemDisk>, calls: u64, bytes: Vec<u8>) -> Result<FailOnce, Held<MemDisk>> {
+    match held {
+        Held::Bare(disk) => Ok(FailOnce::new(disk, calls, bytes)),
+        other => Err(other),
     }
 }
 
@@ -91,158 +117,130 @@ impl Houses {
     }
 
     /// Plays a command on a disk, a store, a clearinghouse or a file, and writes what it answers.
-    pub fn play<R: Env + Files<File = File> + AllocGlobal, O: Write>(
+    pub fn play<R: Env + Files<File = File> + AllocGlobal>(
         &mut self,
         rt: &R,
         line: &CommandLine<'_>,
-        out: &mut O,
-    ) -> Result<Played, Ended> {
-        let alloc = rt.alloc();
-        match line.word(0) {
-            Some("disk") => self.play_disk(alloc, line, out),
-            Some("store") => self.play_store(line, out),
-            Some("house") => self.play_house(alloc, line, out),
-            Some("file") => play_file(&mut self.file, rt, line, out),
-            _ => Ok(Played::NotMine),
+        out: &mut Answers,
+    ) -> Played {
+        Played::of(match line.word(0).unwrap_or("") {
+            "disk" => self.play_disk(line, out),
+            "store" => self.play_store(line, out),
+            "house" => self.play_house(line, out),
+            "file" => play_file(&mut self.file, rt, line, out),
+            _ => return Played::NotMine,
+        })
+    }
+
+    fn play_disk(&mut self, line: &CommandLine<'_>, out: &mut Answers) -> Option<()> {
+        match line.word(1)? {
+            "new" => self.in_memory(),
+            "fails" => self.fails(line, out),
+            "file" => self.over_file(out),
+            "failing" => self.over_failing_file(line, out),
+            _ => self.play_on(line, out),
         }
     }
 
-    fn play_disk<O: Write>(
-        &mut self,
-        alloc: Global,
-        line: &CommandLine<'_>,
-        out: &mut O,
-    ) -> Result<Played, Ended> {
-        match line.word(1) {
-            Some("new") => {
-                self.place = Place::Memory(Bench::of(MemDisk::new(alloc), false));
-                Ok(Played::Answered)
+    fn play_store(&mut self, line: &CommandLine<'_>, out: &mut Answers) -> Option<()> {
+        match line.word(1)? {
+            "epoch" => play_epoch(line, out),
+            _ => self.play_on(line, out),
+        }
+    }
+
+    fn play_house(&mut self, line: &CommandLine<'_>, out: &mut Answers) -> Option<()> {
+        let (verb, desk) = (line.word(1)?, &mut self.desk);
+        match verb {
+            "program" => desk.setting.set_program(desk.alloc, line.rest(2), out),
+            "input" => desk.setting.set_input(desk.alloc, line, out),
+            "job" => desk.setting.set_number(line.number(2)),
+            "same" => write_same(&desk.mail, line, out),
+            "hex" => write_packet_bytes(&desk.mail, line, out),
+            "brief" | "full" => {
+                desk.is_brief = verb == "brief";
+                Some(())
             }
-            Some("fails") => self.fails(alloc, line),
-            Some("file") => self.over_file(alloc, out),
-            Some("failing") => self.over_failing_file(alloc, line, out),
-            _ => self.play_on(On::Disk, line, out),
-        }
-    }
-
-    fn play_store<O: Write>(
-        &mut self,
-        line: &CommandLine<'_>,
-        out: &mut O,
-    ) -> Result<Played, Ended> {
-        match line.word(1) {
-            Some("epoch") => play_epoch(line, out),
-            _ => self.play_on(On::Store, line, out),
-        }
-    }
-
-    fn play_house<O: Write>(
-        &mut self,
-        alloc: Global,
-        line: &CommandLine<'_>,
-        out: &mut O,
-    ) -> Result<Played, Ended> {
-        match line.word(1) {
-            Some("program") => self.desk.setting.set_program(alloc, line.rest(2)),
-            Some("input") => self.desk.setting.set_input(alloc, line),
-            Some("job") => Ok(self.desk.setting.set_number(line.number(2))),
-            Some("same") => self.same(line, out),
-            Some("hex") => self.hex(line, out),
-            Some("brief") | Some("full") => {
-                self.desk.is_brief = line.word(1) == Some("brief");
-                Ok(Played::Answered)
-            }
-            _ => self.play_on(On::House, line, out),
+            _ => self.play_on(line, out),
         }
     }
 
     /// Plays a command on what there is over the disk.
-    fn play_on<O: Write>(
-        &mut self,
-        on: On,
-        line: &CommandLine<'_>,
-        out: &mut O,
-    ) -> Result<Played, Ended> {
+    fn play_on(&mut self, line: &CommandLine<'_>, out: &mut Answers) -> Option<()> {
         let desk = &mut self.desk;
         match &mut self.place {
-            Place::Empty => Ok(Played::Malformed),
-            Place::Memory(bench) => play_over(bench, desk, on, line, out),
-            Place::Once(bench) => play_over(bench, desk, on, line, out),
-            Place::File(bench) => play_over(bench, desk, on, line, out),
-            Place::Failing(bench) => play_over(bench, desk, on, line, out),
+            Place::Empty => None,
+            Place::Memory(bench) => play_over(bench, desk, line, out),
+            Place::Once(bench) => play_over(bench, desk, line, out),
+            Place::File(bench) => play_over(bench, desk, line, out),
+            Place::Failing(bench) => play_over(bench, desk, line, out),
         }
     }
 
+    /// There is another disk; what was there is let go.
+    fn moves(&mut self, place: Place) {
+        match mem::replace(&mut self.place, place) {
+            Place::Empty => {}
+            Place::Memory(bench) => bench.empties(),
+            Place::Once(bench) => bench.empties(),
+            Place::File(bench) => bench.empties(),
+            Place::Failing(bench) => bench.empties(),
+        }
+    }
+
+    /// An empty disk in memory.
+    fn in_memory(&mut self) -> Option<()> {
+        self.moves(Place::Memory(Bench::of(MemDisk::new(self.desk.alloc), false)));
+        Some(())
+    }
+
     /// A call of the bare disk in memory is chosen, which is to fail.
-    fn fails(&mut self, alloc: Global, line: &CommandLine<'_>) -> Result<Played, Ended> {
-        let Some((calls, bytes)) = plan_in(alloc, line)? else {
-            return Ok(Played::Malformed);
-        };
+    fn fails(&mut self, line: &CommandLine<'_>, out: &mut Answers) -> Option<()> {
+        let (calls, bytes) = plan_in(self.desk.alloc, line, out)?;
         let Place::Memory(bench) = &mut self.place else {
-            return Ok(Played::Malformed);
+            return None;
         };
         match bench.held.take() {
-            Some(Held::Bare(disk)) => {
-                let chosen = FailOnce::new(disk, calls, bytes);
-                self.place = Place::Once(Bench::of(chosen, true));
-                Ok(Played::Answered)
+            Some(held) => self.chooses(held, calls, bytes),
+            None => None,
+        }
+    }
+
+    /// The disk in memory, or what has it, stands in its place again, chosen to fail where it is bare.
+    fn chooses(&mut self, held: Held<MemDisk>, calls: u64, bytes: Vec<u8>) -> Option<()> {
+        match chosen(held, calls, bytes) {
+            Ok(disk) => {
+                self.moves(Place::Once(Bench::of(disk, true)));
+                Some(())
             }
-            other => {
-                bench.held = other;
-                Ok(Played::Malformed)
+            Err(held) => {
+                if let Place::Memory(bench) = &mut self.place {
+                    bench.holds(held);
+                }
+                None
             }
         }
     }
 
     /// A disk over the transcript's file.
-    fn over_file<O: Write>(&mut self, alloc: Global, out: &mut O) -> Result<Played, Ended> {
-        let Some(file) = &self.file else {
-            return Ok(Played::Malformed);
-        };
-        if let Some(disk) = made(FileDisk::new(alloc, file.try_clone()?), out)? {
-            self.place = Place::File(Bench::of(disk, false));
+    fn over_file(&mut self, out: &mut Answers) -> Option<()> {
+        match self.file.as_ref()?.try_clone() {
+            Ok(file) => {
+                if let Some(disk) = made(FileDisk::new(self.desk.alloc, file), out) {
+                    self.moves(Place::File(Bench::of(disk, false)));
+                }
+            }
+            Err(error) => out.fails(&error),
         }
-        Ok(Played::Answered)
+        Some(())
     }
 
     /// A disk over a file of which a call fails.
-    fn over_failing_file<O: Write>(
-        &mut self,
-        alloc: Global,
-        line: &CommandLine<'_>,
-        out: &mut O,
-    ) -> Result<Played, Ended> {
-        let Some(calls) = line.number(2) else {
-            return Ok(Played::Malformed);
-        };
-        if let Some(disk) = made(FileDisk::new(alloc, FailingFile::after(calls)), out)? {
-            self.place = Place::Failing(Bench::of(disk, true));
+    fn over_failing_file(&mut self, line: &CommandLine<'_>, out: &mut Answers) -> Option<()> {
+        let file = FailingFile::after(line.number(2)?);
+        if let Some(disk) = made(FileDisk::new(self.desk.alloc, file), out) {
+            self.moves(Place::Failing(Bench::of(disk, true)));
         }
-        Ok(Played::Answered)
-    }
-
-    /// The bytes of the packet whose number the word at an index is.
-    fn numbered(&self, line: &CommandLine<'_>, index: usize) -> Option<&[u8]> {
-        self.desk.mail.at(packet_number(line.word(index)?)?)
-    }
-
-    fn same<O: Write>(&self, line: &CommandLine<'_>, out: &mut O) -> Result<Played, Ended> {
-        let (Some(one), Some(other)) = (self.numbered(line, 2), self.numbered(line, 3)) else {
-            return Ok(Played::Malformed);
-        };
-        if one == other {
-            writeln!(out, "> same bytes")?;
-        } else {
-            writeln!(out, "> other bytes")?;
-        }
-        Ok(Played::Answered)
-    }
-
-    fn hex<O: Write>(&self, line: &CommandLine<'_>, out: &mut O) -> Result<Played, Ended> {
-        let Some(bytes) = self.numbered(line, 2) else {
-            return Ok(Played::Malformed);
-        };
-        write_bytes(out, bytes)?;
-        Ok(Played::Answered)
+        Some(())
     }
 }

@@ -1,54 +1,82 @@
 //! The job of the clearinghouses that are opened.
 
 use kind_check::{Checked, KindError, check};
-use play_words::{CommandLine, Ended, Played};
+use play_words::{Answers, CommandLine, keep, numbers_of};
 use serial_meaning::Job;
-use std::alloc::{AllocError, Global};
-use std::io::Write;
-use task_syntax::{ParseError, parse};
-use thiserror::Error;
-
-/// Why a text is no program.
-#[derive(Clone, Copy, Debug, PartialEq, Eq, Error)]
-enum Unaccepted {
-    #[error("{0}")]
-    Text(ParseError),
-    #[error("{0}")]
-    Kinds(KindError),
-}
+use std::alloc::Global;
+use task_syntax::{ParseError, Program, parse};
 
 /// What the commands set, and the job itself once a clearinghouse of it was opened.
 #[derive(Drop)]
 pub struct Setting {
-    text: String,
+    text: Vec<u8>,
     input: Vec<i64>,
     number: u64,
     job: Option<&'static Job>,
 }
 
-/// The program of a text.
-fn accepted(alloc: Global, text: &str) -> Result<Checked, Unaccepted> {
-    let program = match parse(alloc, text.as_bytes()) {
-        Ok(program) => program,
-        Err(refused) => return Err(Unaccepted::Text(refused)),
-    };
-    match check(alloc, program) {
-        Ok(checked) => Ok(checked),
-        Err(refused) => Err(Unaccepted::Kinds(refused)),
+/// The program of a text; none where it is refused. Behind a refusal when out of memory it is read once more.
+fn read(alloc: Global, text: &[u8], out: &mut Answers) -> Option<Program> {
+    for _ in 0..2 {
+        match parse(alloc, text) {
+            Ok(program) => return Some(program),
+            Err(refused) => {
+                out.refusal(&refused);
+                if refused != ParseError::Memory {
+                    return None;
+                }
+            }
+        }
+    }
+    None
+}
+
+/// The accepted program of a text, likewise.
+fn accepted(alloc: Global, text: &[u8], out: &mut Answers) -> Option<Checked> {
+    for _ in 0..2 {
+        match check(alloc, read(alloc, text, out)?) {
+            Ok(checked) => return Some(checked),
+            Err(refused) => {
+                out.refusal(&refused);
+                if refused != KindError::Memory {
+                    return None;
+                }
+            }
+        }
+    }
+    None
+}
+
+/// A job, which stays to the end of the program.
+fn kept(alloc: Global, job: Job, out: &mut Answers) -> Option<&'static Job> {
+    match Box::new(alloc, job) {
+        Ok(kept) => Some(Box::leak(kept)),
+        Err(refused) => {
+            out.lacks();
+            keep(refused.value);
+            None
+        }
     }
 }
 
-fn is_out_of_memory(refused: Unaccepted) -> bool {
-    matches!(
-        refused,
-        Unaccepted::Text(ParseError::Memory) | Unaccepted::Kinds(KindError::Memory)
-    )
+/// The job of a program; none where its `main` takes another count of numbers.
+fn made(
+    alloc: Global,
+    checked: Checked,
+    input: Vec<i64>,
+    number: u64,
+    out: &mut Answers,
+) -> Option<&'static Job> {
+    match Job::new(checked, input, number) {
+        Ok(job) => kept(alloc, job, out),
+        Err(_) => None,
+    }
 }
 
 impl Setting {
     pub fn new(alloc: Global) -> Setting {
         Setting {
-            text: String::new(alloc),
+            text: Vec::new(alloc),
             input: Vec::new(alloc),
             number: 1,
             job: None,
@@ -61,75 +89,45 @@ impl Setting {
     }
 
     /// A program is set.
-    pub fn set_program(&mut self, alloc: Global, text: &str) -> Result<Played, Ended> {
-        self.text = String::from_str(alloc, text)?;
+    pub fn set_program(&mut self, alloc: Global, text: &str, out: &mut Answers) -> Option<()> {
+        self.text = out.made(Vec::from_slice(alloc, text.as_bytes()))?;
         self.job = None;
-        Ok(Played::Answered)
+        Some(())
     }
 
     /// The numbers of the input are set.
-    pub fn set_input(&mut self, alloc: Global, line: &CommandLine<'_>) -> Result<Played, Ended> {
-        let mut input = Vec::new(alloc);
-        for word in line.rest(2).split(' ') {
-            match word.parse::<i64>() {
-                Ok(number) => input.push(number)?,
-                Err(_) => return Ok(Played::Malformed),
-            }
-        }
-        self.input = input;
+    pub fn set_input(
+        &mut self,
+        alloc: Global,
+        line: &CommandLine<'_>,
+        out: &mut Answers,
+    ) -> Option<()> {
+        self.input = numbers_of(alloc, line.rest(2), false, out)?;
         self.job = None;
-        Ok(Played::Answered)
+        Some(())
     }
 
     /// The number of the job is set.
-    pub fn set_number(&mut self, number: Option<u64>) -> Played {
-        match number {
-            Some(number) => {
-                self.number = number;
-                self.job = None;
-                Played::Answered
-            }
-            None => Played::Malformed,
-        }
-    }
-
-    /// The program that is set; read once more behind a refusal when out of memory.
-    fn program<O: Write>(&self, alloc: Global, out: &mut O) -> Result<Option<Checked>, Ended> {
-        for _ in 0..2 {
-            match accepted(alloc, self.text.as_str()) {
-                Ok(checked) => return Ok(Some(checked)),
-                Err(refused) => {
-                    writeln!(out, "> {refused}")?;
-                    if !is_out_of_memory(refused) {
-                        break;
-                    }
-                }
-            }
-        }
-        Ok(None)
-    }
-
-    /// The job of a program on the input, which stays to the end of the player; none where its `main` takes another count of
-    /// numbers.
-    fn made(&self, alloc: Global, checked: Checked) -> Result<Option<&'static Job>, AllocError> {
-        let input = Vec::from_slice(alloc, &self.input)?;
-        match Job::new(checked, input, self.number) {
-            Ok(job) => Ok(Some(Box::leak(Box::new(alloc, job)?))),
-            Err(_) => Ok(None),
-        }
+    pub fn set_number(&mut self, number: Option<u64>) -> Option<()> {
+        self.number = number?;
+        self.job = None;
+        Some(())
     }
 
     /// The job of a clearinghouse that is opened; none where the text is no program, or takes another count of numbers.
-    pub fn job<O: Write>(
-        &mut self,
-        alloc: Global,
-        out: &mut O,
-    ) -> Result<Option<&'static Job>, Ended> {
-        if self.job.is_none()
-            && let Some(checked) = self.program(alloc, out)?
-        {
-            self.job = self.made(alloc, checked)?;
+    pub fn job(&mut self, alloc: Global, out: &mut Answers) -> Option<&'static Job> {
+        if self.job.is_none() {
+            self.job = self.begun(alloc, out);
         }
-        Ok(self.job)
+        self.job
+    }
+
+    /// The job of what is set.
+    fn begun(&self, alloc: Global, out: &mut Answers) -> Option<&'static Job> {
+        let input = out.made(Vec::from_slice(alloc, &self.input))?;
+        match accepted(alloc, &self.text, out) {
+            Some(checked) => made(alloc, checked, input, self.number, out),
+            None => None,
+        }
     }
 }

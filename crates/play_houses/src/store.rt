@@ -2,54 +2,43 @@
 
 use crate::bench::{Bench, Held, go_on};
 use crate::device::plan_in;
-use crate::shown::{outcome_in, write_kept, write_kind};
+use crate::shown::{outcome_in, write_failures, write_kept, write_kind};
 use checkpoint::{LastEpoch, Store, StoreError, commit_and_reopen, format};
 use disk::Disk;
 use ids::Outcome;
-use play_words::{CommandLine, Ended, Played};
+use play_words::{Answers, CommandLine};
 use std::alloc::Global;
-use std::io::Write;
 
 /// Writes a refusal.
-fn write_refused<O: Write>(
-    refused: StoreError,
-    is_planned: bool,
-    out: &mut O,
-) -> Result<(), Ended> {
-    writeln!(out, "> {refused}")?;
-    match refused {
-        StoreError::Device => go_on(is_planned),
-        _ => Ok(()),
+fn write_refused(refused: StoreError, is_planned: bool, out: &mut Answers) {
+    out.refusal(&refused);
+    if refused == StoreError::Device {
+        go_on(is_planned, out);
     }
 }
 
 /// Writes what a call answered.
-fn write_answer<O: Write>(
-    answer: Result<(), StoreError>,
-    is_planned: bool,
-    out: &mut O,
-) -> Result<(), Ended> {
+fn write_answer(answer: Result<(), StoreError>, is_planned: bool, out: &mut Answers) {
     match answer {
-        Ok(()) => writeln!(out, "> ok")?,
-        Err(refused) => write_refused(refused, is_planned, out)?,
+        Ok(()) => out.line("ok"),
+        Err(refused) => write_refused(refused, is_planned, out),
     }
-    Ok(())
 }
 
 /// What an opening leaves, and writes what it shows.
-fn opened<D: Disk + Drop, O: Write>(
+fn opened<D: Disk>(
     answer: Result<Store<D>, (StoreError, D)>,
     is_planned: bool,
-    out: &mut O,
-) -> Result<Held<D>, Ended> {
+    out: &mut Answers,
+) -> Held<D> {
     match answer {
         Ok(store) => {
-            write_kept(out, store.record(), store.sequence())?;
-            Ok(Held::Store(store))
+            write_kept(out, store.record(), store.sequence());
+            Held::Store(store)
         }
         Err((refused, disk)) => {
-            write_refused(refused, is_planned, out)?;
-            Ok(Held::Bare(disk))
+            write_refused(refused, is_planned, out);
+            Held::Bare(disk)
         }
     }
 }
@@ -57,147 +46,163 @@ fn opened<D: Disk + Drop, O: Write>(
 /// The epoch and the outcome that the words of a command name.
 fn record_in(line: &CommandLine<'_>) -> Option<(LastEpoch, Option<Outcome>)> {
     let epoch = LastEpoch::of(line.number(2)?)?;
-    Some((epoch, outcome_in(line.word(3)?)?))
+    let outcome = outcome_in(line.word(3)?)?;
+    Some((epoch, outcome))
 }
 
-/// Opens the store of a bare disk.
-fn open<D: Disk + Drop, O: Write>(
-    bench: &mut Bench<D>,
+/// Opens the store of a bare disk: what has the disk then, and whether it was bare.
+fn open<D: Disk>(
+    held: Held<D>,
+    is_planned: bool,
     alloc: Global,
-    line: &CommandLine<'_>,
-    out: &mut O,
-) -> Result<Played, Ended> {
-    let Some(job) = line.number(2) else {
-        return Ok(Played::Malformed);
-    };
-    match bench.held.take() {
-        Some(Held::Bare(disk)) => {
-            let answer = Store::open(alloc, disk, job);
-            bench.held = Some(opened(answer, bench.is_planned, out)?);
-            Ok(Played::Answered)
-        }
-        other => {
-            bench.held = other;
-            Ok(Played::Malformed)
-        }
+    job: u64,
+    out: &mut Answers,
+) -> (Held<D>, bool) {
+    match held {
+        Held::Bare(disk) => (opened(Store::open(alloc, disk, job), is_planned, out), true),
+        other => (other, false),
     }
 }
 
-/// Commits to a store, crashes and opens it.
-fn reopen<D: Disk + Drop, O: Write>(
-    bench: &mut Bench<D>,
+/// Commits to a store, crashes and opens it, likewise.
+fn reopen<D: Disk + Drop>(
+    held: Held<D>,
+    is_planned: bool,
     alloc: Global,
-    line: &CommandLine<'_>,
-    out: &mut O,
-) -> Result<Played, Ended> {
-    let Some((epoch, outcome)) = record_in(line) else {
-        return Ok(Played::Malformed);
-    };
-    match bench.held.take() {
-        Some(Held::Store(store)) => {
+    (epoch, outcome): (LastEpoch, Option<Outcome>),
+    out: &mut Answers,
+) -> (Held<D>, bool) {
+    match held {
+        Held::Store(store) => {
             let (answer, again) = commit_and_reopen(alloc, store, epoch, outcome);
-            write_answer(answer, bench.is_planned, out)?;
-            bench.held = Some(opened(again, bench.is_planned, out)?);
-            Ok(Played::Answered)
+            write_answer(answer, is_planned, out);
+            (opened(again, is_planned, out), true)
         }
-        other => {
-            bench.held = other;
-            Ok(Played::Malformed)
-        }
+        other => (other, false),
     }
 }
 
-/// Gives the disk of a store back.
-fn close<D: Disk + Drop>(bench: &mut Bench<D>) -> Played {
-    match bench.held.take() {
-        Some(Held::Store(store)) => {
-            bench.held = Some(Held::Bare(store.into_disk()));
-            Played::Answered
-        }
-        other => {
-            bench.held = other;
-            Played::Malformed
-        }
+/// Gives the disk of a store back, likewise.
+fn close<D: Disk>(held: Held<D>) -> (Held<D>, bool) {
+    match held {
+        Held::Store(store) => (Held::Bare(store.into_disk()), true),
+        other => (other, false),
     }
+}
+
+/// A command of a store that changes what has the disk.
+#[derive(Clone, Copy)]
+enum Change {
+    Open(u64),
+    Reopen(LastEpoch, Option<Outcome>),
+    Close,
+}
+
+/// Carries out such a command.
+fn changed<D: Disk + Drop>(
+    bench: &mut Bench<D>,
+    alloc: Global,
+    change: Change,
+    out: &mut Answers,
+) -> Option<()> {
+    let held = bench.held.take()?;
+    let (held, is_done) = match change {
+        Change::Open(job) => open(held, bench.is_planned, alloc, job, out),
+        Change::Reopen(epoch, outcome) => {
+            reopen(held, bench.is_planned, alloc, (epoch, outcome), out)
+        }
+        Change::Close => close(held),
+    };
+    bench.holds(held);
+    if is_done { Some(()) } else { None }
 }
 
 /// Makes the store of a job on a bare disk.
-fn make<D: Disk, O: Write>(
-    bench: &mut Bench<D>,
-    line: &CommandLine<'_>,
-    out: &mut O,
-) -> Result<Played, Ended> {
-    let (Some(job), Some(Held::Bare(disk))) = (line.number(2), &mut bench.held) else {
-        return Ok(Played::Malformed);
+fn make<D: Disk>(bench: &mut Bench<D>, line: &CommandLine<'_>, out: &mut Answers) -> Option<()> {
+    let job = line.number(2)?;
+    let Some(Held::Bare(disk)) = &mut bench.held else {
+        return None;
     };
-    write_answer(format(disk, job), bench.is_planned, out)?;
-    Ok(Played::Answered)
+    write_answer(format(disk, job), bench.is_planned, out);
+    Some(())
 }
 
 /// Plays a command on a store that is open.
-fn play_open<D: Disk, O: Write>(
+fn play_open<D: Disk>(
+    store: &mut Store<D>,
+    is_planned: bool,
+    alloc: Global,
+    line: &CommandLine<'_>,
+    out: &mut Answers,
+) -> Option<()> {
+    match line.word(1)? {
+        "record" => write_kept(out, store.record(), store.sequence()),
+        "failures" => write_failures(out, store.failures()),
+        "kind" => write_kind(out, store.can_cut()),
+        "commit" => {
+            let (epoch, outcome) = record_in(line)?;
+            write_answer(store.commit(epoch, outcome), is_planned, out);
+        }
+        "arm" => {
+            let (calls, bytes) = plan_in(alloc, line, out)?;
+            store.arm(calls, bytes);
+        }
+        _ => return None,
+    }
+    Some(())
+}
+
+/// Plays a command on the store that has the disk.
+fn play_held<D: Disk>(
     bench: &mut Bench<D>,
     alloc: Global,
     line: &CommandLine<'_>,
-    out: &mut O,
-) -> Result<Played, Ended> {
-    let (Some(verb), Some(Held::Store(store))) = (line.word(1), &mut bench.held) else {
-        return Ok(Played::Malformed);
+    out: &mut Answers,
+) -> Option<()> {
+    let Some(Held::Store(store)) = &mut bench.held else {
+        return None;
     };
-    match verb {
-        "record" => write_kept(out, store.record(), store.sequence())?,
-        "failures" => writeln!(out, "> failures {}", store.failures())?,
-        "kind" => write_kind(out, store.can_cut())?,
-        "commit" => {
-            let Some((epoch, outcome)) = record_in(line) else {
-                return Ok(Played::Malformed);
-            };
-            write_answer(store.commit(epoch, outcome), bench.is_planned, out)?;
-        }
-        "arm" => {
-            let Some((calls, bytes)) = plan_in(alloc, line)? else {
-                return Ok(Played::Malformed);
-            };
-            store.arm(calls, bytes);
-            bench.is_planned = true;
-        }
-        _ => return Ok(Played::Malformed),
+    play_open(store, bench.is_planned, alloc, line, out)?;
+    if line.word(1) == Some("arm") {
+        bench.is_planned = true;
     }
-    Ok(Played::Answered)
+    Some(())
 }
 
 /// Plays a command on a store.
-pub fn play_store<D: Disk + Drop, O: Write>(
+pub fn play_store<D: Disk + Drop>(
     bench: &mut Bench<D>,
     alloc: Global,
     line: &CommandLine<'_>,
-    out: &mut O,
-) -> Result<Played, Ended> {
-    match line.word(1) {
-        Some("format") => make(bench, line, out),
-        Some("open") => open(bench, alloc, line, out),
-        Some("reopen") => reopen(bench, alloc, line, out),
-        Some("close") => Ok(close(bench)),
-        _ => play_open(bench, alloc, line, out),
+    out: &mut Answers,
+) -> Option<()> {
+    match line.word(1)? {
+        "format" => make(bench, line, out),
+        "open" => changed(bench, alloc, Change::Open(line.number(2)?), out),
+        "reopen" => {
+            let (epoch, outcome) = record_in(line)?;
+            changed(bench, alloc, Change::Reopen(epoch, outcome), out)
+        }
+        "close" => changed(bench, alloc, Change::Close, out),
+        _ => play_held(bench, alloc, line, out),
     }
 }
 
 /// Writes whether a number is a last epoch, and which epoch is the next one.
-pub fn play_epoch<O: Write>(line: &CommandLine<'_>, out: &mut O) -> Result<Played, Ended> {
-    let Some(number) = line.number(2) else {
-        return Ok(Played::Malformed);
+pub fn play_epoch(line: &CommandLine<'_>, out: &mut Answers) -> Option<()> {
+    let Some(epoch) = LastEpoch::of(line.number(2)?) else {
+        out.line("no epoch");
+        return Some(());
     };
-    match LastEpoch::of(number) {
-        None => writeln!(out, "> no epoch")?,
-        Some(epoch) => {
-            match epoch.next() {
-                None => writeln!(out, "> epoch {}, no next one", epoch.number())?,
-                Some(next) => {
-                    let begun = LastEpoch::at(next);
-                    writeln!(out, "> epoch {}, next {}", epoch.number(), begun.number())?;
-                }
-            }
+    out.text("> epoch ");
+    out.number(epoch.number());
+    match epoch.next() {
+        None => out.text(", no next one"),
+        Some(next) => {
+            out.text(", next ");
+            out.number(LastEpoch::at(next).number());
         }
     }
-    Ok(Played::Answered)
+    out.end();
+    Some(())
 }

@@ -3,10 +3,9 @@
 use body_eval::Done;
 use ids::Listed;
 use kind_check::{Checked, KindError, check};
-use play_words::Ended;
+use play_words::Answers;
 use serial_meaning::{Job, Outcome, SerialError, serial};
 use std::alloc::{AllocError, Global};
-use std::io::Write;
 use task_syntax::{ParseError, PrintError, Program, parse, print};
 use task_tokens::{Token, tokenize};
 
@@ -14,84 +13,65 @@ use task_tokens::{Token, tokenize};
 const LONGEST: usize = 1_000_000;
 
 /// The tokens of a text; none where it is too long to be shown, or there is no memory.
-pub fn tokens<O: Write>(
-    alloc: Global,
-    text: &[u8],
-    out: &mut O,
-) -> Result<Option<Listed<Token>>, Ended> {
+pub fn tokens(alloc: Global, text: &[u8], out: &mut Answers) -> Option<Listed<Token>> {
     if text.len() > LONGEST {
-        return Ok(None);
+        return None;
     }
     for _ in 0..2 {
         match tokenize(alloc, text) {
-            Ok(tokens) => return Ok(Some(tokens)),
-            Err(_) => writeln!(out, "> E9")?,
+            Ok(tokens) => return Some(tokens),
+            Err(_) => out.line("E9"),
         }
     }
-    Ok(None)
+    None
 }
 
 /// The program of a text; none where it is refused.
-pub fn program<O: Write>(
-    alloc: Global,
-    text: &[u8],
-    out: &mut O,
-) -> Result<Option<Program>, Ended> {
+pub fn program(alloc: Global, text: &[u8], out: &mut Answers) -> Option<Program> {
     for _ in 0..2 {
         match parse(alloc, text) {
-            Ok(program) => return Ok(Some(program)),
+            Ok(program) => return Some(program),
             Err(refused) => {
-                writeln!(out, "> {refused}")?;
+                out.refusal(&refused);
                 if refused != ParseError::Memory {
-                    break;
+                    return None;
                 }
             }
         }
     }
-    Ok(None)
+    None
 }
 
 /// A printed program; none where it is refused.
-pub fn printed<O: Write>(
-    alloc: Global,
-    program: &Program,
-    out: &mut O,
-) -> Result<Option<Listed<u8>>, Ended> {
+pub fn printed(alloc: Global, program: &Program, out: &mut Answers) -> Option<Vec<u8>> {
     for _ in 0..2 {
         match print(alloc, program) {
-            Ok(text) => return Ok(Some(Listed::from_vec(text))),
+            Ok(text) => return Some(text),
             Err(refused) => {
-                writeln!(out, "> {refused}")?;
+                out.refusal(&refused);
                 if refused != PrintError::Memory {
-                    break;
+                    return None;
                 }
             }
         }
     }
-    Ok(None)
+    None
 }
 
 /// The accepted program of a text; none where it is refused.
-pub fn accepted<O: Write>(
-    alloc: Global,
-    text: &[u8],
-    out: &mut O,
-) -> Result<Option<Checked>, Ended> {
+pub fn accepted(alloc: Global, text: &[u8], out: &mut Answers) -> Option<Checked> {
     for _ in 0..2 {
-        let Some(program) = program(alloc, text, out)? else {
-            break;
-        };
-        match check(alloc, program) {
-            Ok(checked) => return Ok(Some(checked)),
+        match check(alloc, program(alloc, text, out)?) {
+            Ok(checked) => return Some(checked),
             Err(refused) => {
-                writeln!(out, "> {refused}")?;
+                out.refusal(&refused);
                 if refused != KindError::Memory {
-                    break;
+                    return None;
                 }
             }
         }
     }
-    Ok(None)
+    None
 }
 
 /// The turn of a thread; none where there is no such thread, or it takes another count of numbers.
@@ -111,39 +91,34 @@ fn done_of(
 }
 
 /// The turn of a thread on numbers; none where there is none, or no memory.
-pub fn done<O: Write>(
+pub fn done(
     alloc: Global,
     checked: &Checked,
     thread: u8,
     numbers: &[i64],
-    out: &mut O,
-) -> Result<Option<Done>, Ended> {
+    out: &mut Answers,
+) -> Option<Done> {
     for _ in 0..2 {
         match done_of(alloc, checked, thread, numbers) {
-            Ok(done) => return Ok(done),
-            Err(_) => writeln!(out, "> E9")?,
+            Ok(done) => return done,
+            Err(_) => out.line("E9"),
         }
     }
-    Ok(None)
+    None
 }
 
 /// The meaning of a job; none where it is refused.
-pub fn meaning<O: Write>(
-    alloc: Global,
-    job: &Job,
-    turns: u64,
-    out: &mut O,
-) -> Result<Option<Outcome>, Ended> {
+pub fn meaning(alloc: Global, job: &Job, turns: u64, out: &mut Answers) -> Option<Outcome> {
     for _ in 0..2 {
         match serial(alloc, job, turns) {
-            Ok(outcome) => return Ok(Some(outcome)),
+            Ok(outcome) => return Some(outcome),
             Err(refused) => {
-                writeln!(out, "> {refused}")?;
+                out.refusal(&refused);
                 if refused != SerialError::Memory {
-                    break;
+                    return None;
                 }
             }
         }
     }
-    Ok(None)
+    None
 }

@@ -1,66 +1,57 @@
 //! Copies of what an Offer hands on.
 
 use codec::{Body, Offer, Packet};
-use play_packets::{read_packet, write_packet};
-use play_words::{CommandLine, Ended, Played};
+use ids::Listed;
+use play_packets::{let_go, read_packet, write_packet};
+use play_words::{Answers, CommandLine};
 use std::alloc::{AllocError, Global};
-use std::io::{self, Write};
+
+/// A copied list; an empty one where there is no memory.
+fn list<T>(alloc: Global, copied: Result<Listed<T>, AllocError>, out: &mut Answers) -> Listed<T> {
+    match copied {
+        Ok(list) => list,
+        Err(_) => {
+            out.lacks();
+            Listed::new(alloc)
+        }
+    }
+}
 
 /// An Offer with copies of its task, its frames and its records.
-fn copied(offer: &Offer) -> Result<Offer, AllocError> {
-    Ok(Offer {
+fn copied(alloc: Global, offer: &Offer, out: &mut Answers) -> Option<Body> {
+    let task = out.made(offer.task.clone())?;
+    Some(Body::Offer(Offer {
         from: offer.from,
         grant: offer.grant,
         hop: offer.hop,
         parent: offer.parent,
         progress: offer.progress,
-        task: offer.task.clone()?,
+        task,
         next: offer.next,
-        frames: offer.frames.clone()?,
-        records: offer.records.clone()?,
-    })
+        frames: list(alloc, offer.frames.clone(), out),
+        records: list(alloc, offer.records.clone(), out),
+    }))
 }
 
-/// The packet of an Offer's copy; none of any other packet.
-fn copy_of(packet: &Packet) -> Result<Option<Packet>, AllocError> {
-    match packet.body() {
-        Body::Offer(offer) => {
-            let body = Body::Offer(copied(offer)?);
-            Ok(Packet::of(packet.job(), packet.to(), body))
-        }
-        _ => Ok(None),
+/// Writes a packet of copies of what an Offer has.
+fn write_copy(alloc: Global, packet: &Packet, out: &mut Answers) -> Option<()> {
+    let Body::Offer(offer) = packet.body() else {
+        return None;
+    };
+    let body = copied(alloc, offer, out)?;
+    if let Some(copy) = Packet::of(packet.job(), packet.to(), body) {
+        out.text("> ");
+        write_packet(out, &copy);
+        out.end();
+        let_go(copy);
     }
-}
-
-fn write_line<O: Write>(out: &mut O, packet: &Packet) -> io::Result<()> {
-    write!(out, "> ")?;
-    write_packet(out, packet)?;
-    writeln!(out)
-}
-
-/// Writes the packet of an Offer's copy.
-fn write_copy<O: Write>(packet: &Packet, out: &mut O) -> Result<Played, Ended> {
-    for _ in 0..2 {
-        match copy_of(packet) {
-            Ok(Some(copy)) => {
-                write_line(out, &copy)?;
-                break;
-            }
-            Ok(None) => return Ok(Played::Malformed),
-            Err(_) => writeln!(out, "> E9")?,
-        }
-    }
-    Ok(Played::Answered)
+    Some(())
 }
 
 /// Plays a command on an Offer.
-pub fn play_copy<O: Write>(
-    alloc: Global,
-    line: &CommandLine<'_>,
-    out: &mut O,
-) -> Result<Played, Ended> {
-    match read_packet(alloc, line, 1)? {
-        Some(packet) => write_copy(&packet, out),
-        None => Ok(Played::Malformed),
-    }
+pub fn play_copy(alloc: Global, line: &CommandLine<'_>, out: &mut Answers) -> Option<()> {
+    let packet = read_packet(alloc, line, 1, out)?;
+    let done = write_copy(alloc, &packet, out);
+    let_go(packet);
+    done
 }

@@ -9,10 +9,10 @@ use crate::stores::Stores;
 use crate::tree::write_program;
 use crate::written::bytes_of;
 use kind_check::Checked;
-use play_words::{CommandLine, Ended, Played};
+use play_words::{Answers, CommandLine, Played, byte, keep, numbers_of};
 use serial_meaning::{Job, Outcome};
-use std::alloc::{AllocError, Global};
-use std::io::Write;
+use std::alloc::Global;
+use task_syntax::Program;
 
 /// The text that is kept, and what a node is made of.
 #[derive(Drop)]
@@ -21,28 +21,138 @@ pub struct Language {
     stores: Stores,
 }
 
-/// The numbers of the words from an index on; none where a word is no number.
-fn numbers(
-    alloc: Global,
-    line: &CommandLine<'_>,
-    from: usize,
-) -> Result<Option<Vec<i64>>, AllocError> {
-    let mut list = Vec::new(alloc);
-    for word in line.rest(from).split(' ') {
-        if word.is_empty() {
-            continue;
-        }
-        match word.parse::<i64>() {
-            Ok(number) => list.push(number)?,
-            Err(_) => return Ok(None),
-        }
+fn write_tokens_of(alloc: Global, text: &[u8], out: &mut Answers) {
+    if let Some(tokens) = tokens(alloc, text, out) {
+        write_tokens(out, tokens.as_slice());
+        keep(tokens);
     }
-    Ok(Some(list))
 }
 
-/// The thread that the word behind a command's name numbers.
-fn thread(line: &CommandLine<'_>) -> Option<u8> {
-    line.word(1)?.parse::<u8>().ok()
+fn write_tree(program: &Program, out: &mut Answers) {
+    out.text("> ");
+    write_program(out, program);
+    out.end();
+}
+
+/// Writes how a program of this text is printed.
+fn write_print(text: &[u8], printed: &[u8], out: &mut Answers) {
+    if printed == text {
+        out.text("> as it is, ");
+        out.number(text.len() as u64);
+        out.text(" bytes");
+        out.end();
+    } else if printed.is_empty() {
+        out.line("nothing");
+    } else {
+        write_printed(out, printed);
+    }
+}
+
+/// Writes what a command shows of the program that a text is read as.
+fn write_read(alloc: Global, name: &str, text: &[u8], program: &Program, out: &mut Answers) {
+    match name {
+        "tree" => write_tree(program, out),
+        "reads" => out.line("ok"),
+        _ => {
+            if let Some(printed) = printed(alloc, program, out) {
+                write_print(text, &printed, out);
+            }
+        }
+    }
+}
+
+/// Reads a text, and writes what a command shows of its program.
+fn play_read(alloc: Global, name: &str, text: &[u8], out: &mut Answers) {
+    if let Some(program) = program(alloc, text, out) {
+        write_read(alloc, name, text, &program, out);
+        keep(program);
+    }
+}
+
+fn write_kinds(checked: &Checked, out: &mut Answers) {
+    out.text("> ok, ");
+    out.number(checked.threads() as u64);
+    out.text(" threads, ");
+    out.shown(&checked.program().length);
+    out.text(" bytes");
+    out.end();
+}
+
+/// The turn of a thread of an accepted program on numbers.
+fn turn_of(
+    alloc: Global,
+    checked: &Checked,
+    line: &CommandLine<'_>,
+    out: &mut Answers,
+) -> Option<()> {
+    let thread = byte(line.word(1)?)?;
+    let numbers = numbers_of(alloc, line.rest(2), true, out)?;
+    match done(alloc, checked, thread, &numbers, out) {
+        Some(done) => {
+            write_done(out, &done);
+            keep(done);
+            Some(())
+        }
+        None => None,
+    }
+}
+
+/// Carries out a command on an accepted program.
+fn play_checked(
+    alloc: Global,
+    name: &str,
+    checked: &Checked,
+    line: &CommandLine<'_>,
+    out: &mut Answers,
+) -> Option<()> {
+    if name == "turn" {
+        turn_of(alloc, checked, line, out)
+    } else {
+        write_kinds(checked, out);
+        Some(())
+    }
+}
+
+/// Checks a text, and carries out a command on the accepted program.
+fn play_accepted(
+    alloc: Global,
+    name: &str,
+    text: &[u8],
+    line: &CommandLine<'_>,
+    out: &mut Answers,
+) -> Option<()> {
+    match accepted(alloc, text, out) {
+        Some(checked) => {
+            let done = play_checked(alloc, name, &checked, line, out);
+            keep(checked);
+            done
+        }
+        None => Some(()),
+    }
+}
+
+/// The meaning of a job.
+fn write_meaning(alloc: Global, job: &Job, turns: u64, out: &mut Answers) {
+    match meaning(alloc, job, turns, out) {
+        Some(Outcome::Value(value)) => {
+            out.text("> value ");
+            out.signed(value);
+            out.end();
+        }
+        Some(Outcome::TooDeep) => out.line("too deep"),
+        None => {}
+    }
+}
+
+/// The meaning of an accepted program on numbers.
+fn meaning_of(alloc: Global, checked: Checked, input: Vec<i64>, turns: u64, out: &mut Answers) {
+    match Job::new(checked, input, 1) {
+        Ok(job) => {
+            write_meaning(alloc, &job, turns, out);
+            keep(job);
+        }
+        Err(refused) => out.refusal(&refused),
+    }
 }
 
 impl Language {
@@ -54,167 +164,55 @@ impl Language {
     }
 
     /// Plays a command on texts, and writes what it answers.
-    pub fn play<O: Write>(
-        &mut self,
-        alloc: Global,
-        line: &CommandLine<'_>,
-        out: &mut O,
-    ) -> Result<Played, Ended> {
-        let Some(name) = line.word(0) else {
-            return Ok(Played::NotMine);
-        };
-        match name {
-            "text" => self.keeps(alloc, line.rest(1)),
+    pub fn play(&mut self, alloc: Global, line: &CommandLine<'_>, out: &mut Answers) -> Played {
+        let name = line.word(0).unwrap_or("");
+        Played::of(match name {
+            "text" => self.keeps(alloc, line.rest(1), out),
             "tokens" | "tree" | "reads" | "prints" | "kinds" => self.on_text(
                 alloc, name, line, out,
             ),
-            "turn" => self.turn(alloc, line, out),
+            "turn" => play_accepted(alloc, name, &self.text, line, out),
             "evaluate" => self.evaluate(alloc, line, out),
             "name" => play_name(line, out),
             "before" => play_before(line, out),
             "place" => play_place(alloc, line, out),
             "list" => play_list(alloc, line, out),
             "copy" => play_copy(alloc, line, out),
-            _ => self.stores.play(alloc, line, out),
-        }
+            _ => return self.stores.play(alloc, line, out),
+        })
     }
 
-    fn keeps(&mut self, alloc: Global, written: &str) -> Result<Played, Ended> {
-        match bytes_of(alloc, written)? {
-            Some(text) => {
-                self.text = text;
-                Ok(Played::Answered)
-            }
-            None => Ok(Played::Malformed),
-        }
+    fn keeps(&mut self, alloc: Global, written: &str, out: &mut Answers) -> Option<()> {
+        self.text = bytes_of(alloc, written, out)?;
+        Some(())
     }
 
     /// A command on the text behind its name, or on the kept one where there is none.
-    fn on_text<O: Write>(
+    fn on_text(
         &mut self,
         alloc: Global,
         name: &str,
         line: &CommandLine<'_>,
-        out: &mut O,
-    ) -> Result<Played, Ended> {
-        if line.word(1).is_some() && self.keeps(alloc, line.rest(1))? == Played::Malformed {
-            return Ok(Played::Malformed);
+        out: &mut Answers,
+    ) -> Option<()> {
+        if line.word(1).is_some() {
+            self.keeps(alloc, line.rest(1), out)?;
         }
+        let text = self.text.as_slice();
         match name {
-            "tokens" => self.tokens(alloc, out)?,
-            "tree" => self.tree(alloc, out)?,
-            "reads" => self.reads(alloc, out)?,
-            "prints" => self.prints(alloc, out)?,
-            _ => self.kinds(alloc, out)?,
+            "tokens" => write_tokens_of(alloc, text, out),
+            "kinds" => return play_accepted(alloc, name, text, line, out),
+            _ => play_read(alloc, name, text, out),
         }
-        Ok(Played::Answered)
+        Some(())
     }
 
-    fn tokens<O: Write>(&self, alloc: Global, out: &mut O) -> Result<(), Ended> {
-        if let Some(tokens) = tokens(alloc, &self.text, out)? {
-            write_tokens(out, tokens.as_slice())?;
+    fn evaluate(&self, alloc: Global, line: &CommandLine<'_>, out: &mut Answers) -> Option<()> {
+        let turns = line.number(1)?;
+        let input = numbers_of(alloc, line.rest(2), true, out)?;
+        if let Some(checked) = accepted(alloc, &self.text, out) {
+            meaning_of(alloc, checked, input, turns, out);
         }
-        Ok(())
+        Some(())
     }
-
-    fn tree<O: Write>(&self, alloc: Global, out: &mut O) -> Result<(), Ended> {
-        if let Some(program) = program(alloc, &self.text, out)? {
-            write!(out, "> ")?;
-            write_program(out, &program)?;
-            writeln!(out)?;
-        }
-        Ok(())
-    }
-
-    fn reads<O: Write>(&self, alloc: Global, out: &mut O) -> Result<(), Ended> {
-        if program(alloc, &self.text, out)?.is_some() {
-            writeln!(out, "> ok")?;
-        }
-        Ok(())
-    }
-
-    fn prints<O: Write>(&self, alloc: Global, out: &mut O) -> Result<(), Ended> {
-        let Some(program) = program(alloc, &self.text, out)? else {
-            return Ok(());
-        };
-        let Some(text) = printed(alloc, &program, out)? else {
-            return Ok(());
-        };
-        if text.as_slice() == self.text.as_slice() {
-            writeln!(out, "> as it is, {} bytes", text.len())?;
-        } else if text.is_empty() {
-            writeln!(out, "> nothing")?;
-        } else {
-            write_printed(out, text.as_slice())?;
-        }
-        Ok(())
-    }
-
-    fn kinds<O: Write>(&self, alloc: Global, out: &mut O) -> Result<(), Ended> {
-        if let Some(checked) = accepted(alloc, &self.text, out)? {
-            let length = checked.program().length;
-            writeln!(out, "> ok, {} threads, {length} bytes", checked.threads())?;
-        }
-        Ok(())
-    }
-
-    fn turn<O: Write>(
-        &self,
-        alloc: Global,
-        line: &CommandLine<'_>,
-        out: &mut O,
-    ) -> Result<Played, Ended> {
-        match accepted(alloc, &self.text, out)? {
-            Some(checked) => turn_of(alloc, &checked, line, out),
-            None => Ok(Played::Answered),
-        }
-    }
-
-    fn evaluate<O: Write>(
-        &self,
-        alloc: Global,
-        line: &CommandLine<'_>,
-        out: &mut O,
-    ) -> Result<Played, Ended> {
-        let (Some(turns), Some(input)) = (line.number(1), numbers(alloc, line, 2)?) else {
-            return Ok(Played::Malformed);
-        };
-        match accepted(alloc, &self.text, out)? {
-            Some(checked) => match Job::new(checked, input, 1) {
-                Ok(job) => meaning_of(alloc, &job, turns, out)?,
-                Err(refused) => writeln!(out, "> {refused}")?,
-            },
-            None => {}
-        }
-        Ok(Played::Answered)
-    }
-}
-
-/// The turn of a thread of an accepted program on numbers.
-fn turn_of<O: Write>(
-    alloc: Global,
-    checked: &Checked,
-    line: &CommandLine<'_>,
-    out: &mut O,
-) -> Result<Played, Ended> {
-    let (Some(thread), Some(numbers)) = (thread(line), numbers(alloc, line, 2)?) else {
-        return Ok(Played::Malformed);
-    };
-    match done(alloc, checked, thread, &numbers, out)? {
-        Some(done) => {
-            write_done(out, &done)?;
-            Ok(Played::Answered)
-        }
-        None => Ok(Played::Malformed),
-    }
-}
-
-/// The meaning of a job.
-fn meaning_of<O: Write>(alloc: Global, job: &Job, turns: u64, out: &mut O) -> Result<(), Ended> {
-    match meaning(alloc, job, turns, out)? {
-        Some(Outcome::Value(value)) => writeln!(out, "> value {value}")?,
-        Some(Outcome::TooDeep) => writeln!(out, "> too deep")?,
-        None => {}
-    }
-    Ok(())
 }

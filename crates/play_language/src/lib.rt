@@ -21,7 +21,8 @@
 //!   it is cleared.
 //! - `copy PACKET` is the packet of copies of what an Offer hands on.
 //!
-//! What a node is made of is played by itself. N is a number or `FIRST..LAST`; the last thing that was taken is shown.
+//! What a node is made of is played by itself. N is a number, or all from one to another that isn't
+//! less, `FIRST..LAST`; the last thing that was taken is shown.
 //!
 //! - `frames put FRAME`, `frames get N`, `frames missing N`, `frames fill N SLOT VALUE`, where the slot is empty, `frames take N`,
 //!   where they are ready, and `frames all`, in a copy.
@@ -35,7 +36,8 @@
 //!   victim, and `asker clear`.
 //! - `replies keep THIEF SEQ PACKET` and `replies hear THIEF SEQ`.
 //!
-//! A refusal is answered by its number and offset. Behind E9, when out of memory, the same call is made once more.
+//! A refusal is answered by its number and offset. Behind E9, when out of memory, the same call is made once more;
+//! but the copies of `copy` end the transcript there.
 #![tactic(auto)]
 
 mod calls;

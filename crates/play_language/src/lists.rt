@@ -1,10 +1,9 @@
 //! Lists of numbers.
 
 use ids::Listed;
-use play_packets::{Unread, numbers, write_numbers};
-use play_words::{CommandLine, Ended, Played};
+use play_packets::{numbers, write_numbers};
+use play_words::{Answers, CommandLine};
 use std::alloc::{AllocError, Global};
-use std::io::Write;
 
 /// A list that had room for one item, with these.
 fn listed(alloc: Global, items: &[i64]) -> Result<Listed<i64>, AllocError> {
@@ -15,60 +14,49 @@ fn listed(alloc: Global, items: &[i64]) -> Result<Listed<i64>, AllocError> {
     Ok(list)
 }
 
-fn write_item<O: Write>(out: &mut O, item: Option<&i64>) -> Result<(), Ended> {
+fn write_item(out: &mut Answers, item: Option<&i64>) {
     match item {
-        Some(item) => write!(out, ", {item}")?,
-        None => write!(out, ", none")?,
+        Some(item) => {
+            out.text(", ");
+            out.signed(*item);
+        }
+        None => out.text(", none"),
     }
-    Ok(())
 }
 
 /// Writes a list after an item was put into it, this item, the one behind the last, and the list once it is cleared.
-fn write_list<O: Write>(
-    out: &mut O,
-    list: &mut Listed<i64>,
-    at: usize,
-    item: i64,
-) -> Result<(), Ended> {
+fn write_list(out: &mut Answers, list: &mut Listed<i64>, at: usize, item: i64) {
     if at < list.len() {
         list.put(at, item);
     }
-    write!(out, "> ")?;
-    write_numbers(out, list.as_slice())?;
-    write_item(out, list.get(at))?;
-    write_item(out, list.get(list.len()))?;
+    out.text("> ");
+    write_numbers(out, list.as_slice());
+    write_item(out, list.get(at));
+    write_item(out, list.get(list.len()));
     list.clear();
-    write!(out, ", ")?;
-    write_numbers(out, list.as_slice())?;
-    writeln!(out)?;
-    Ok(())
+    out.text(", ");
+    write_numbers(out, list.as_slice());
+    out.end();
+}
+
+/// The same of a list of these items.
+fn write_listed(alloc: Global, items: &[i64], at: usize, item: i64, out: &mut Answers) {
+    for _ in 0..2 {
+        match listed(alloc, items) {
+            Ok(mut list) => {
+                write_list(out, &mut list, at, item);
+                break;
+            }
+            Err(_) => out.line("E9"),
+        }
+    }
 }
 
 /// Plays a command on a list.
-pub fn play_list<O: Write>(
-    alloc: Global,
-    line: &CommandLine<'_>,
-    out: &mut O,
-) -> Result<Played, Ended> {
-    let (Some(text), Some(at), Some(item)) = (line.word(1), line.number(2), line.signed(3)) else {
-        return Ok(Played::Malformed);
-    };
-    let items = match numbers(alloc, text) {
-        Ok(items) => items,
-        Err(Unread::Malformed) => return Ok(Played::Malformed),
-        Err(Unread::Memory) => return Err(Ended::Memory),
-    };
-    let Ok(at) = usize::try_from(at) else {
-        return Ok(Played::Malformed);
-    };
-    for _ in 0..2 {
-        match listed(alloc, items.as_slice()) {
-            Ok(mut list) => {
-                write_list(out, &mut list, at, item)?;
-                break;
-            }
-            Err(_) => writeln!(out, "> E9")?,
-        }
-    }
-    Ok(Played::Answered)
+pub fn play_list(alloc: Global, line: &CommandLine<'_>, out: &mut Answers) -> Option<()> {
+    let at = usize::try_from(line.number(2)?).ok()?;
+    let item = line.signed(3)?;
+    let items = numbers(alloc, line.word(1)?, out)?;
+    write_listed(alloc, items.as_slice(), at, item, out);
+    Some(())
 }

@@ -4,10 +4,9 @@ use ids::{
     Actor, Address, Count, Epoch, FrameNo, GrantId, Hop, Incarnation, Member, Named, Place,
     PlaceError, Status,
 };
-use play_packets::{Unread, grant, steps, write_place};
-use play_words::{CommandLine, Ended, Played};
+use play_packets::{grant, steps, write_place};
+use play_words::{Answers, CommandLine, byte};
 use std::alloc::Global;
-use std::io::Write;
 
 /// A worker's word or a clearinghouse's, and the epoch of the latter.
 fn of_actor(actor: Actor) -> (u64, Option<u64>) {
@@ -73,27 +72,27 @@ fn told(line: &CommandLine<'_>) -> Option<(u64, Option<u64>)> {
 }
 
 /// Plays a command on names.
-pub fn play_name<O: Write>(line: &CommandLine<'_>, out: &mut O) -> Result<Played, Ended> {
-    match told(line) {
-        Some((first, Some(second))) => writeln!(out, "> {first} {second}")?,
-        Some((first, None)) => writeln!(out, "> {first}")?,
-        None => writeln!(out, "> none")?,
-    }
-    Ok(Played::Answered)
-}
-
-/// Whether the first grant of a command stands before the second.
-fn is_before(line: &CommandLine<'_>) -> Option<bool> {
-    Some(grant(line.word(1)?)?.is_before(grant(line.word(2)?)?))
-}
-
-/// Plays a command on the order of grants.
-pub fn play_before<O: Write>(line: &CommandLine<'_>, out: &mut O) -> Result<Played, Ended> {
-    let Some(is_before) = is_before(line) else {
-        return Ok(Played::Malformed);
+pub fn play_name(line: &CommandLine<'_>, out: &mut Answers) -> Option<()> {
+    let Some((first, second)) = told(line) else {
+        out.line("none");
+        return Some(());
     };
-    writeln!(out, "> {is_before}")?;
-    Ok(Played::Answered)
+    out.text("> ");
+    out.number(first);
+    if let Some(second) = second {
+        out.text(" ");
+        out.number(second);
+    }
+    out.end();
+    Some(())
+}
+
+/// Plays a command on the order of grants: whether the first stands before the second.
+pub fn play_before(line: &CommandLine<'_>, out: &mut Answers) -> Option<()> {
+    let first = grant(line.word(1)?)?;
+    let second = grant(line.word(2)?)?;
+    out.truth(first.is_before(second));
+    Some(())
 }
 
 /// The place below another one: of its successor, or of the kid of a hole.
@@ -105,75 +104,73 @@ fn below(alloc: Global, place: &Place, hole: Option<u8>) -> Result<Place, PlaceE
 }
 
 /// Writes the place below another one.
-fn write_below<O: Write>(
-    alloc: Global,
-    place: &Place,
-    hole: Option<u8>,
-    out: &mut O,
-) -> Result<(), Ended> {
+fn write_below(alloc: Global, place: &Place, hole: Option<u8>, out: &mut Answers) {
     for _ in 0..2 {
         match below(alloc, place, hole) {
             Ok(below) => {
-                write!(out, "> ")?;
-                write_place(out, &below)?;
-                writeln!(out)?;
+                out.text("> ");
+                write_place(out, &below);
+                out.end();
                 break;
             }
             Err(refused) => {
-                writeln!(out, "> {refused}")?;
+                out.refusal(&refused);
                 if refused == PlaceError::Full {
                     break;
                 }
             }
         }
     }
-    Ok(())
+}
+
+/// Writes the level of a place, and how many steps lead to it.
+fn write_level(place: &Place, out: &mut Answers) {
+    out.text("> level ");
+    out.number(u64::from(place.level()));
+    out.text(", ");
+    out.number(u64::from(place.len()));
+    out.text(" steps");
+    out.end();
+}
+
+/// Writes a step to a place.
+fn write_step(step: Option<u8>, out: &mut Answers) {
+    match step {
+        Some(step) => {
+            out.text("> ");
+            out.number(u64::from(step));
+            out.end();
+        }
+        None => out.line("none"),
+    }
 }
 
 /// What a place is asked.
-fn write_asked<O: Write>(
+fn write_asked(
     alloc: Global,
     place: &Place,
     line: &CommandLine<'_>,
-    out: &mut O,
-) -> Result<Played, Ended> {
-    let number = match line.word(3) {
-        Some(word) => word.parse::<u8>().ok(),
-        None => None,
-    };
-    match (line.word(1), number) {
-        (Some("level"), None) => {
-            writeln!(out, "> level {}, {} steps", place.level(), place.len())?;
-        }
-        (Some("step"), Some(index)) => match place.step(u16::from(index)) {
-            Some(step) => writeln!(out, "> {step}")?,
-            None => writeln!(out, "> none")?,
-        },
-        (Some("next"), None) => write_below(alloc, place, None, out)?,
-        (Some("child"), Some(hole)) if hole < 9 => write_below(alloc, place, Some(hole), out)?,
-        _ => return Ok(Played::Malformed),
+    out: &mut Answers,
+) -> Option<()> {
+    let number = byte(line.word(3).unwrap_or(""));
+    match (line.word(1)?, number) {
+        ("level", None) => write_level(place, out),
+        ("step", Some(index)) => write_step(place.step(u16::from(index)), out),
+        ("next", None) => write_below(alloc, place, None, out),
+        ("child", Some(hole)) if hole < 9 => write_below(alloc, place, Some(hole), out),
+        _ => return None,
     }
-    Ok(Played::Answered)
+    Some(())
 }
 
 /// Plays a command on a place.
-pub fn play_place<O: Write>(
-    alloc: Global,
-    line: &CommandLine<'_>,
-    out: &mut O,
-) -> Result<Played, Ended> {
-    let Some(text) = line.word(2) else {
-        return Ok(Played::Malformed);
-    };
-    match steps(alloc, text) {
-        Ok(steps) => match Place::of(steps) {
-            Some(place) => write_asked(alloc, &place, line, out),
-            None => {
-                writeln!(out, "> none")?;
-                Ok(Played::Answered)
-            }
-        },
-        Err(Unread::Malformed) => Ok(Played::Malformed),
-        Err(Unread::Memory) => Err(Ended::Memory),
+pub fn play_place(alloc: Global, line: &CommandLine<'_>, out: &mut Answers) -> Option<()> {
+    let steps = steps(alloc, line.word(2)?, out)?;
+    match Place::of(steps) {
+        Some(place) => write_asked(alloc, &place, line, out),
+        None => {
+            out.line("none");
+            Some(())
+        }
     }
 }

@@ -2,77 +2,95 @@
 
 use crate::tree::write_name;
 use body_eval::{Done, Slot, Turn};
-use std::io::{self, Write};
+use play_words::Answers;
 use task_tokens::{Token, TokenKind};
 
-fn write_kind<O: Write>(out: &mut O, kind: &TokenKind) -> io::Result<()> {
+fn write_kind(out: &mut Answers, kind: &TokenKind) {
     match kind {
         TokenKind::Ident(name) => write_name(out, name.as_slice()),
-        TokenKind::LongIdent => write!(out, "LongIdent"),
-        TokenKind::Keyword(word) => write!(out, "{word:?}"),
-        TokenKind::Numeral(number) => write!(out, "{number}"),
-        TokenKind::LargeNumeral => write!(out, "LargeNumeral"),
-        TokenKind::Infix(operator) => write!(out, "{operator:?}"),
-        TokenKind::Mark(sign) => write!(out, "{sign:?}"),
-        TokenKind::Unknown => write!(out, "Unknown"),
-        TokenKind::End => write!(out, "End"),
+        TokenKind::LongIdent => out.text("LongIdent"),
+        TokenKind::Keyword(word) => out.debugged(word),
+        TokenKind::Numeral(number) => out.shown(number),
+        TokenKind::LargeNumeral => out.text("LargeNumeral"),
+        TokenKind::Infix(operator) => out.debugged(operator),
+        TokenKind::Mark(sign) => out.debugged(sign),
+        TokenKind::Unknown => out.text("Unknown"),
+        TokenKind::End => out.text("End"),
     }
 }
 
 /// Writes tokens with their offsets.
-pub fn write_tokens<O: Write>(out: &mut O, tokens: &[Token]) -> io::Result<()> {
-    write!(out, ">")?;
+pub fn write_tokens(out: &mut Answers, tokens: &[Token]) {
+    out.text(">");
     for token in tokens {
-        write!(out, " ")?;
-        write_kind(out, &token.kind)?;
-        write!(out, "@{}", token.offset)?;
+        out.text(" ");
+        write_kind(out, &token.kind);
+        out.text("@");
+        out.shown(&token.offset);
     }
-    writeln!(out)
+    out.end();
 }
 
 /// Writes a printed text, whose lines all end.
-pub fn write_printed<O: Write>(out: &mut O, printed: &[u8]) -> io::Result<()> {
+pub fn write_printed(out: &mut Answers, printed: &[u8]) {
     let mut is_begun = false;
     for byte in printed {
         if !is_begun {
-            write!(out, "> ")?;
+            out.text("> ");
         }
         is_begun = *byte != b'\n';
-        write!(out, "{}", *byte as char)?;
+        out.character(*byte);
     }
-    Ok(())
 }
 
-fn write_numbers<O: Write>(out: &mut O, numbers: &[i64]) -> io::Result<()> {
+fn write_numbers(out: &mut Answers, numbers: &[i64]) {
     for number in numbers {
-        write!(out, " {number}")?;
+        out.text(" ");
+        out.signed(*number);
     }
-    Ok(())
 }
 
-fn write_slot<O: Write>(out: &mut O, slot: &Slot) -> io::Result<()> {
+fn write_slot(out: &mut Answers, slot: &Slot) {
     match slot {
-        Slot::Filled(number) => write!(out, " {number}"),
+        Slot::Filled(number) => {
+            out.text(" ");
+            out.signed(*number);
+        }
         Slot::Awaits(kid) => {
-            write!(out, " ?{}=thread {} on", kid.hole, kid.thread)?;
-            write_numbers(out, kid.arguments.as_slice())?;
-            write!(out, ";")
+            out.text(" ?");
+            out.number(u64::from(kid.hole));
+            out.text("=thread ");
+            out.number(u64::from(kid.thread));
+            out.text(" on");
+            write_numbers(out, kid.arguments.as_slice());
+            out.text(";");
         }
     }
 }
 
 /// Writes a thread, its numbers and the end that it reached.
-pub fn write_done<O: Write>(out: &mut O, done: &Done) -> io::Result<()> {
-    write!(out, "> thread {} on", done.thread())?;
-    write_numbers(out, done.numbers())?;
-    match done.turn() {
-        Turn::Sends(number) => write!(out, " sends {number}")?,
+pub fn write_done(out: &mut Answers, done: &Done) {
+    out.text("> thread ");
+    out.number(u64::from(done.thread()));
+    out.text(" on");
+    write_numbers(out, done.numbers());
+    write_turn(out, done.turn());
+    out.end();
+}
+
+fn write_turn(out: &mut Answers, turn: &Turn) {
+    match turn {
+        Turn::Sends(number) => {
+            out.text(" sends ");
+            out.signed(*number);
+        }
         Turn::Joins(thread, slots) => {
-            write!(out, " joins thread {thread} on")?;
+            out.text(" joins thread ");
+            out.number(u64::from(*thread));
+            out.text(" on");
             for slot in slots.as_slice() {
-                write_slot(out, slot)?;
+                write_slot(out, slot);
             }
         }
     }
-    writeln!(out)
 }

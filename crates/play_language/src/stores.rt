@@ -14,12 +14,11 @@ use bearers::play_heirs;
 use frames::Frames;
 use kept::play_frames;
 use level_deques::Posts;
-use play_words::{CommandLine, Ended, Played};
+use play_words::{Answers, CommandLine, Played};
 use posts::play_posts;
 use records::play_records;
 use replies::play_replies;
 use std::alloc::Global;
-use std::io::Write;
 use steal_protocol::{Asker, Replies};
 use victim_records::Records;
 
@@ -45,20 +44,15 @@ impl Stores {
     }
 
     /// Plays a command on one of them, and writes what it answers.
-    pub fn play<O: Write>(
-        &mut self,
-        alloc: Global,
-        line: &CommandLine<'_>,
-        out: &mut O,
-    ) -> Result<Played, Ended> {
-        match line.word(0) {
-            Some("frames") => play_frames(alloc, line, &mut self.frames, out),
-            Some("posts") => play_posts(line, &mut self.posts, out),
-            Some("records") => play_records(alloc, line, &mut self.records, out),
-            Some("heirs") => play_heirs(alloc, line, out),
-            Some("asker") => play_asker(line, &mut self.asker, out),
-            Some("replies") => play_replies(alloc, line, &mut self.replies, out),
-            _ => Ok(Played::NotMine),
-        }
+    pub fn play(&mut self, alloc: Global, line: &CommandLine<'_>, out: &mut Answers) -> Played {
+        Played::of(match line.word(0).unwrap_or("") {
+            "frames" => play_frames(alloc, line, &mut self.frames, out),
+            "posts" => play_posts(line, &mut self.posts, out),
+            "records" => play_records(alloc, line, &mut self.records, out),
+            "heirs" => play_heirs(alloc, line, out),
+            "asker" => play_asker(line, &mut self.asker, out),
+            "replies" => play_replies(alloc, line, &mut self.replies, out),
+            _ => return Played::NotMine,
+        })
     }
 }

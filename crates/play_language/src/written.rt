@@ -1,9 +1,10 @@
 //! Texts as they are written in a command.
 
-use std::alloc::{AllocError, Global};
+use play_words::{Answers, word32};
+use std::alloc::Global;
 
 /// What stands before a byte of a written text.
-#[derive(Clone, Copy, PartialEq, Eq, Debug)]
+#[derive(Clone, Copy)]
 enum Before {
     Plain,
     /// A backslash.
@@ -39,56 +40,69 @@ fn behind(before: Before, byte: u8) -> Option<(Before, Option<u8>)> {
 }
 
 /// Adds the bytes of a written text without repeated pieces; whether each escape in it is one.
-fn add(bytes: &mut Vec<u8>, written: &str) -> Result<bool, AllocError> {
+fn add(bytes: &mut Vec<u8>, written: &str, out: &mut Answers) -> bool {
     let mut before = Before::Plain;
     for byte in written.as_bytes() {
         let Some((next, ended)) = behind(before, *byte) else {
-            return Ok(false);
+            return false;
         };
-        if let Some(ended) = ended {
-            bytes.push(ended)?;
+        if let Some(ended) = ended
+            && bytes.push(ended).is_err()
+        {
+            out.lacks();
         }
         before = next;
     }
-    Ok(before == Before::Plain)
+    matches!(before, Before::Plain)
 }
 
 /// Adds the bytes of a piece so many times.
-fn add_times(bytes: &mut Vec<u8>, piece: &str, times: u32) -> Result<bool, AllocError> {
+fn add_times(bytes: &mut Vec<u8>, piece: &str, times: u32, out: &mut Answers) -> bool {
     for _ in 0..times {
-        if !add(bytes, piece)? {
-            return Ok(false);
+        if !add(bytes, piece, out) {
+            return false;
         }
     }
-    Ok(true)
+    true
+}
+
+/// A repeated piece `PIECE*TIMES⟧WRITTEN`: the piece, how often it stands, and what is behind.
+fn repeated(text: &str) -> Option<(&str, u32, &str)> {
+    let (piece, behind) = text.split_once('⟧')?;
+    let (piece, times) = piece.rsplit_once('*')?;
+    Some((piece, word32(times)?, behind))
 }
 
 /// Adds the bytes of `PIECE*TIMES⟧WRITTEN`; whether it is so.
-fn add_repeated(bytes: &mut Vec<u8>, text: &str) -> Result<bool, AllocError> {
-    let Some((repeated, behind)) = text.split_once('⟧') else {
-        return Ok(false);
-    };
-    let Some((piece, times)) = repeated.rsplit_once('*') else {
-        return Ok(false);
-    };
-    match times.parse::<u32>() {
-        Ok(times) => Ok(add_times(bytes, piece, times)? && add(bytes, behind)?),
-        Err(_) => Ok(false),
+fn add_repeated(bytes: &mut Vec<u8>, text: &str, out: &mut Answers) -> bool {
+    match repeated(text) {
+        Some((piece, times, behind)) => {
+            add_times(bytes, piece, times, out) && add(bytes, behind, out)
+        }
+        None => false,
+    }
+}
+
+/// Adds the bytes of a written text; whether it is one.
+fn add_parts(bytes: &mut Vec<u8>, written: &str, out: &mut Answers) -> bool {
+    match written.split_once('⟦') {
+        None => add(bytes, written, out),
+        Some((first, others)) => {
+            let mut is_written = add(bytes, first, out);
+            for part in others.split('⟦') {
+                is_written = is_written && add_repeated(bytes, part, out);
+            }
+            is_written
+        }
     }
 }
 
 /// The bytes of a written text; none where an escape or a repeated piece in it is none.
-pub fn bytes_of(alloc: Global, written: &str) -> Result<Option<Vec<u8>>, AllocError> {
+pub fn bytes_of(alloc: Global, written: &str, out: &mut Answers) -> Option<Vec<u8>> {
     let mut bytes = Vec::new(alloc);
-    for (at, part) in written.split('⟦').enumerate() {
-        let is_added = if at == 0 {
-            add(&mut bytes, part)?
-        } else {
-            add_repeated(&mut bytes, part)?
-        };
-        if !is_added {
-            return Ok(None);
-        }
+    if add_parts(&mut bytes, written, out) {
+        Some(bytes)
+    } else {
+        None
     }
-    Ok(Some(bytes))
 }

@@ -1,21 +1,11 @@
 //! The job of the nodes that start.
 
 use kind_check::{Checked, KindError, check};
-use play_words::{CommandLine, Ended, Played};
+use play_words::{Answers, CommandLine, keep, numbers_of};
 use serial_meaning::Job;
-use std::alloc::{AllocError, Global};
-use std::io::Write;
-use task_syntax::{ParseError, parse};
-use thiserror::Error;
-
-/// Why a text is no program.
-#[derive(Clone, Copy, Debug, PartialEq, Eq, Error)]
-enum Unaccepted {
-    #[error("{0}")]
-    Text(ParseError),
-    #[error("{0}")]
-    Kinds(KindError),
-}
+use std::alloc::Global;
+use std::mem;
+use task_syntax::{ParseError, Program, parse};
 
 /// What the commands set, and the job itself once a node of it started.
 #[derive(Drop)]
@@ -26,23 +16,62 @@ pub struct Setting {
     job: Option<&'static Job>,
 }
 
-/// The program of a text.
-fn accepted(alloc: Global, text: &str) -> Result<Checked, Unaccepted> {
-    let program = match parse(alloc, text.as_bytes()) {
-        Ok(program) => program,
-        Err(refused) => return Err(Unaccepted::Text(refused)),
-    };
-    match check(alloc, program) {
-        Ok(checked) => Ok(checked),
-        Err(refused) => Err(Unaccepted::Kinds(refused)),
+/// The program of a text; none where it is refused. Behind a refusal when out of memory it is read once more.
+fn read(alloc: Global, text: &str, out: &mut Answers) -> Option<Program> {
+    for _ in 0..2 {
+        match parse(alloc, text.as_bytes()) {
+            Ok(program) => return Some(program),
+            Err(refused) => {
+                out.refusal(&refused);
+                if refused != ParseError::Memory {
+                    return None;
+                }
+            }
+        }
+    }
+    None
+}
+
+/// The accepted program of a text, likewise.
+fn accepted(alloc: Global, text: &str, out: &mut Answers) -> Option<Checked> {
+    for _ in 0..2 {
+        match check(alloc, read(alloc, text, out)?) {
+            Ok(checked) => return Some(checked),
+            Err(refused) => {
+                out.refusal(&refused);
+                if refused != KindError::Memory {
+                    return None;
+                }
+            }
+        }
+    }
+    None
+}
+
+/// A job, which stays to the end of the program.
+fn kept(alloc: Global, job: Job, out: &mut Answers) -> Option<&'static Job> {
+    match Box::new(alloc, job) {
+        Ok(kept) => Some(Box::leak(kept)),
+        Err(refused) => {
+            out.lacks();
+            keep(refused.value);
+            None
+        }
     }
 }
 
-fn is_out_of_memory(refused: Unaccepted) -> bool {
-    matches!(
-        refused,
-        Unaccepted::Text(ParseError::Memory) | Unaccepted::Kinds(KindError::Memory)
-    )
+/// The job of a program; none where its `main` takes another count of numbers.
+fn made(
+    alloc: Global,
+    checked: Checked,
+    input: Vec<i64>,
+    number: u64,
+    out: &mut Answers,
+) -> Option<&'static Job> {
+    match Job::new(checked, input, number) {
+        Ok(job) => kept(alloc, job, out),
+        Err(_) => None,
+    }
 }
 
 impl Setting {
@@ -55,73 +84,51 @@ impl Setting {
         }
     }
 
-    /// A program is set. Behind a refusal when out of memory it is read once more.
-    pub fn program<O: Write>(
-        &mut self,
-        alloc: Global,
-        line: &CommandLine<'_>,
-        out: &mut O,
-    ) -> Result<Played, Ended> {
-        let mut read = accepted(alloc, line.rest(1));
-        if let Err(refused) = read
-            && is_out_of_memory(refused)
-        {
-            writeln!(out, "> {refused}")?;
-            read = accepted(alloc, line.rest(1));
-        }
+    /// A program is set.
+    pub fn program(&mut self, alloc: Global, line: &CommandLine<'_>, out: &mut Answers) {
         self.job = None;
-        self.checked = None;
-        match read {
-            Ok(checked) => self.checked = Some(checked),
-            Err(refused) => writeln!(out, "> {refused}")?,
-        }
-        Ok(Played::Answered)
+        let checked = accepted(alloc, line.rest(1), out);
+        keep(mem::replace(&mut self.checked, checked));
     }
 
     /// The numbers of the input are set, behind the program.
-    pub fn input(&mut self, alloc: Global, line: &CommandLine<'_>) -> Result<Played, Ended> {
+    pub fn input(
+        &mut self,
+        alloc: Global,
+        line: &CommandLine<'_>,
+        out: &mut Answers,
+    ) -> Option<()> {
         if self.job.is_some() {
-            return Ok(Played::Malformed);
+            return None;
         }
-        let mut input = Vec::new(alloc);
-        for word in line.rest(1).split(' ') {
-            match word.parse::<i64>() {
-                Ok(number) => input.push(number)?,
-                Err(_) => return Ok(Played::Malformed),
-            }
-        }
-        self.input = input;
-        Ok(Played::Answered)
+        self.input = numbers_of(alloc, line.rest(1), false, out)?;
+        Some(())
     }
 
     /// The number of the job is set, behind the program.
-    pub fn number(&mut self, line: &CommandLine<'_>) -> Played {
-        match line.number(1) {
-            Some(number) if self.job.is_none() => {
-                self.number = number;
-                Played::Answered
-            }
-            _ => Played::Malformed,
+    pub fn number(&mut self, line: &CommandLine<'_>) -> Option<()> {
+        let number = line.number(1)?;
+        if self.job.is_some() {
+            return None;
         }
+        self.number = number;
+        Some(())
     }
 
-    /// The job of a node that starts, which stays to the end of the program; none where no program is set, or its `main` takes
-    /// another count of numbers.
-    pub fn job(&mut self, alloc: Global) -> Result<Option<&'static Job>, AllocError> {
-        if let Some(job) = self.job {
-            return Ok(Some(job));
+    /// The job of a node that starts; none where no program is set, or its `main` takes another count of numbers.
+    pub fn job(&mut self, alloc: Global, out: &mut Answers) -> Option<&'static Job> {
+        if self.job.is_none() {
+            self.job = self.begun(alloc, out);
         }
-        let Some(checked) = self.checked.take() else {
-            return Ok(None);
-        };
-        let input = Vec::from_slice(alloc, &self.input)?;
-        match Job::new(checked, input, self.number) {
-            Ok(job) => {
-                let kept: &'static Job = Box::leak(Box::new(alloc, job)?);
-                self.job = Some(kept);
-                Ok(Some(kept))
-            }
-            Err(_) => Ok(None),
+        self.job
+    }
+
+    /// The job of what is set.
+    fn begun(&mut self, alloc: Global, out: &mut Answers) -> Option<&'static Job> {
+        let input = out.made(Vec::from_slice(alloc, &self.input))?;
+        match self.checked.take() {
+            Some(checked) => made(alloc, checked, input, self.number, out),
+            None => None,
         }
     }
 }

@@ -9,9 +9,9 @@
 //!   turn), `exec W GRANT FRAME thread=T on=NUMBERS` (that frame, by the turn of a thread on numbers), `exec W GRANT FRAME given
 //!   thread=T on=NUMBERS` (by that turn if it is the frame's own, else by its own), `depart W HEIR` and `resend W` are calls of
 //!   worker W's node.
-//! - `give W PACKET` carries a packet to worker W. PACKET is `#N`, the Nth of all that were sent; `KIND`, `KIND from V`,
-//!   `first KIND` or `first KIND from V`, the last or the first packet of a kind to W (of worker V); a packet in words, which
-//!   comes of nobody; or `bytes HEX`. A packet that was sent may be followed by `with AT HEX`: the byte at AT, from 0, is another.
+//! - `give W PACKET` carries a packet to worker W. PACKET is `#N`, the Nth of all that were sent; `KIND from V`, the last packet
+//!   of a kind from worker V to W; a packet in words, which comes of nobody; or `bytes HEX`. A packet that was sent may be followed by
+//!   `with AT HEX`: the byte at AT, from 0, is another.
 //! - `make WORDS` makes a packet by hand and gives it the next number, as if it was sent.
 //! - `same #N #M` tells whether two packets have the same bytes, and `hex #N` what these are.
 //! - `ready W` shows its ready frames, in the order in which its workers take them, or `nothing ready`, and `subs W` what it
@@ -28,6 +28,8 @@ mod job;
 mod named;
 mod nodes;
 mod player;
+mod post;
 mod shown;
+mod views;
 
 pub use nodes::Nodes;

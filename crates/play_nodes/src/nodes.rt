@@ -1,17 +1,16 @@
 //! The nodes of a transcript.
 
 use crate::job::Setting;
-use crate::named::{ask, depart, exec};
-use crate::player::{Answer, Call, Player};
-use crate::shown::{write_fill, write_sub, write_work};
-use codec::{Datagram, EncodeError, Packet, ReadError, decode};
+use crate::named::{frame_name, frame_of, turn_words};
+use crate::player::{Answer, Call, FrameName, Player};
+use crate::post::{in_words, make, sent_before, write_hex, write_same, write_step};
+use crate::views::{write_ready, write_subs};
 use ids::Incarnation;
-use node_core::Step;
-use play_packets::{Mail, Unread, packet_number, read_packet, wanted_in, write_packet};
-use play_words::{CommandLine, Ended, Played, bytes_of_hex, write_hex};
+use node_core::{NodeError, Step};
+use play_packets::{Mail, numbers};
+use play_words::{Answers, CommandLine, Played, bytes_of_hex, keep, word64};
 use serial_meaning::Job;
-use std::alloc::{AllocError, Global};
-use std::io::Write;
+use std::alloc::Global;
 
 /// The nodes that are up, all packets that were sent, and whether those that a call sends are left out.
 #[derive(Drop)]
@@ -38,120 +37,29 @@ fn player_of(players: &mut Vec<Player>, word: u64) -> Option<&mut Player> {
 }
 
 /// A worker starts; once more behind a refusal, which is when out of memory.
-fn started<O: Write>(
+fn started(
     alloc: Global,
     job: &'static Job,
     worker: Incarnation,
-    out: &mut O,
-) -> Result<Option<(Player, Step)>, Ended> {
+    out: &mut Answers,
+) -> Option<(Player, Step)> {
     for _ in 0..2 {
         match Player::starts(alloc, job, worker) {
-            Ok(begun) => return Ok(Some(begun)),
-            Err(refused) => writeln!(out, "> E{}", refused.number())?,
+            Ok(begun) => return Some(begun),
+            Err(refused) => out.refusal_number(refused.number()),
         }
     }
-    Ok(None)
+    None
 }
 
-/// A packet's bytes; once more behind a refusal when out of memory. None where it is too big.
-fn spelled<O: Write>(
-    alloc: Global,
-    packet: &Packet,
-    out: &mut O,
-) -> Result<Option<Datagram>, Ended> {
-    for _ in 0..2 {
-        match Datagram::of(alloc, packet) {
-            Ok(datagram) => return Ok(Some(datagram)),
-            Err(refused) => {
-                writeln!(out, "> E{}", refused.number())?;
-                if refused == EncodeError::TooBig {
-                    return Ok(None);
-                }
-            }
+/// What a call comes to; once more behind a refusal when out of memory.
+fn answered(alloc: Global, player: &mut Player, call: &Call<'_>, out: &mut Answers) -> Answer {
+    match player.calls(alloc, call) {
+        Answer::Refused(NodeError::Memory) => {
+            out.line("E63");
+            player.calls(alloc, call)
         }
-    }
-    Ok(None)
-}
-
-/// The work behind so many others; once more behind a refusal, which is when out of memory. Whether there is any.
-fn write_ready<O: Write>(
-    alloc: Global,
-    player: &Player,
-    index: usize,
-    out: &mut O,
-) -> Result<bool, Ended> {
-    for _ in 0..2 {
-        match player.ready_at(alloc, index) {
-            Ok(Some(work)) => {
-                write_work(out, &work)?;
-                return Ok(true);
-            }
-            Ok(None) => return Ok(false),
-            Err(refused) => writeln!(out, "> E{}", refused.number())?,
-        }
-    }
-    Ok(false)
-}
-
-/// What a node holds; once more behind a refusal, which is when out of memory.
-fn write_subs<O: Write>(alloc: Global, player: &Player, out: &mut O) -> Result<(), Ended> {
-    for _ in 0..2 {
-        match player.subs(alloc) {
-            Ok(subs) => {
-                if subs.is_empty() {
-                    writeln!(out, "> nothing held")?;
-                }
-                for view in subs.iter() {
-                    write_sub(out, view)?;
-                }
-                return Ok(());
-            }
-            Err(refused) => writeln!(out, "> E{}", refused.number())?,
-        }
-    }
-    Ok(())
-}
-
-/// Copies of bytes, of which the one at an index may be another.
-fn changed(
-    alloc: Global,
-    bytes: &[u8],
-    other: Option<(usize, u8)>,
-) -> Result<Option<Vec<u8>>, AllocError> {
-    let mut copy = Vec::from_slice(alloc, bytes)?;
-    if let Some((at, byte)) = other {
-        match copy.get_mut(at) {
-            Some(place) => *place = byte,
-            None => return Ok(None),
-        }
-    }
-    Ok(Some(copy))
-}
-
-/// The other byte that the words `with AT HEX` from an index on name; none inside where the words end there.
-fn other_byte(
-    alloc: Global,
-    line: &CommandLine<'_>,
-    index: usize,
-) -> Result<Option<Option<(usize, u8)>>, AllocError> {
-    match line.word(index) {
-        None => Ok(Some(None)),
-        Some("with") => {
-            let (Some(at), Some(hex)) = (
-                line.number(index.saturating_add(1)),
-                line.word(index.saturating_add(2)),
-            ) else {
-                return Ok(None);
-            };
-            let Some(bytes) = bytes_of_hex(alloc, hex)? else {
-                return Ok(None);
-            };
-            match (usize::try_from(at), bytes.as_slice()) {
-                (Ok(at), [byte]) => Ok(Some(Some((at, *byte)))),
-                _ => Ok(None),
-            }
-        }
-        Some(_) => Ok(None),
+        answer => answer,
     }
 }
 
@@ -166,318 +74,193 @@ impl Nodes {
     }
 
     /// Plays a command on nodes, and writes what it answers.
-    pub fn play<O: Write>(
-        &mut self,
-        alloc: Global,
-        line: &CommandLine<'_>,
-        out: &mut O,
-    ) -> Result<Played, Ended> {
-        let Some(name) = line.word(0) else {
-            return Ok(Played::NotMine);
-        };
-        match name {
-            "program" => self.setting.program(alloc, line, out),
-            "input" => self.setting.input(alloc, line),
-            "job" => Ok(self.setting.number(line)),
-            "make" => self.make(alloc, line, out),
-            "same" => self.same(line, out),
-            "hex" => self.hex(line, out),
+    pub fn play(&mut self, alloc: Global, line: &CommandLine<'_>, out: &mut Answers) -> Played {
+        let name = line.word(0).unwrap_or("");
+        let done = match name {
+            "program" => {
+                self.setting.program(alloc, line, out);
+                Some(())
+            }
+            "input" => self.setting.input(alloc, line, out),
+            "job" => self.setting.number(line),
+            "make" => make(alloc, &mut self.mail, line, out),
+            "same" => write_same(&self.mail, line, 1, out),
+            "hex" => write_hex(&self.mail, line, 1, out),
             "brief" | "full" => {
                 self.is_brief = name == "brief";
-                Ok(Played::Answered)
+                Some(())
             }
-            _ => self.play_at(alloc, name, line, out),
-        }
+            _ => {
+                return match line.number(1) {
+                    Some(word) => self.play_at(alloc, name, word, line, out),
+                    None => Played::NotMine,
+                };
+            }
+        };
+        Played::of(done)
     }
 
     /// Plays a command whose first word behind its name is a worker's.
-    fn play_at<O: Write>(
+    fn play_at(
         &mut self,
         alloc: Global,
         name: &str,
+        word: u64,
         line: &CommandLine<'_>,
-        out: &mut O,
-    ) -> Result<Played, Ended> {
-        let Some(word) = line.number(1) else {
-            return Ok(Played::NotMine);
-        };
-        match name {
+        out: &mut Answers,
+    ) -> Played {
+        Played::of(match name {
             "start" => self.start(alloc, word, out),
-            "crash" => Ok(self.crash(word)),
+            "crash" => self.crash(word),
             "give" => self.give(alloc, word, line, out),
-            "ask" => self.call(alloc, word, ask(line), out),
-            "run" => self.call(alloc, word, Some(Call::Run), out),
+            "ask" => self.ask(alloc, word, line, out),
+            "run" => self.calls(alloc, word, &Call::Run, out),
             "exec" => self.exec(alloc, word, line, out),
-            "depart" => self.call(alloc, word, depart(line), out),
-            "resend" => self.call(alloc, word, Some(Call::Resend), out),
+            "depart" => self.depart(alloc, word, line, out),
+            "resend" => self.calls(alloc, word, &Call::Resend, out),
             "ready" => self.ready(alloc, word, out),
             "subs" => self.subs(alloc, word, out),
-            _ => Ok(Played::NotMine),
-        }
+            _ => return Played::NotMine,
+        })
     }
 
-    /// Writes a packet in words behind its number.
-    fn send<O: Write>(
-        &mut self,
-        alloc: Global,
-        from: u64,
-        datagram: Datagram,
-        out: &mut O,
-    ) -> Result<(), Ended> {
-        let packet = match decode(alloc, datagram.as_bytes()) {
-            Ok(packet) => packet,
-            Err(ReadError::Memory) => return Err(Ended::Memory),
-            Err(ReadError::Fault(fault)) => {
-                writeln!(out, "> E{}", fault.number())?;
-                return Ok(());
-            }
-        };
-        let number = self.mail.send(Some(from), &packet, datagram)?;
-        write!(out, "> #{number} ")?;
-        write_packet(out, &packet)?;
-        writeln!(out)?;
-        Ok(())
-    }
-
-    /// Writes what a step of a worker did.
-    fn step<O: Write>(
-        &mut self,
-        alloc: Global,
-        from: u64,
-        step: Step,
-        out: &mut O,
-    ) -> Result<(), Ended> {
-        let Step {
-            sent,
-            fills,
-            ignored,
-        } = step;
-        if self.is_brief && !ignored {
-            return Ok(());
-        }
-        let is_quiet = !ignored && sent.is_empty() && fills.is_empty();
-        for datagram in sent.into_vec() {
-            self.send(alloc, from, datagram, out)?;
-        }
-        for fill in fills.as_slice() {
-            write_fill(out, fill)?;
-        }
-        if ignored {
-            writeln!(out, "> ignored")?;
-        } else if is_quiet {
-            writeln!(out, "> nothing")?;
-        }
-        Ok(())
-    }
-
-    fn start<O: Write>(&mut self, alloc: Global, word: u64, out: &mut O) -> Result<Played, Ended> {
-        let Some(worker) = Incarnation::worker(word) else {
-            return Ok(Played::Malformed);
-        };
+    fn start(&mut self, alloc: Global, word: u64, out: &mut Answers) -> Option<()> {
+        let worker = Incarnation::worker(word)?;
         if place_of(&self.players, word).is_some() {
-            return Ok(Played::Malformed);
+            return None;
         }
-        let Some(job) = self.setting.job(alloc)? else {
-            return Ok(Played::Malformed);
-        };
-        if let Some((player, step)) = started(alloc, job, worker, out)? {
-            self.players.push(player)?;
-            self.step(alloc, word, step, out)?;
+        let job = self.setting.job(alloc, out)?;
+        if let Some((player, step)) = started(alloc, job, worker, out) {
+            self.adds(player, out);
+            write_step(alloc, &mut self.mail, self.is_brief, word, step, out);
         }
-        Ok(Played::Answered)
+        Some(())
     }
 
-    fn crash(&mut self, word: u64) -> Played {
-        match place_of(&self.players, word) {
-            Some(at) if at < self.players.len() => {
-                let _crashed = self.players.remove(at);
-                Played::Answered
+    fn adds(&mut self, player: Player, out: &mut Answers) {
+        if let Err(refused) = self.players.push(player) {
+            out.lacks();
+            keep(refused.value);
+        }
+    }
+
+    fn crash(&mut self, word: u64) -> Option<()> {
+        let at = place_of(&self.players, word)?;
+        if at < self.players.len() {
+            keep(self.players.remove(at));
+        }
+        Some(())
+    }
+
+    fn ask(
+        &mut self,
+        alloc: Global,
+        word: u64,
+        line: &CommandLine<'_>,
+        out: &mut Answers,
+    ) -> Option<()> {
+        let victim = line.word(2)?;
+        if victim == "house" {
+            return self.calls(alloc, word, &Call::AskHouse, out);
+        }
+        let call = Call::Ask(word64(victim)?);
+        self.calls(alloc, word, &call, out)
+    }
+
+    fn depart(
+        &mut self,
+        alloc: Global,
+        word: u64,
+        line: &CommandLine<'_>,
+        out: &mut Answers,
+    ) -> Option<()> {
+        let call = Call::Depart(line.number(2)?);
+        self.calls(alloc, word, &call, out)
+    }
+
+    fn exec(
+        &mut self,
+        alloc: Global,
+        word: u64,
+        line: &CommandLine<'_>,
+        out: &mut Answers,
+    ) -> Option<()> {
+        let name = frame_name(line)?;
+        if line.word(4).is_none() {
+            return self.calls(alloc, word, &Call::Exec(name), out);
+        }
+        self.exec_turn(alloc, word, name, line, out)
+    }
+
+    /// A frame runs by the turn that the words name.
+    fn exec_turn(
+        &mut self,
+        alloc: Global,
+        word: u64,
+        name: FrameName,
+        line: &CommandLine<'_>,
+        out: &mut Answers,
+    ) -> Option<()> {
+        let is_given = line.word(4) == Some("given");
+        let (thread, on) = turn_words(line, if is_given { 5 } else { 4 })?;
+        let numbers = numbers(alloc, on, out)?;
+        if is_given {
+            let call = Call::ExecGiven(name, thread, numbers.as_slice());
+            return self.calls(alloc, word, &call, out);
+        }
+        let call = Call::ExecBy(frame_of(line)?, thread, numbers.as_slice());
+        self.calls(alloc, word, &call, out)
+    }
+
+    /// What a call of a worker's node comes to.
+    fn calls(
+        &mut self,
+        alloc: Global,
+        word: u64,
+        call: &Call<'_>,
+        out: &mut Answers,
+    ) -> Option<()> {
+        let player = player_of(&mut self.players, word)?;
+        match answered(alloc, player, call, out) {
+            Answer::Does(step) => {
+                write_step(alloc, &mut self.mail, self.is_brief, word, step, out);
             }
-            _ => Played::Malformed,
+            Answer::Refused(refused) => out.refusal_number(refused.number()),
+            Answer::Idle => out.line("nothing ready"),
+            Answer::NoTurn => return None,
         }
+        Some(())
     }
 
-    /// A call of a worker's node, where the words name one; once more behind a refusal when out of memory.
-    fn call<O: Write>(
-        &mut self,
-        alloc: Global,
-        word: u64,
-        call: Option<Call<'_>>,
-        out: &mut O,
-    ) -> Result<Played, Ended> {
-        let (Some(call), Some(player)) = (call, player_of(&mut self.players, word)) else {
-            return Ok(Played::Malformed);
-        };
-        let mut answer = player.calls(alloc, &call);
-        if answer.is_out_of_memory() {
-            writeln!(out, "> E63")?;
-            answer = player.calls(alloc, &call);
-        }
-        match answer {
-            Answer::Does(step) => self.step(alloc, word, step, out)?,
-            Answer::Refused(refused) => writeln!(out, "> E{}", refused.number())?,
-            Answer::Idle => writeln!(out, "> nothing ready")?,
-            Answer::NoTurn => return Ok(Played::Malformed),
-        }
-        Ok(Played::Answered)
-    }
-
-    fn exec<O: Write>(
+    /// Carries a packet to a worker: bytes, a packet in words, or one that was sent.
+    fn give(
         &mut self,
         alloc: Global,
         word: u64,
         line: &CommandLine<'_>,
-        out: &mut O,
-    ) -> Result<Played, Ended> {
-        match exec(alloc, line) {
-            Ok(call) => self.call(alloc, word, Some(call), out),
-            Err(Unread::Malformed) => Ok(Played::Malformed),
-            Err(Unread::Memory) => Err(Ended::Memory),
+        out: &mut Answers,
+    ) -> Option<()> {
+        if line.word(2)? == "bytes" {
+            let bytes = bytes_of_hex(alloc, line.rest(3), out)?;
+            return self.calls(alloc, word, &Call::Hear(&bytes), out);
         }
-    }
-
-    /// The bytes that the words of a command `give W` name.
-    fn bytes_given<O: Write>(
-        &mut self,
-        alloc: Global,
-        to: u64,
-        line: &CommandLine<'_>,
-        out: &mut O,
-    ) -> Result<Option<Vec<u8>>, Ended> {
-        let Some(first) = line.word(2) else {
-            return Ok(None);
-        };
-        if first == "bytes" {
-            return Ok(bytes_of_hex(alloc, line.rest(3))?);
+        if line.word(3).unwrap_or("").contains('=') {
+            let datagram = in_words(alloc, line, 2, out)?;
+            return self.calls(alloc, word, &Call::Hear(datagram.as_bytes()), out);
         }
-        let is_in_words = match line.word(3) {
-            Some(word) => word.contains('='),
-            None => false,
-        };
-        if is_in_words {
-            return self.bytes_made(alloc, line, out);
-        }
-        self.bytes_sent(alloc, to, line)
+        let bytes = sent_before(alloc, &self.mail, word, line, out)?;
+        self.calls(alloc, word, &Call::Hear(&bytes), out)
     }
 
-    /// The bytes of a packet in words.
-    fn bytes_made<O: Write>(
-        &mut self,
-        alloc: Global,
-        line: &CommandLine<'_>,
-        out: &mut O,
-    ) -> Result<Option<Vec<u8>>, Ended> {
-        let Some(packet) = read_packet(alloc, line, 2)? else {
-            return Ok(None);
-        };
-        match spelled(alloc, &packet, out)? {
-            Some(datagram) => Ok(Some(Vec::from_slice(alloc, datagram.as_bytes())?)),
-            None => Ok(None),
-        }
+    fn ready(&self, alloc: Global, word: u64, out: &mut Answers) -> Option<()> {
+        let at = place_of(&self.players, word)?;
+        write_ready(alloc, self.players.get(at)?, out);
+        Some(())
     }
 
-    /// The bytes of a packet that was sent.
-    fn bytes_sent(
-        &self,
-        alloc: Global,
-        to: u64,
-        line: &CommandLine<'_>,
-    ) -> Result<Option<Vec<u8>>, Ended> {
-        let (found, behind) = match line.word(2).and_then(packet_number) {
-            Some(number) => (self.mail.at(number), 3),
-            None => match wanted_in(line, 2, to) {
-                Some((wanted, behind)) => (self.mail.find(wanted), behind),
-                None => return Ok(None),
-            },
-        };
-        let (Some(bytes), Some(other)) = (found, other_byte(alloc, line, behind)?) else {
-            return Ok(None);
-        };
-        Ok(changed(alloc, bytes, other)?)
-    }
-
-    fn give<O: Write>(
-        &mut self,
-        alloc: Global,
-        word: u64,
-        line: &CommandLine<'_>,
-        out: &mut O,
-    ) -> Result<Played, Ended> {
-        match self.bytes_given(alloc, word, line, out)? {
-            Some(bytes) => self.call(alloc, word, Some(Call::Hear(&bytes)), out),
-            None => Ok(Played::Malformed),
-        }
-    }
-
-    fn make<O: Write>(
-        &mut self,
-        alloc: Global,
-        line: &CommandLine<'_>,
-        out: &mut O,
-    ) -> Result<Played, Ended> {
-        let Some(packet) = read_packet(alloc, line, 1)? else {
-            return Ok(Played::Malformed);
-        };
-        if let Some(datagram) = spelled(alloc, &packet, out)? {
-            let number = self.mail.send(None, &packet, datagram)?;
-            writeln!(out, "> #{number}")?;
-        }
-        Ok(Played::Answered)
-    }
-
-    /// The bytes of the packet whose number the word at an index is.
-    fn numbered(&self, line: &CommandLine<'_>, index: usize) -> Option<&[u8]> {
-        self.mail.at(packet_number(line.word(index)?)?)
-    }
-
-    fn same<O: Write>(&self, line: &CommandLine<'_>, out: &mut O) -> Result<Played, Ended> {
-        let (Some(one), Some(other)) = (self.numbered(line, 1), self.numbered(line, 2)) else {
-            return Ok(Played::Malformed);
-        };
-        if one == other {
-            writeln!(out, "> same bytes")?;
-        } else {
-            writeln!(out, "> other bytes")?;
-        }
-        Ok(Played::Answered)
-    }
-
-    fn hex<O: Write>(&self, line: &CommandLine<'_>, out: &mut O) -> Result<Played, Ended> {
-        let Some(bytes) = self.numbered(line, 1) else {
-            return Ok(Played::Malformed);
-        };
-        write!(out, "> ")?;
-        write_hex(out, bytes)?;
-        writeln!(out)?;
-        Ok(Played::Answered)
-    }
-
-    fn ready<O: Write>(&self, alloc: Global, word: u64, out: &mut O) -> Result<Played, Ended> {
-        let Some(at) = place_of(&self.players, word) else {
-            return Ok(Played::Malformed);
-        };
-        let Some(player) = self.players.get(at) else {
-            return Ok(Played::Malformed);
-        };
-        for index in 0..usize::MAX {
-            if !write_ready(alloc, player, index, out)? {
-                if index == 0 {
-                    writeln!(out, "> nothing ready")?;
-                }
-                break;
-            }
-        }
-        Ok(Played::Answered)
-    }
-
-    fn subs<O: Write>(&self, alloc: Global, word: u64, out: &mut O) -> Result<Played, Ended> {
-        let Some(at) = place_of(&self.players, word) else {
-            return Ok(Played::Malformed);
-        };
-        let Some(player) = self.players.get(at) else {
-            return Ok(Played::Malformed);
-        };
-        write_subs(alloc, player, out)?;
-        Ok(Played::Answered)
+    fn subs(&self, alloc: Global, word: u64, out: &mut Answers) -> Option<()> {
+        let at = place_of(&self.players, word)?;
+        write_subs(alloc, self.players.get(at)?, out);
+        Some(())
     }
 }

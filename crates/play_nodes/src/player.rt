@@ -4,11 +4,12 @@ ghost use Rattle.std.specs.Prelude.{◌≡◌, IfOk, IfSome};
 use body_eval::Done;
 use ids::{FrameNo, GrantId, Incarnation};
 use node_core::{Node, NodeError, Step, SubView, Victim, Work};
+use play_words::keep;
 use serial_meaning::Job;
 use std::alloc::{AllocError, Global};
 
 /// A frame, by the numbers of its grant and its own, which may name none.
-#[derive(Clone, Copy, PartialEq, Eq, Debug)]
+#[derive(Clone, Copy)]
 pub struct FrameName {
     pub minter: u64,
     pub number: u64,
@@ -16,21 +17,14 @@ pub struct FrameName {
 }
 
 /// The grant and the number of a frame.
-#[derive(Clone, Copy, PartialEq, Eq, Debug)]
+#[derive(Clone, Copy)]
 pub struct FrameOf {
     pub grant: GrantId,
     pub frame: FrameNo,
 }
 
-/// A thread on numbers, whose turn is evaluated.
-#[derive(Drop)]
-pub struct Turn {
-    pub thread: u8,
-    pub numbers: Vec<i64>,
-}
-
 /// What a node is called for.
-#[derive(Drop)]
+#[derive(Clone, Copy)]
 pub enum Call<'a> {
     /// Bytes come to it.
     Hear(&'a [u8]),
@@ -42,10 +36,10 @@ pub enum Call<'a> {
     Run,
     /// A frame runs by its own turn.
     Exec(FrameName),
-    /// A frame runs by a turn, its own or not.
-    ExecBy(FrameOf, Turn),
-    /// A frame runs by a turn if that is its own, else by its own.
-    ExecGiven(FrameName, Turn),
+    /// A frame runs by the turn of a thread on numbers, its own or not.
+    ExecBy(FrameOf, u8, &'a [i64]),
+    /// A frame runs by such a turn if that is its own, else by its own.
+    ExecGiven(FrameName, u8, &'a [i64]),
     /// It leaves to an heir, by its start word, which may be none.
     Depart(u64),
     /// It sends again what isn't answered.
@@ -76,13 +70,6 @@ fn answer_of(answered: Result<Step, NodeError>) -> Answer {
     match answered {
         Ok(step) => Answer::Does(step),
         Err(refused) => Answer::Refused(refused),
-    }
-}
-
-impl Answer {
-    /// Whether there was no memory.
-    pub fn is_out_of_memory(&self) -> bool {
-        matches!(self, Answer::Refused(NodeError::Memory))
     }
 }
 
@@ -143,17 +130,22 @@ fn departs(alloc: Global, node: &mut Node<'_>, heir: u64) -> Result<Step, NodeEr
 }
 
 /// A turn of a job's program; none where it has no such thread, or that takes another count of numbers.
-fn evaluated(alloc: Global, job: &Job, turn: &Turn) -> Result<Option<Done>, AllocError>
+fn evaluated(
+    alloc: Global,
+    job: &Job,
+    thread: u8,
+    numbers: &[i64],
+) -> Result<Option<Done>, AllocError>
     ensures { IfOk result (λ o. IfSome o (λ d. d.program ≡ job.now.program)) }
 {
     let checked = job.checked();
-    if usize::from(turn.thread) >= checked.threads()
-        || checked.program().thread(turn.thread).numbers.len() != turn.numbers.len()
+    if usize::from(thread) >= checked.threads()
+        || checked.program().thread(thread).numbers.len() != numbers.len()
     {
         return Ok(None);
     }
-    let numbers = Vec::from_slice(alloc, &turn.numbers)?;
-    Ok(Some(Done::of(alloc, checked, turn.thread, numbers)?))
+    let numbers = Vec::from_slice(alloc, numbers)?;
+    Ok(Some(Done::of(alloc, checked, thread, numbers)?))
 }
 
 impl Player {
@@ -190,22 +182,37 @@ impl Player {
             number: work.grant.number(),
             frame: u64::from(work.frame.number()),
         };
+        keep(work);
         answer_of(runs(alloc, &mut self.node, name))
     }
 
     /// A frame runs by a turn.
-    fn runs_by(&mut self, alloc: Global, at: FrameOf, turn: &Turn) -> Answer {
-        match evaluated(alloc, self.job, turn) {
-            Ok(Some(done)) => answer_of(runs_by(alloc, &mut self.node, at, &done)),
+    fn runs_by(&mut self, alloc: Global, at: FrameOf, thread: u8, numbers: &[i64]) -> Answer {
+        match evaluated(alloc, self.job, thread, numbers) {
+            Ok(Some(done)) => {
+                let answer = answer_of(runs_by(alloc, &mut self.node, at, &done));
+                keep(done);
+                answer
+            }
             Ok(None) => Answer::NoTurn,
             Err(_) => Answer::Refused(NodeError::Memory),
         }
     }
 
     /// A frame runs by a turn if that is its own.
-    fn runs_given(&mut self, alloc: Global, name: FrameName, turn: &Turn) -> Answer {
-        match evaluated(alloc, self.job, turn) {
-            Ok(Some(done)) => answer_of(runs_given(alloc, &mut self.node, name, &done)),
+    fn runs_given(
+        &mut self,
+        alloc: Global,
+        name: FrameName,
+        thread: u8,
+        numbers: &[i64],
+    ) -> Answer {
+        match evaluated(alloc, self.job, thread, numbers) {
+            Ok(Some(done)) => {
+                let answer = answer_of(runs_given(alloc, &mut self.node, name, &done));
+                keep(done);
+                answer
+            }
             Ok(None) => Answer::NoTurn,
             Err(_) => Answer::Refused(NodeError::Memory),
         }
@@ -219,8 +226,8 @@ impl Player {
             Call::Ask(word) => answer_of(asks(alloc, &mut self.node, *word)),
             Call::Run => self.runs_first(alloc),
             Call::Exec(name) => answer_of(runs(alloc, &mut self.node, *name)),
-            Call::ExecBy(at, turn) => self.runs_by(alloc, *at, turn),
-            Call::ExecGiven(name, turn) => self.runs_given(alloc, *name, turn),
+            Call::ExecBy(at, thread, on) => self.runs_by(alloc, *at, *thread, on),
+            Call::ExecGiven(name, thread, on) => self.runs_given(alloc, *name, *thread, on),
             Call::Depart(heir) => answer_of(departs(alloc, &mut self.node, *heir)),
             Call::Resend => answer_of(self.node.resend(alloc)),
         }

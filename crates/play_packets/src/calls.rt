@@ -2,29 +2,30 @@
 ghost use Rattle.std.specs.Prelude.{◌≡◌};
 ghost use Rattle.codec.specs.Table.{is_short as is_short_body};
 
+use crate::words::let_go;
 use codec::{Body, Datagram, EncodeError, Packet, ReadError, decode, encode, encode_short};
-use play_words::Ended;
+use play_words::Answers;
 use std::alloc::{AllocError, Global};
-use std::io::Write;
 
 /// The packet of bytes; none where they have a fault, which is written.
-pub fn read<O: Write>(alloc: Global, bytes: &[u8], out: &mut O) -> Result<Option<Packet>, Ended> {
+pub fn read(alloc: Global, bytes: &[u8], out: &mut Answers) -> Option<Packet> {
     for _ in 0..2 {
         match decode(alloc, bytes) {
-            Ok(packet) => return Ok(Some(packet)),
+            Ok(packet) => return Some(packet),
             Err(refused) => {
-                writeln!(out, "> {refused}")?;
+                out.refusal(&refused);
                 if refused != ReadError::Memory {
-                    return Ok(None);
+                    return None;
                 }
             }
         }
     }
-    Err(Ended::Memory)
+    out.lacks();
+    None
 }
 
 /// A way to write a packet: two for all, and two for those that are no Offer.
-#[derive(Clone, Copy, PartialEq, Eq, Debug)]
+#[derive(Clone, Copy)]
 enum Way {
     Bytes,
     Datagram,
@@ -40,97 +41,128 @@ fn is_short(packet: &Packet) -> bool
 }
 
 /// The bytes of a packet that is no Offer; none of an Offer.
-fn short_bytes(alloc: Global, packet: &Packet) -> Result<Option<Vec<u8>>, AllocError> {
-    if !is_short(packet) {
-        return Ok(None);
+fn short_bytes(alloc: Global, packet: &Packet) -> Option<Result<Vec<u8>, AllocError>> {
+    if is_short(packet) {
+        Some(encode_short(alloc, packet))
+    } else {
+        None
     }
-    Ok(Some(encode_short(alloc, packet)?))
 }
 
 /// The same in a datagram.
-fn short_datagram(alloc: Global, packet: &Packet) -> Result<Option<Vec<u8>>, AllocError> {
-    if !is_short(packet) {
-        return Ok(None);
+fn short_datagram(alloc: Global, packet: &Packet) -> Option<Result<Datagram, AllocError>> {
+    if is_short(packet) {
+        Some(Datagram::short(alloc, packet))
+    } else {
+        None
     }
-    let datagram = Datagram::short(alloc, packet)?;
-    Ok(Some(Vec::from_slice(alloc, datagram.as_bytes())?))
+}
+
+/// A copy of a datagram's bytes.
+fn copied(alloc: Global, datagram: &Datagram) -> Result<Vec<u8>, EncodeError> {
+    match Vec::from_slice(alloc, datagram.as_bytes()) {
+        Ok(bytes) => Ok(bytes),
+        Err(_) => Err(EncodeError::Memory),
+    }
 }
 
 /// A packet's bytes in a way; none where the way doesn't suit it.
-fn in_way(alloc: Global, packet: &Packet, way: Way) -> Result<Option<Vec<u8>>, EncodeError> {
+fn in_way(alloc: Global, packet: &Packet, way: Way) -> Option<Result<Vec<u8>, EncodeError>> {
     match way {
-        Way::Bytes => Ok(Some(encode(alloc, packet)?)),
-        Way::Datagram => {
-            let datagram = Datagram::of(alloc, packet)?;
-            Ok(Some(Vec::from_slice(alloc, datagram.as_bytes())?))
-        }
-        Way::ShortBytes => Ok(short_bytes(alloc, packet)?),
-        Way::ShortDatagram => Ok(short_datagram(alloc, packet)?),
+        Way::Bytes => Some(encode(alloc, packet)),
+        Way::Datagram => match Datagram::of(alloc, packet) {
+            Ok(datagram) => Some(copied(alloc, &datagram)),
+            Err(refused) => Some(Err(refused)),
+        },
+        Way::ShortBytes => match short_bytes(alloc, packet)? {
+            Ok(bytes) => Some(Ok(bytes)),
+            Err(_) => Some(Err(EncodeError::Memory)),
+        },
+        Way::ShortDatagram => match short_datagram(alloc, packet)? {
+            Ok(datagram) => Some(copied(alloc, &datagram)),
+            Err(_) => Some(Err(EncodeError::Memory)),
+        },
     }
 }
 
 /// A packet's bytes in a way; none where they are too many, which is written, or the way doesn't suit it.
-fn by<O: Write>(
-    alloc: Global,
-    packet: &Packet,
-    way: Way,
-    out: &mut O,
-) -> Result<Option<Vec<u8>>, Ended> {
+fn by(alloc: Global, packet: &Packet, way: Way, out: &mut Answers) -> Option<Vec<u8>> {
     for _ in 0..2 {
-        match in_way(alloc, packet, way) {
-            Ok(bytes) => return Ok(bytes),
+        match in_way(alloc, packet, way)? {
+            Ok(bytes) => return Some(bytes),
             Err(refused) => {
-                writeln!(out, "> {refused}")?;
+                out.refusal(&refused);
                 if refused == EncodeError::TooBig {
-                    return Ok(None);
+                    return None;
                 }
             }
         }
     }
-    Err(Ended::Memory)
+    out.lacks();
+    None
 }
 
 /// A packet's bytes; none where they are too many, which is written.
-pub fn spelled<O: Write>(
-    alloc: Global,
-    packet: &Packet,
-    out: &mut O,
-) -> Result<Option<Vec<u8>>, Ended> {
+pub fn spelled(alloc: Global, packet: &Packet, out: &mut Answers) -> Option<Vec<u8>> {
     by(alloc, packet, Way::Bytes, out)
 }
 
+/// Says so where a way gives other bytes of a packet than these.
+fn compare(alloc: Global, packet: &Packet, way: Way, bytes: Option<&[u8]>, out: &mut Answers) {
+    if let (Some(bytes), Some(other)) = (bytes, by(alloc, packet, way, out))
+        && bytes != other.as_slice()
+    {
+        out.text("> other bytes by ");
+        out.text(match way {
+            Way::Bytes => "Bytes",
+            Way::Datagram => "Datagram",
+            Way::ShortBytes => "ShortBytes",
+            Way::ShortDatagram => "ShortDatagram",
+        });
+        out.end();
+    }
+}
+
+/// Compares the bytes that each other way gives.
+fn compare_all(alloc: Global, packet: &Packet, bytes: Option<&[u8]>, out: &mut Answers) {
+    compare(alloc, packet, Way::Datagram, bytes, out);
+    compare(alloc, packet, Way::ShortBytes, bytes, out);
+    compare(alloc, packet, Way::ShortDatagram, bytes, out);
+}
+
 /// A packet's bytes, which each other way has to give too; none where they are too many, which is written for each way.
-pub fn written<O: Write>(
-    alloc: Global,
-    packet: &Packet,
-    out: &mut O,
-) -> Result<Option<Vec<u8>>, Ended> {
-    let bytes = spelled(alloc, packet, out)?;
-    for way in [Way::Datagram, Way::ShortBytes, Way::ShortDatagram] {
-        if let (Some(bytes), Some(other)) = (&bytes, by(alloc, packet, way, out)?)
-            && bytes.as_slice() != other.as_slice()
-        {
-            writeln!(out, "> other bytes by {way:?}")?;
+pub fn written(alloc: Global, packet: &Packet, out: &mut Answers) -> Option<Vec<u8>> {
+    match spelled(alloc, packet, out) {
+        Some(bytes) => {
+            compare_all(alloc, packet, Some(bytes.as_slice()), out);
+            Some(bytes)
+        }
+        None => {
+            compare_all(alloc, packet, None, out);
+            None
         }
     }
-    Ok(bytes)
+}
+
+/// Whether a packet is written as these bytes; says so where it is written as others.
+fn is_written(alloc: Global, packet: &Packet, bytes: &[u8], out: &mut Answers) -> bool {
+    match written(alloc, packet, out) {
+        Some(again) if again.as_slice() == bytes => true,
+        Some(_) => {
+            out.line("written as other bytes");
+            false
+        }
+        None => false,
+    }
 }
 
 /// The packet of bytes, which is written as these again; none where they have a fault, or it is written otherwise.
-pub fn read_back<O: Write>(
-    alloc: Global,
-    bytes: &[u8],
-    out: &mut O,
-) -> Result<Option<Packet>, Ended> {
-    let Some(packet) = read(alloc, bytes, out)? else {
-        return Ok(None);
-    };
-    match written(alloc, &packet, out)? {
-        Some(again) if again.as_slice() == bytes => Ok(Some(packet)),
-        Some(_) => {
-            writeln!(out, "> written as other bytes")?;
-            Ok(None)
-        }
-        None => Ok(None),
+pub fn read_back(alloc: Global, bytes: &[u8], out: &mut Answers) -> Option<Packet> {
+    let packet = read(alloc, bytes, out)?;
+    if is_written(alloc, &packet, bytes, out) {
+        Some(packet)
+    } else {
+        let_go(packet);
+        None
     }
 }

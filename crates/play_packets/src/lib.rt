@@ -29,6 +29,6 @@ mod words;
 pub use mail::{Mail, Wanted, kind_name, packet_number, wanted_in};
 pub use packets::Packets;
 pub use words::{
-    Unread, actor, add_frames, frame_number, grant, numbers, place, read_packet, steps, word64,
+    actor, frame_number, grant, let_go, numbers, place, read_frames, read_packet, steps,
     write_frame, write_grant, write_numbers, write_outcome, write_packet, write_place,
 };

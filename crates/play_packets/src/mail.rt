@@ -1,8 +1,8 @@
 //! The packets that were sent.
 
 use codec::{Body, Datagram, Packet};
-use play_words::CommandLine;
-use std::alloc::{AllocError, Global};
+use play_words::{Answers, CommandLine, word64};
+use std::alloc::Global;
 
 /// A packet that a worker sent, or that was made by hand, which is of nobody.
 #[derive(Drop)]
@@ -19,13 +19,12 @@ pub struct Mail {
     sent: Vec<Sent>,
 }
 
-/// Packets of a kind to somebody, or those of them that one worker sent: the first of these, or the last.
+/// Packets of a kind that a worker sent to somebody.
 #[derive(Clone, Copy)]
 pub struct Wanted<'a> {
     pub kind: &'a str,
     pub to: u64,
-    pub from: Option<u64>,
-    pub is_first: bool,
+    pub from: u64,
 }
 
 /// The name of a packet's kind.
@@ -48,11 +47,7 @@ pub fn kind_name(body: &Body) -> &'static str {
 
 impl Sent {
     fn is(&self, wanted: Wanted<'_>) -> bool {
-        let is_of = match wanted.from {
-            None => true,
-            Some(_) => self.from == wanted.from,
-        };
-        is_of && self.to == wanted.to && self.kind == wanted.kind
+        self.from == Some(wanted.from) && self.to == wanted.to && self.kind == wanted.kind
     }
 }
 
@@ -69,14 +64,18 @@ impl Mail {
         from: Option<u64>,
         packet: &Packet,
         datagram: Datagram,
-    ) -> Result<usize, AllocError> {
-        self.sent.push(Sent {
+        out: &mut Answers,
+    ) -> u64 {
+        let sent = Sent {
             from,
             to: packet.to().word(),
             kind: kind_name(packet.body()),
             datagram,
-        })?;
-        Ok(self.sent.len())
+        };
+        if self.sent.push(sent).is_err() {
+            out.lacks();
+        }
+        self.sent.len() as u64
     }
 
     /// The bytes of the packet of a number.
@@ -85,11 +84,11 @@ impl Mail {
         Some(self.sent.get(index)?.datagram.as_bytes())
     }
 
-    /// The bytes of the packet that is wanted.
+    /// The bytes of the last packet that is wanted.
     pub fn find(&self, wanted: Wanted<'_>) -> Option<&[u8]> {
         let mut found = None;
         for sent in self.sent.iter() {
-            if sent.is(wanted) && (found.is_none() || !wanted.is_first) {
+            if sent.is(wanted) {
                 found = Some(sent.datagram.as_bytes());
             }
         }
@@ -99,28 +98,15 @@ impl Mail {
 
 /// The number of a packet in a word `#N`.
 pub fn packet_number(word: &str) -> Option<u64> {
-    word.strip_prefix('#')?.parse::<u64>().ok()
+    word64(word.strip_prefix('#')?)
 }
 
-/// The packets that words from an index on want, of those to somebody, and the index behind these words.
-pub fn wanted_in<'a>(line: &CommandLine<'a>, from: usize, to: u64) -> Option<(Wanted<'a>, usize)> {
-    let first = line.word(from)?;
-    let is_first = first == "first";
-    let at = if is_first { from.checked_add(1)? } else { from };
-    let kind = line.word(at)?;
-    let behind = at.checked_add(1)?;
-    let (sender, behind) = match line.word(behind) {
-        Some("from") => (
-            Some(line.number(behind.checked_add(1)?)?),
-            behind.checked_add(2)?,
-        ),
-        _ => (None, behind),
-    };
-    let wanted = Wanted {
-        kind,
-        to,
-        from: sender,
-        is_first,
-    };
-    Some((wanted, behind))
+/// The packets to somebody that the words `KIND from W` from an index on want.
+pub fn wanted_in<'a>(line: &CommandLine<'a>, index: usize, to: u64) -> Option<Wanted<'a>> {
+    let kind = line.word(index)?;
+    if line.word(index.checked_add(1)?)? != "from" {
+        return None;
+    }
+    let from = line.number(index.checked_add(2)?)?;
+    Some(Wanted { kind, to, from })
 }

@@ -1,11 +1,10 @@
 //! The bytes of a transcript that are a packet's or may be.
 
 use crate::calls::{read, read_back, spelled, written};
-use crate::words::{Unread, packet_in, write_packet};
+use crate::words::{let_go, packet_in, write_packet};
 use codec::{Fault, Packet, ReadError, decode};
-use play_words::{CommandLine, Ended, Played, bytes_of_hex, write_hex};
-use std::alloc::{AllocError, Global};
-use std::io::Write;
+use play_words::{Answers, CommandLine, Played, bytes_of_hex, size, word32};
+use std::alloc::Global;
 
 /// More bytes than these are answered by their count.
 const SHOWN: usize = 400;
@@ -16,77 +15,183 @@ pub struct Packets {
     bytes: Vec<u8>,
 }
 
+/// The kept bytes from the index on that a word is.
+fn kept_from<'a>(kept: &'a [u8], at: &str) -> Option<&'a [u8]> {
+    kept.get(size(at)?..)
+}
+
+/// Adds the kept bytes from the index on that a word is. Whether there are such.
+fn add_kept(kept: &[u8], bytes: &mut Vec<u8>, at: &str, out: &mut Answers) -> bool {
+    match kept_from(kept, at) {
+        Some(rest) => {
+            out.put(bytes.extend_from_slice(rest));
+            true
+        }
+        None => false,
+    }
+}
+
+/// Adds the bytes of hexadecimal digits so many times. Whether they are such.
+fn add_times(alloc: Global, bytes: &mut Vec<u8>, hex: &str, times: u32, out: &mut Answers) -> bool {
+    let Some(spelled) = bytes_of_hex(alloc, hex, out) else {
+        return false;
+    };
+    for _ in 0..times {
+        out.put(bytes.extend_from_slice(&spelled));
+    }
+    true
+}
+
 /// Adds the bytes of a piece: `HEX`, `HEX*TIMES`, or `@AT`, which is the kept bytes from an index on. Whether it is one.
 fn add_piece(
     alloc: Global,
     kept: &[u8],
     bytes: &mut Vec<u8>,
     piece: &str,
-) -> Result<bool, AllocError> {
+    out: &mut Answers,
+) -> bool {
     if let Some(at) = piece.strip_prefix('@') {
-        let Ok(at) = at.parse::<usize>() else {
-            return Ok(false);
-        };
-        let Some(rest) = kept.get(at..) else {
-            return Ok(false);
-        };
-        bytes.extend_from_slice(rest)?;
-        return Ok(true);
+        return add_kept(kept, bytes, at, out);
     }
-    let (hex, times) = match piece.split_once('*') {
-        Some((hex, times)) => (hex, times.parse::<u32>().ok()),
-        None => (piece, Some(1)),
-    };
-    let (Some(spelled), Some(times)) = (bytes_of_hex(alloc, hex)?, times) else {
-        return Ok(false);
-    };
-    for _ in 0..times {
-        bytes.extend_from_slice(&spelled)?;
+    match piece.split_once('*') {
+        Some((hex, times)) => match word32(times) {
+            Some(times) => add_times(alloc, bytes, hex, times, out),
+            None => false,
+        },
+        None => add_times(alloc, bytes, piece, 1, out),
     }
-    Ok(true)
 }
 
-/// What bytes are refused with; none where they are read.
-fn fault<O: Write>(alloc: Global, bytes: &[u8], out: &mut O) -> Result<Option<Fault>, Ended> {
+/// Adds the bytes of pieces that blanks part. Whether they are such.
+fn add_pieces(
+    alloc: Global,
+    kept: &[u8],
+    bytes: &mut Vec<u8>,
+    pieces: &str,
+    out: &mut Answers,
+) -> bool {
+    let mut are_pieces = true;
+    for piece in pieces.split(' ') {
+        are_pieces = are_pieces && add_piece(alloc, kept, bytes, piece, out);
+    }
+    are_pieces
+}
+
+/// What bytes are refused with; none where they are read, or there is no memory.
+fn fault(alloc: Global, bytes: &[u8], out: &mut Answers) -> Option<Fault> {
     for _ in 0..2 {
         match decode(alloc, bytes) {
-            Ok(_) => return Ok(None),
-            Err(ReadError::Fault(fault)) => return Ok(Some(fault)),
-            Err(ReadError::Memory) => writeln!(out, "> E9")?,
+            Ok(packet) => {
+                let_go(packet);
+                return None;
+            }
+            Err(ReadError::Fault(fault)) => return Some(fault),
+            Err(ReadError::Memory) => out.line("E9"),
         }
     }
-    Err(Ended::Memory)
+    out.lacks();
+    None
 }
 
-/// Bytes are read so often.
-fn decodes<O: Write>(alloc: Global, line: &CommandLine<'_>, out: &mut O) -> Result<Played, Ended> {
-    let (Some(times), Some(bytes)) = (line.number(1), bytes_of_hex(alloc, line.rest(2))?) else {
-        return Ok(Played::Malformed);
-    };
+/// Bytes are read so often, up to a fault.
+fn reads(alloc: Global, bytes: &[u8], times: u64, out: &mut Answers) {
     for _ in 0..times {
-        if read(alloc, &bytes, out)?.is_none() {
-            return Ok(Played::Answered);
+        match read(alloc, bytes, out) {
+            Some(packet) => let_go(packet),
+            None => return,
         }
     }
-    writeln!(out, "> ok")?;
-    Ok(Played::Answered)
+    out.line("ok");
+}
+
+/// A packet is written so often, up to a refusal.
+fn writes(alloc: Global, packet: &Packet, times: u64, out: &mut Answers) {
+    for _ in 0..times {
+        if spelled(alloc, packet, out).is_none() {
+            return;
+        }
+    }
+    out.line("ok");
+}
+
+fn decodes(alloc: Global, line: &CommandLine<'_>, out: &mut Answers) -> Option<()> {
+    let times = line.number(1)?;
+    let bytes = bytes_of_hex(alloc, line.rest(2), out)?;
+    reads(alloc, &bytes, times, out);
+    Some(())
 }
 
 /// The packet of bytes is written so often.
-fn encodes<O: Write>(alloc: Global, line: &CommandLine<'_>, out: &mut O) -> Result<Played, Ended> {
-    let (Some(times), Some(bytes)) = (line.number(1), bytes_of_hex(alloc, line.rest(2))?) else {
-        return Ok(Played::Malformed);
-    };
-    let Some(packet) = read(alloc, &bytes, out)? else {
-        return Ok(Played::Answered);
-    };
-    for _ in 0..times {
-        if spelled(alloc, &packet, out)?.is_none() {
-            return Ok(Played::Answered);
+fn encodes(alloc: Global, line: &CommandLine<'_>, out: &mut Answers) -> Option<()> {
+    let times = line.number(1)?;
+    let bytes = bytes_of_hex(alloc, line.rest(2), out)?;
+    if let Some(packet) = read(alloc, &bytes, out) {
+        writes(alloc, &packet, times, out);
+        let_go(packet);
+    }
+    Some(())
+}
+
+/// Answers bytes.
+fn write_bytes(out: &mut Answers, bytes: &[u8]) {
+    out.text("> ");
+    out.hex(bytes);
+    out.end();
+}
+
+/// Says that bytes are read, and written again as they are, or why not.
+fn read_is_ok(alloc: Global, bytes: &[u8], out: &mut Answers) {
+    if let Some(packet) = read_back(alloc, bytes, out) {
+        let_go(packet);
+        out.line("ok");
+    }
+}
+
+/// Answers the packet that bytes are read as, or their fault.
+fn write_read(alloc: Global, bytes: &[u8], out: &mut Answers) {
+    if let Some(packet) = read_back(alloc, bytes, out) {
+        out.text("> ");
+        write_packet(out, &packet);
+        out.end();
+        let_go(packet);
+    }
+}
+
+/// Answers the bytes of a packet, which are to be read as one.
+fn write_written(alloc: Global, bytes: &[u8], out: &mut Answers) {
+    if bytes.len() > SHOWN {
+        out.counted(bytes.len(), " bytes");
+    } else {
+        write_bytes(out, bytes);
+    }
+    match read_back(alloc, bytes, out) {
+        Some(packet) => let_go(packet),
+        None => out.line("not read"),
+    }
+}
+
+/// Answers what is wrong with the first bytes of a packet, so many; whether they end inside a field.
+fn is_cut(alloc: Global, beginning: &[u8], out: &mut Answers) -> bool {
+    match fault(alloc, beginning, out) {
+        Some(Fault::Short) => true,
+        Some(other) => {
+            out.text("> ");
+            out.number(beginning.len() as u64);
+            out.text(" bytes: ");
+            out.shown(&other);
+            out.end();
+            false
+        }
+        None => {
+            out.counted(beginning.len(), " bytes: no fault");
+            false
         }
     }
-    writeln!(out, "> ok")?;
-    Ok(Played::Answered)
+}
+
+/// The place that a word numbers.
+fn place(line: &CommandLine<'_>, index: usize) -> Option<usize> {
+    size(line.word(index)?)
 }
 
 impl Packets {
@@ -97,16 +202,8 @@ impl Packets {
     }
 
     /// Plays a command on packets, and writes what it answers.
-    pub fn play<O: Write>(
-        &mut self,
-        alloc: Global,
-        line: &CommandLine<'_>,
-        out: &mut O,
-    ) -> Result<Played, Ended> {
-        let Some(name) = line.word(0) else {
-            return Ok(Played::NotMine);
-        };
-        match name {
+    pub fn play(&mut self, alloc: Global, line: &CommandLine<'_>, out: &mut Answers) -> Played {
+        Played::of(match line.word(0).unwrap_or("") {
             "encode" => self.encode(alloc, line, out),
             "decode" => self.decode(alloc, line, out),
             "decodes" => decodes(alloc, line, out),
@@ -115,151 +212,89 @@ impl Packets {
             "front" => self.front(alloc, line, out),
             "part" => self.part(line, out),
             "beginnings" => self.beginnings(alloc, out),
-            _ => Ok(Played::NotMine),
-        }
+            _ => return Played::NotMine,
+        })
     }
 
     /// A packet in words is written.
-    fn encode<O: Write>(
-        &mut self,
-        alloc: Global,
-        line: &CommandLine<'_>,
-        out: &mut O,
-    ) -> Result<Played, Ended> {
-        match packet_in(alloc, line, 1) {
-            Ok(Some(packet)) => self.encodes(alloc, &packet, out)?,
-            Ok(None) => writeln!(out, "> no packet")?,
-            Err(Unread::Malformed) => return Ok(Played::Malformed),
-            Err(Unread::Memory) => return Err(Ended::Memory),
+    fn encode(&mut self, alloc: Global, line: &CommandLine<'_>, out: &mut Answers) -> Option<()> {
+        match packet_in(alloc, line, 1, out)? {
+            Some(packet) => {
+                self.keeps(alloc, &packet, out);
+                let_go(packet);
+            }
+            None => out.line("no packet"),
         }
-        Ok(Played::Answered)
+        Some(())
     }
 
-    fn encodes<O: Write>(
-        &mut self,
-        alloc: Global,
-        packet: &Packet,
-        out: &mut O,
-    ) -> Result<(), Ended> {
-        let Some(bytes) = written(alloc, packet, out)? else {
-            return Ok(());
-        };
-        if bytes.len() > SHOWN {
-            writeln!(out, "> {} bytes", bytes.len())?;
-        } else {
-            write!(out, "> ")?;
-            write_hex(out, &bytes)?;
-            writeln!(out)?;
+    /// Keeps the bytes of a packet.
+    fn keeps(&mut self, alloc: Global, packet: &Packet, out: &mut Answers) {
+        if let Some(bytes) = written(alloc, packet, out) {
+            write_written(alloc, &bytes, out);
+            self.bytes = bytes;
         }
-        if read_back(alloc, &bytes, out)?.is_none() {
-            writeln!(out, "> not read")?;
-        }
-        self.bytes = bytes;
-        Ok(())
     }
 
     /// Bytes are read, and the packet is written again.
-    fn decode<O: Write>(
-        &mut self,
-        alloc: Global,
-        line: &CommandLine<'_>,
-        out: &mut O,
-    ) -> Result<Played, Ended> {
-        let Some(bytes) = bytes_of_hex(alloc, line.rest(1))? else {
-            return Ok(Played::Malformed);
-        };
-        if let Some(packet) = read_back(alloc, &bytes, out)? {
-            write!(out, "> ")?;
-            write_packet(out, &packet)?;
-            writeln!(out)?;
-        }
+    fn decode(&mut self, alloc: Global, line: &CommandLine<'_>, out: &mut Answers) -> Option<()> {
+        let bytes = bytes_of_hex(alloc, line.rest(1), out)?;
+        write_read(alloc, &bytes, out);
         self.bytes = bytes;
-        Ok(Played::Answered)
+        Some(())
     }
 
     /// The kept bytes with others from an index on.
-    fn with<O: Write>(
-        &self,
-        alloc: Global,
-        line: &CommandLine<'_>,
-        out: &mut O,
-    ) -> Result<Played, Ended> {
-        let Some(at) = line.number(1).and_then(|at| usize::try_from(at).ok()) else {
-            return Ok(Played::Malformed);
-        };
-        let Some(others) = bytes_of_hex(alloc, line.rest(2))? else {
-            return Ok(Played::Malformed);
-        };
-        let mut bytes = Vec::from_slice(alloc, &self.bytes)?;
-        for (byte, other) in bytes.iter_mut().skip(at).zip(others.as_slice()) {
-            *byte = *other;
+    fn with(&self, alloc: Global, line: &CommandLine<'_>, out: &mut Answers) -> Option<()> {
+        let at = place(line, 1)?;
+        let others = bytes_of_hex(alloc, line.rest(2), out)?;
+        if let Some(bytes) = out.made(Vec::from_slice(alloc, &self.bytes)) {
+            read_changed(alloc, bytes, at, &others, out);
         }
-        read_is_ok(alloc, &bytes, out)?;
-        Ok(Played::Answered)
+        Some(())
     }
 
     /// The first of the kept bytes, and pieces behind them.
-    fn front<O: Write>(
-        &self,
-        alloc: Global,
-        line: &CommandLine<'_>,
-        out: &mut O,
-    ) -> Result<Played, Ended> {
-        let Some(count) = line.number(1).and_then(|count| usize::try_from(count).ok()) else {
-            return Ok(Played::Malformed);
-        };
-        let Some(front) = self.bytes.get(..count) else {
-            return Ok(Played::Malformed);
-        };
-        let mut bytes = Vec::from_slice(alloc, front)?;
-        for piece in line.rest(2).split(' ') {
-            if !add_piece(alloc, &self.bytes, &mut bytes, piece)? {
-                return Ok(Played::Malformed);
-            }
+    fn front(&self, alloc: Global, line: &CommandLine<'_>, out: &mut Answers) -> Option<()> {
+        let count = place(line, 1)?;
+        let front = self.bytes.get(..count)?;
+        let mut bytes = out.made(Vec::from_slice(alloc, front))?;
+        if add_pieces(alloc, &self.bytes, &mut bytes, line.rest(2), out) {
+            read_is_ok(alloc, &bytes, out);
+            Some(())
+        } else {
+            None
         }
-        read_is_ok(alloc, &bytes, out)?;
-        Ok(Played::Answered)
     }
 
     /// So many of the kept bytes from an index on.
-    fn part<O: Write>(&self, line: &CommandLine<'_>, out: &mut O) -> Result<Played, Ended> {
-        let (Some(at), Some(count)) = (line.number(1), line.number(2)) else {
-            return Ok(Played::Malformed);
-        };
-        let (Ok(at), Ok(count)) = (usize::try_from(at), usize::try_from(count)) else {
-            return Ok(Played::Malformed);
-        };
-        let Some(part) = self.bytes.get(at..).and_then(|rest| rest.get(..count)) else {
-            return Ok(Played::Malformed);
-        };
-        write!(out, "> ")?;
-        write_hex(out, part)?;
-        writeln!(out)?;
-        Ok(Played::Answered)
+    fn part(&self, line: &CommandLine<'_>, out: &mut Answers) -> Option<()> {
+        let at = place(line, 1)?;
+        let count = place(line, 2)?;
+        write_bytes(out, self.bytes.get(at..)?.get(..count)?);
+        Some(())
     }
 
     /// All beginnings of the kept bytes, but for the whole.
-    fn beginnings<O: Write>(&self, alloc: Global, out: &mut O) -> Result<Played, Ended> {
-        let mut short = 0u64;
+    fn beginnings(&self, alloc: Global, out: &mut Answers) -> Option<()> {
+        let mut short = 0usize;
         for length in 0..self.bytes.len() {
-            let Some(beginning) = self.bytes.get(..length) else {
-                break;
-            };
-            match fault(alloc, beginning, out)? {
-                Some(Fault::Short) => short = short.saturating_add(1),
-                Some(other) => writeln!(out, "> {length} bytes: {other}")?,
-                None => writeln!(out, "> {length} bytes: no fault")?,
+            if let Some(beginning) = self.bytes.get(..length)
+                && is_cut(alloc, beginning, out)
+            {
+                short = short.saturating_add(1);
             }
         }
-        writeln!(out, "> {short} times E31")?;
-        Ok(Played::Answered)
+        out.counted(short, " times E31");
+        Some(())
     }
 }
 
-/// Whether bytes are read, and written again as they are.
-fn read_is_ok<O: Write>(alloc: Global, bytes: &[u8], out: &mut O) -> Result<(), Ended> {
-    if read_back(alloc, bytes, out)?.is_some() {
-        writeln!(out, "> ok")?;
+/// Reads bytes of which those from an index on are others.
+fn read_changed(alloc: Global, bytes: Vec<u8>, at: usize, others: &[u8], out: &mut Answers) {
+    let mut bytes = bytes;
+    for (byte, other) in bytes.iter_mut().skip(at).zip(others) {
+        *byte = *other;
     }
-    Ok(())
+    read_is_ok(alloc, &bytes, out);
 }

@@ -1,3 +1,5 @@
+use crate::numbers::{signed64, word64};
+
 /// A command line of a transcript, taken apart into its words, parted by single blanks.
 #[derive(Clone, Copy)]
 pub struct CommandLine<'a> {
@@ -40,11 +42,11 @@ impl<'a> CommandLine<'a> {
 
     /// The word at an index as a number; none where it is no number from 0 to 2^64 - 1 in decimal digits.
     pub fn number(&self, index: usize) -> Option<u64> {
-        self.word(index)?.parse::<u64>().ok()
+        word64(self.word(index)?)
     }
 
     /// The word at an index as a number; none where it is no number of 64 bits with a sign in decimal digits.
     pub fn signed(&self, index: usize) -> Option<i64> {
-        self.word(index)?.parse::<i64>().ok()
+        signed64(self.word(index)?)
     }
 }

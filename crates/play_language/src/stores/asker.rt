@@ -3,8 +3,7 @@
 use super::words::{actor_at, count_at, status};
 use ids::Status;
 use play_packets::grant;
-use play_words::{CommandLine, Ended, Played};
-use std::io::{self, Write};
+use play_words::{Answers, CommandLine};
 use steal_protocol::Asker;
 
 /// What is said of a victim; none inside where nothing is.
@@ -16,50 +15,50 @@ fn said(line: &CommandLine<'_>) -> Option<Option<Status>> {
 }
 
 /// Writes the request that waits, and how many were made.
-fn write_state<O: Write>(out: &mut O, asker: &Asker) -> io::Result<()> {
+fn write_state(out: &mut Answers, asker: &Asker) {
     match asker.pending() {
         Some(request) => {
-            let (seq, victim) = (request.seq.number(), request.victim.word());
-            write!(out, "> request {seq} of {victim}")?;
+            out.text("> request ");
+            out.number(request.seq.number());
+            out.text(" of ");
+            out.number(request.victim.word());
         }
-        None => write!(out, "> no request")?,
+        None => out.text("> no request"),
     }
-    writeln!(out, ", {} made", asker.asked())
+    out.text(", ");
+    out.number(asker.asked());
+    out.text(" made");
+    out.end();
+}
+
+/// A request is made.
+fn ask(line: &CommandLine<'_>, asker: &mut Asker, out: &mut Answers) -> Option<()> {
+    if let Err(refused) = asker.ask(actor_at(line, 2)?) {
+        out.refusal(&refused);
+    }
+    write_state(out, asker);
+    Some(())
 }
 
 /// Plays a command on requests.
-pub fn play_asker<O: Write>(
-    line: &CommandLine<'_>,
-    asker: &mut Asker,
-    out: &mut O,
-) -> Result<Played, Ended> {
-    match (line.word(1), count_at(line, 2)) {
-        (Some("pending"), Some(seq)) => {
-            writeln!(out, "> {}", asker.is_pending(seq))?;
-            return Ok(Played::Answered);
+pub fn play_asker(line: &CommandLine<'_>, asker: &mut Asker, out: &mut Answers) -> Option<()> {
+    match line.word(1)? {
+        "pending" => out.truth(asker.is_pending(count_at(line, 2)?)),
+        "answered" => {
+            let seq = count_at(line, 2)?;
+            let grant = grant(line.word(3)?)?;
+            out.truth(asker.is_answered_by(seq, grant));
         }
-        (Some("answered"), Some(seq)) => {
-            let Some(grant) = line.word(3).and_then(grant) else {
-                return Ok(Played::Malformed);
-            };
-            writeln!(out, "> {}", asker.is_answered_by(seq, grant))?;
-            return Ok(Played::Answered);
+        "ask" => return ask(line, asker, out),
+        "settle" => {
+            asker.settle(said(line)?);
+            write_state(out, asker);
         }
-        (Some("ask"), _) => match actor_at(line, 2) {
-            Some(victim) => {
-                if let Err(refused) = asker.ask(victim) {
-                    writeln!(out, "> {refused}")?;
-                }
-            }
-            None => return Ok(Played::Malformed),
-        },
-        (Some("settle"), _) => match said(line) {
-            Some(said) => asker.settle(said),
-            None => return Ok(Played::Malformed),
-        },
-        (Some("clear"), None) => asker.clear(),
-        _ => return Ok(Played::Malformed),
+        "clear" => {
+            asker.clear();
+            write_state(out, asker);
+        }
+        _ => return None,
     }
-    write_state(out, asker)?;
-    Ok(Played::Answered)
+    Some(())
 }

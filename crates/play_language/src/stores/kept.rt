@@ -3,13 +3,12 @@
 use super::words::range;
 use frames::{Filled, Frames};
 use ids::{Frame, FrameNo, Listed};
-use play_packets::{Unread, add_frames, write_frame};
-use play_words::{CommandLine, Ended, Played};
+use play_packets::{read_frames, write_frame};
+use play_words::{Answers, CommandLine, keep};
 use std::alloc::Global;
-use std::io::Write;
 
 /// What became of fills: how many frames still wait, how many are ready, and the level of the last of these.
-#[derive(Clone, Copy, PartialEq, Eq, Debug)]
+#[derive(Clone, Copy)]
 struct Tally {
     still: u32,
     ready: u32,
@@ -31,21 +30,10 @@ fn fill(frames: &mut Frames, number: FrameNo, slot: u8, value: i64, tally: &mut 
 }
 
 /// Fills a slot of frames.
-fn write_fill<O: Write>(
-    line: &CommandLine<'_>,
-    frames: &mut Frames,
-    out: &mut O,
-) -> Result<Played, Ended> {
-    let (Some((first, last)), Some(slot), Some(value)) = (
-        range(line, 2),
-        line.number(3),
-        line.signed(4),
-    ) else {
-        return Ok(Played::Malformed);
-    };
-    let Ok(slot) = u8::try_from(slot) else {
-        return Ok(Played::Malformed);
-    };
+fn write_fill(line: &CommandLine<'_>, frames: &mut Frames, out: &mut Answers) -> Option<()> {
+    let (first, last) = range(line, 2)?;
+    let slot = u8::try_from(line.number(3)?).ok()?;
+    let value = line.signed(4)?;
     let mut tally = Tally {
         still: 0,
         ready: 0,
@@ -54,115 +42,121 @@ fn write_fill<O: Write>(
     for number in first..=last {
         fill(frames, FrameNo::of(number), slot, value, &mut tally);
     }
-    let Tally {
-        still,
-        ready,
-        level,
-    } = tally;
-    writeln!(
-        out,
-        "> {still} still wait, {ready} are ready, level {level}"
-    )?;
-    Ok(Played::Answered)
+    write_tally(tally, out);
+    Some(())
 }
 
-/// Puts the frames that a word spells.
-fn put(alloc: Global, line: &CommandLine<'_>, frames: &mut Frames) -> Result<(), Unread> {
-    let mut list = Listed::new(alloc);
-    add_frames(alloc, &mut list, line.word(2).ok_or(Unread::Malformed)?)?;
+fn write_tally(tally: Tally, out: &mut Answers) {
+    out.text("> ");
+    out.number(u64::from(tally.still));
+    out.text(" still wait, ");
+    out.number(u64::from(tally.ready));
+    out.text(" are ready, level ");
+    out.number(u64::from(tally.level));
+    out.end();
+}
+
+/// Puts frames. Whether there was memory for all of them.
+fn put(list: Listed<Frame>, frames: &mut Frames) -> bool {
+    let mut are_put = true;
     for frame in list.into_vec() {
-        frames.insert(frame)?;
+        are_put = frames.insert(frame).is_ok() && are_put;
     }
-    Ok(())
+    are_put
 }
 
-fn write_put<O: Write>(
+/// Puts the frames that a word spells; once more behind a refusal, which is when out of memory.
+fn write_put(
     alloc: Global,
     line: &CommandLine<'_>,
     frames: &mut Frames,
-    out: &mut O,
-) -> Result<Played, Ended> {
+    out: &mut Answers,
+) -> Option<()> {
+    let text = line.word(2)?;
     for _ in 0..2 {
-        match put(alloc, line, frames) {
-            Ok(()) => {
-                writeln!(out, "> {} frames", frames.len())?;
-                break;
-            }
-            Err(Unread::Malformed) => return Ok(Played::Malformed),
-            Err(Unread::Memory) => writeln!(out, "> E9")?,
+        if put(read_frames(alloc, text, out)?, frames) {
+            out.counted(frames.len(), " frames");
+            break;
         }
+        out.line("E9");
     }
-    Ok(Played::Answered)
+    Some(())
 }
 
 /// Writes a frame, or that there is none.
-fn write_found<O: Write>(out: &mut O, found: Option<&Frame>) -> Result<(), Ended> {
+fn write_found(out: &mut Answers, found: Option<&Frame>) {
     match found {
         Some(frame) => {
-            write!(out, ">")?;
-            write_frame(out, frame)?;
-            writeln!(out)?;
+            out.text(">");
+            write_frame(out, frame);
+            out.end();
         }
-        None => writeln!(out, "> none")?,
+        None => out.line("none"),
     }
-    Ok(())
 }
 
 /// Takes ready frames, and writes the last one and how many are left.
-fn write_taken<O: Write>(
-    line: &CommandLine<'_>,
-    frames: &mut Frames,
-    out: &mut O,
-) -> Result<Played, Ended> {
-    let Some((first, last)) = range(line, 2) else {
-        return Ok(Played::Malformed);
-    };
-    let mut taken = None;
-    for number in first..=last {
-        taken = frames.remove_ready(FrameNo::of(number));
+fn write_taken(line: &CommandLine<'_>, frames: &mut Frames, out: &mut Answers) -> Option<()> {
+    let (first, last) = range(line, 2)?;
+    for number in first..last {
+        keep(frames.remove_ready(FrameNo::of(number)));
     }
-    write_found(out, taken.as_ref())?;
-    writeln!(out, "> {} frames", frames.len())?;
-    Ok(Played::Answered)
+    let taken = frames.remove_ready(FrameNo::of(last));
+    write_found(out, taken.as_ref());
+    keep(taken);
+    out.counted(frames.len(), " frames");
+    Some(())
+}
+
+fn write_frames(frames: &Frames, out: &mut Answers) {
+    out.counted(frames.len(), " frames");
+    for frame in frames.values() {
+        write_found(out, Some(frame));
+    }
 }
 
 /// Writes all frames of a copy.
-fn write_all<O: Write>(out: &mut O, frames: &Frames) -> Result<Played, Ended> {
+fn write_all(frames: &Frames, out: &mut Answers) {
     for _ in 0..2 {
         match frames.clone() {
             Ok(copy) => {
-                writeln!(out, "> {} frames", copy.len())?;
-                for frame in copy.values() {
-                    write_found(out, Some(frame))?;
-                }
+                write_frames(&copy, out);
+                keep(copy);
                 break;
             }
-            Err(_) => writeln!(out, "> E9")?,
+            Err(_) => out.line("E9"),
         }
     }
-    Ok(Played::Answered)
+}
+
+/// Writes how many slots of a frame are empty.
+fn write_missing(frames: &Frames, number: FrameNo, out: &mut Answers) {
+    out.text("> ");
+    out.shown(&frames.missing(number));
+    out.end();
 }
 
 /// Plays a command on frames.
-pub fn play_frames<O: Write>(
+pub fn play_frames(
     alloc: Global,
     line: &CommandLine<'_>,
     frames: &mut Frames,
-    out: &mut O,
-) -> Result<Played, Ended> {
-    match (line.word(1), range(line, 2)) {
-        (Some("put"), _) => write_put(alloc, line, frames, out),
-        (Some("all"), _) => write_all(out, frames),
-        (Some("fill"), _) => write_fill(line, frames, out),
-        (Some("take"), _) => write_taken(line, frames, out),
-        (Some("get"), Some((number, _))) => {
-            write_found(out, frames.get(FrameNo::of(number)))?;
-            Ok(Played::Answered)
+    out: &mut Answers,
+) -> Option<()> {
+    match line.word(1)? {
+        "put" => return write_put(alloc, line, frames, out),
+        "fill" => return write_fill(line, frames, out),
+        "take" => return write_taken(line, frames, out),
+        "all" => write_all(frames, out),
+        "get" => {
+            let (number, _) = range(line, 2)?;
+            write_found(out, frames.get(FrameNo::of(number)));
         }
-        (Some("missing"), Some((number, _))) => {
-            writeln!(out, "> {}", frames.missing(FrameNo::of(number)))?;
-            Ok(Played::Answered)
+        "missing" => {
+            let (number, _) = range(line, 2)?;
+            write_missing(frames, FrameNo::of(number), out);
         }
-        _ => Ok(Played::Malformed),
+        _ => return None,
     }
+    Some(())
 }

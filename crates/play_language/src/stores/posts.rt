@@ -4,8 +4,7 @@ use super::words::{frame_at, range};
 use ids::{FrameNo, GrantId};
 use level_deques::{Post, PostTest, Posts};
 use play_packets::{grant, write_grant};
-use play_words::{CommandLine, Ended, Played};
-use std::io::{self, Write};
+use play_words::{Answers, CommandLine, keep};
 
 /// Keeps the posts from a level on.
 #[derive(Drop)]
@@ -23,13 +22,19 @@ impl PostTest for FromLevel {
     }
 }
 
-fn write_post<O: Write>(out: &mut O, post: Option<Post>) -> io::Result<()> {
-    let Some(post) = post else {
-        return writeln!(out, "> none");
-    };
-    write!(out, "> ")?;
-    write_grant(out, post.grant)?;
-    writeln!(out, " frame {} level {}", post.frame.number(), post.level)
+fn write_post(out: &mut Answers, post: Option<Post>) {
+    match post {
+        Some(post) => {
+            out.text("> ");
+            write_grant(out, post.grant);
+            out.text(" frame ");
+            out.number(u64::from(post.frame.number()));
+            out.text(" level ");
+            out.number(u64::from(post.level));
+            out.end();
+        }
+        None => out.line("none"),
+    }
 }
 
 /// The level that a word is.
@@ -38,13 +43,7 @@ fn level(line: &CommandLine<'_>) -> Option<u16> {
 }
 
 /// Posts a frame; once more behind a refusal, which is when out of memory.
-fn post<O: Write>(
-    level: u16,
-    grant: GrantId,
-    frame: FrameNo,
-    posts: &mut Posts,
-    out: &mut O,
-) -> Result<(), Ended> {
+fn post(level: u16, grant: GrantId, frame: FrameNo, posts: &mut Posts, out: &mut Answers) {
     for _ in 0..2 {
         let posted = posts.post(Post {
             level,
@@ -53,42 +52,25 @@ fn post<O: Write>(
         });
         match posted {
             Ok(()) => break,
-            Err(_) => writeln!(out, "> E9")?,
+            Err(_) => out.line("E9"),
         }
     }
-    Ok(())
 }
 
 /// Posts frames of a grant at a level.
-fn write_posted<O: Write>(
-    line: &CommandLine<'_>,
-    posts: &mut Posts,
-    out: &mut O,
-) -> Result<Played, Ended> {
-    let (Some(level), Some(grant), Some((first, last))) = (
-        level(line),
-        line.word(3).and_then(grant),
-        range(line, 4),
-    ) else {
-        return Ok(Played::Malformed);
-    };
+fn write_posted(line: &CommandLine<'_>, posts: &mut Posts, out: &mut Answers) -> Option<()> {
+    let level = level(line)?;
+    let grant = grant(line.word(3)?)?;
+    let (first, last) = range(line, 4)?;
     for number in first..=last {
-        post(level, grant, FrameNo::of(number), posts, out)?;
+        post(level, grant, FrameNo::of(number), posts, out);
     }
-    writeln!(out, "> {} posts", posts.len())?;
-    Ok(Played::Answered)
+    out.counted(posts.len(), " posts");
+    Some(())
 }
 
-/// Takes so many posts from an end, and writes the last one and how many are left.
-fn write_taken<O: Write>(
-    line: &CommandLine<'_>,
-    posts: &mut Posts,
-    is_shallow: bool,
-    out: &mut O,
-) -> Result<Played, Ended> {
-    let Some(times) = line.number(2) else {
-        return Ok(Played::Malformed);
-    };
+/// Takes so many posts from an end: the last one.
+fn taken(posts: &mut Posts, times: u64, is_shallow: bool) -> Option<Post> {
     let mut taken = None;
     for _ in 0..times {
         taken = if is_shallow {
@@ -97,58 +79,66 @@ fn write_taken<O: Write>(
             posts.take_deepest()
         };
     }
-    write_post(out, taken)?;
-    writeln!(out, "> {} posts", posts.len())?;
-    Ok(Played::Answered)
+    taken
+}
+
+/// Takes so many posts from an end, and writes the last one and how many are left.
+fn write_taken(posts: &mut Posts, times: u64, is_shallow: bool, out: &mut Answers) {
+    let taken = taken(posts, times, is_shallow);
+    write_post(out, taken);
+    out.counted(posts.len(), " posts");
 }
 
 /// Keeps the posts from a level on; those of a copy all stay, of which the shallowest is written.
-fn write_retained<O: Write>(level: u16, posts: &mut Posts, out: &mut O) -> Result<(), Ended> {
+fn write_retained(level: u16, posts: &mut Posts, out: &mut Answers) {
     for _ in 0..2 {
         match posts.clone() {
             Ok(copy) => {
                 posts.retain(&FromLevel { level });
-                writeln!(out, "> {} posts, {} in a copy", posts.len(), copy.len())?;
-                write_post(out, copy.shallowest())?;
+                out.text("> ");
+                out.number(posts.len() as u64);
+                out.text(" posts, ");
+                out.number(copy.len() as u64);
+                out.text(" in a copy");
+                out.end();
+                write_post(out, copy.shallowest());
+                keep(copy);
                 break;
             }
-            Err(_) => writeln!(out, "> E9")?,
+            Err(_) => out.line("E9"),
         }
     }
-    Ok(())
 }
 
 /// Writes the deepest and the shallowest post, and all of them from the deepest on.
-fn write_all<O: Write>(out: &mut O, posts: &Posts) -> io::Result<()> {
-    write_post(out, posts.deepest())?;
-    write_post(out, posts.shallowest())?;
-    writeln!(out, "> {} posts", posts.len())?;
+fn write_all(posts: &Posts, out: &mut Answers) {
+    write_post(out, posts.deepest());
+    write_post(out, posts.shallowest());
+    out.counted(posts.len(), " posts");
     for index in 0..posts.len() {
-        write_post(out, posts.at(index))?;
+        write_post(out, posts.at(index));
     }
-    Ok(())
+}
+
+/// A frame of a grant is taken out of the posts.
+fn withdraw(line: &CommandLine<'_>, posts: &mut Posts, out: &mut Answers) -> Option<()> {
+    let grant = grant(line.word(2)?)?;
+    let frame = frame_at(line, 3)?;
+    posts.withdraw(grant, frame);
+    out.counted(posts.len(), " posts");
+    Some(())
 }
 
 /// Plays a command on posts.
-pub fn play_posts<O: Write>(
-    line: &CommandLine<'_>,
-    posts: &mut Posts,
-    out: &mut O,
-) -> Result<Played, Ended> {
-    match (line.word(1), level(line)) {
-        (Some("post"), _) => return write_posted(line, posts, out),
-        (Some("deepest"), _) => return write_taken(line, posts, false, out),
-        (Some("shallowest"), _) => return write_taken(line, posts, true, out),
-        (Some("retain"), Some(level)) => write_retained(level, posts, out)?,
-        (Some("all"), _) => write_all(out, posts)?,
-        (Some("withdraw"), _) => match (line.word(2).and_then(grant), frame_at(line, 3)) {
-            (Some(grant), Some(frame)) => {
-                posts.withdraw(grant, frame);
-                writeln!(out, "> {} posts", posts.len())?;
-            }
-            _ => return Ok(Played::Malformed),
-        },
-        _ => return Ok(Played::Malformed),
+pub fn play_posts(line: &CommandLine<'_>, posts: &mut Posts, out: &mut Answers) -> Option<()> {
+    match line.word(1)? {
+        "post" => return write_posted(line, posts, out),
+        "withdraw" => return withdraw(line, posts, out),
+        "deepest" => write_taken(posts, line.number(2)?, false, out),
+        "shallowest" => write_taken(posts, line.number(2)?, true, out),
+        "retain" => write_retained(level(line)?, posts, out),
+        "all" => write_all(posts, out),
+        _ => return None,
     }
-    Ok(Played::Answered)
+    Some(())
 }

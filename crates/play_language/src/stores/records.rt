@@ -3,10 +3,9 @@
 use super::words::{range, worker_at};
 use codec::Body;
 use ids::{Actor, GrantId, Incarnation, Record};
-use play_packets::{grant, read_packet, write_grant};
-use play_words::{CommandLine, Ended, Played};
+use play_packets::{grant, let_go, read_packet, write_grant};
+use play_words::{Answers, CommandLine, keep};
 use std::alloc::{AllocError, Global};
-use std::io::{self, Write};
 use victim_records::Records;
 
 /// Opens copies of records.
@@ -17,121 +16,152 @@ fn open(records: &mut Records, opened: &[Record]) -> Result<(), AllocError> {
     Ok(())
 }
 
+/// Opens records; once more behind a refusal, which is when out of memory.
+fn write_open(opened: &[Record], records: &mut Records, out: &mut Answers) {
+    if open(records, opened).is_err() {
+        out.line("E9");
+        out.put(open(records, opened));
+    }
+    out.counted(records.len(), " records");
+}
+
 /// Opens the records of an Offer.
-fn write_opened<O: Write>(
+fn write_opened(
     alloc: Global,
     line: &CommandLine<'_>,
     records: &mut Records,
-    out: &mut O,
-) -> Result<Played, Ended> {
-    let Some(packet) = read_packet(alloc, line, 2)? else {
-        return Ok(Played::Malformed);
+    out: &mut Answers,
+) -> Option<()> {
+    let packet = read_packet(alloc, line, 2, out)?;
+    let is_offer = match packet.body() {
+        Body::Offer(offer) => {
+            write_open(offer.records.as_slice(), records, out);
+            true
+        }
+        _ => false,
     };
-    let Body::Offer(offer) = packet.body() else {
-        return Ok(Played::Malformed);
-    };
-    if open(records, offer.records.as_slice()).is_err() {
-        writeln!(out, "> E9")?;
-        open(records, offer.records.as_slice())?;
-    }
-    writeln!(out, "> {} records", records.len())?;
-    Ok(Played::Answered)
+    let_go(packet);
+    if is_offer { Some(()) } else { None }
 }
 
-/// Writes the grants of the records that a worker holds, but of many only how many they are.
-fn write_held<O: Write>(holder: Incarnation, records: &Records, out: &mut O) -> Result<(), Ended> {
+/// Writes how many grants there are, and which, but of many only how many.
+fn write_grants(grants: &[GrantId], out: &mut Answers) {
+    out.text("> ");
+    out.number(grants.len() as u64);
+    out.text(" records");
+    if grants.len() < 10 {
+        for grant in grants {
+            out.text(" ");
+            write_grant(out, *grant);
+        }
+    }
+    out.end();
+}
+
+/// Writes the grants of the records that a worker holds.
+fn write_held(holder: Incarnation, records: &Records, out: &mut Answers) {
     for _ in 0..2 {
         match records.held_by(holder) {
             Ok(grants) => {
-                write!(out, "> {} records", grants.len())?;
-                if grants.len() < 10 {
-                    for grant in grants.as_slice() {
-                        write!(out, " ")?;
-                        write_grant(out, *grant)?;
-                    }
-                }
-                writeln!(out)?;
+                write_grants(grants.as_slice(), out);
                 break;
             }
-            Err(_) => writeln!(out, "> E9")?,
+            Err(_) => out.line("E9"),
         }
     }
-    Ok(())
 }
 
 /// Writes the grant of a record, its holder and its frame.
-fn write_found<O: Write>(out: &mut O, found: Option<&Record>) -> io::Result<()> {
-    let Some(record) = found else {
-        return writeln!(out, "> none");
-    };
-    write!(out, "> ")?;
-    write_grant(out, record.grant)?;
-    let holder = record.holder.word();
-    writeln!(out, " held by {holder} frame {}", record.frame.number())
+fn write_found(out: &mut Answers, found: Option<&Record>) {
+    match found {
+        Some(record) => {
+            out.text("> ");
+            write_grant(out, record.grant);
+            out.text(" held by ");
+            out.number(record.holder.word());
+            out.text(" frame ");
+            out.number(u64::from(record.frame.number()));
+            out.end();
+        }
+        None => out.line("none"),
+    }
+}
+
+/// Writes how many records there are, and how many in a copy.
+fn write_counts(records: &Records, copy: &Records, out: &mut Answers) {
+    out.text("> ");
+    out.number(records.len() as u64);
+    out.text(" records, ");
+    out.number(copy.len() as u64);
+    out.text(" in the copy");
+    out.end();
 }
 
 /// Closes a copy's record, and shows it, and that of the first, which stays.
-fn write_copy<O: Write>(grant: GrantId, records: &Records, out: &mut O) -> Result<(), Ended> {
+fn write_copy(grant: GrantId, records: &Records, out: &mut Answers) {
     for _ in 0..2 {
         match records.clone() {
             Ok(mut copy) => {
                 let closed = copy.close(grant);
-                write_found(out, closed.as_ref())?;
-                writeln!(
-                    out,
-                    "> {} records, {} in the copy",
-                    records.len(),
-                    copy.len()
-                )?;
+                write_found(out, closed.as_ref());
+                keep(closed);
+                write_counts(records, &copy, out);
+                keep(copy);
                 break;
             }
-            Err(_) => writeln!(out, "> E9")?,
+            Err(_) => out.line("E9"),
         }
     }
-    Ok(())
+}
+
+/// Closes the record of a minter's grant.
+fn close(records: &mut Records, minter: Actor, number: u32) -> Option<Record> {
+    records.close(GrantId::of(minter, u64::from(number))?)
 }
 
 /// Closes so many records of one minter, the grants by their numbers; writes the last one.
-fn write_closed<O: Write>(
-    line: &CommandLine<'_>,
-    records: &mut Records,
-    out: &mut O,
-) -> Result<Played, Ended> {
-    let (Some(minter), Some((first, last))) = (worker_at(line, 2), range(line, 3)) else {
-        return Ok(Played::Malformed);
-    };
-    let minter = Actor::worker(minter);
-    let mut closed = None;
-    for number in first..=last {
-        closed = match GrantId::of(minter, u64::from(number)) {
-            Some(grant) => records.close(grant),
-            None => None,
-        };
+fn write_closed(line: &CommandLine<'_>, records: &mut Records, out: &mut Answers) -> Option<()> {
+    let minter = Actor::worker(worker_at(line, 2)?);
+    let (first, last) = range(line, 3)?;
+    for number in first..last {
+        keep(close(records, minter, number));
     }
-    write_found(out, closed.as_ref())?;
-    writeln!(out, "> {} records", records.len())?;
-    Ok(Played::Answered)
+    let closed = close(records, minter, last);
+    write_found(out, closed.as_ref());
+    keep(closed);
+    out.counted(records.len(), " records");
+    Some(())
+}
+
+/// Plays a command on the record of a grant.
+fn play_record(line: &CommandLine<'_>, records: &mut Records, out: &mut Answers) -> Option<()> {
+    let grant = grant(line.word(2)?)?;
+    match line.word(1)? {
+        "get" => write_found(out, records.get(grant)),
+        "copy" => write_copy(grant, records, out),
+        "rename" => {
+            records.rename_holder(grant, worker_at(line, 3)?);
+            write_found(out, records.get(grant));
+        }
+        _ => return None,
+    }
+    Some(())
 }
 
 /// Plays a command on records.
-pub fn play_records<O: Write>(
+pub fn play_records(
     alloc: Global,
     line: &CommandLine<'_>,
     records: &mut Records,
-    out: &mut O,
-) -> Result<Played, Ended> {
-    let named = line.word(2).and_then(grant);
-    match (line.word(1), named, worker_at(line, 2), worker_at(line, 3)) {
-        (Some("open"), ..) => return write_opened(alloc, line, records, out),
-        (Some("close"), ..) => return write_closed(line, records, out),
-        (Some("held"), _, Some(holder), _) => write_held(holder, records, out)?,
-        (Some("get"), Some(grant), ..) => write_found(out, records.get(grant))?,
-        (Some("copy"), Some(grant), ..) => write_copy(grant, records, out)?,
-        (Some("rename"), Some(grant), _, Some(holder)) => {
-            records.rename_holder(grant, holder);
-            write_found(out, records.get(grant))?;
+    out: &mut Answers,
+) -> Option<()> {
+    match line.word(1)? {
+        "open" => write_opened(alloc, line, records, out),
+        "close" => write_closed(line, records, out),
+        "held" => {
+            write_held(worker_at(line, 2)?, records, out);
+            Some(())
         }
-        _ => return Ok(Played::Malformed),
+        _ => play_record(line, records, out),
     }
-    Ok(Played::Answered)
 }

@@ -3,64 +3,59 @@
 use super::words::{count_at, worker_at};
 use ids::{Count, Incarnation};
 use play_packets::{read_packet, write_packet};
-use play_words::{CommandLine, Ended, Played};
+use play_words::{Answers, CommandLine};
 use std::alloc::Global;
-use std::io::{self, Write};
 use steal_protocol::{Heard, Replies, Reply};
 
-/// Keeps a packet as an answer.
-fn write_kept<O: Write>(
+/// Keeps a packet as an answer; once more behind a refusal, which is when out of memory.
+fn write_kept(
     alloc: Global,
     line: &CommandLine<'_>,
-    thief: Incarnation,
-    seq: Count,
+    (thief, seq): (Incarnation, Count),
     replies: &mut Replies,
-    out: &mut O,
-) -> Result<Played, Ended> {
+    out: &mut Answers,
+) -> Option<()> {
     for _ in 0..2 {
-        let Some(packet) = read_packet(alloc, line, 4)? else {
-            return Ok(Played::Malformed);
-        };
+        let packet = read_packet(alloc, line, 4, out)?;
         match replies.keep(Reply { thief, seq, packet }) {
             Ok(()) => {
-                writeln!(out, "> {} answers", replies.len())?;
+                out.counted(replies.len(), " answers");
                 break;
             }
-            Err(_) => writeln!(out, "> E9")?,
+            Err(_) => out.line("E9"),
         }
     }
-    Ok(Played::Answered)
+    Some(())
 }
 
 /// Writes what a request is.
-fn write_heard<O: Write>(out: &mut O, heard: Heard<'_>) -> io::Result<()> {
+fn write_heard(out: &mut Answers, heard: Heard<'_>) {
     match heard {
-        Heard::Older => writeln!(out, "> older"),
-        Heard::Newer => writeln!(out, "> newer"),
+        Heard::Older => out.line("older"),
+        Heard::Newer => out.line("newer"),
         Heard::Again(packet) => {
-            write!(out, "> again ")?;
-            write_packet(out, packet)?;
-            writeln!(out)
+            out.text("> again ");
+            write_packet(out, packet);
+            out.end();
         }
     }
 }
 
 /// Plays a command on answers.
-pub fn play_replies<O: Write>(
+pub fn play_replies(
     alloc: Global,
     line: &CommandLine<'_>,
     replies: &mut Replies,
-    out: &mut O,
-) -> Result<Played, Ended> {
-    let (Some(thief), Some(seq)) = (worker_at(line, 2), count_at(line, 3)) else {
-        return Ok(Played::Malformed);
-    };
-    match line.word(1) {
-        Some("keep") => write_kept(alloc, line, thief, seq, replies, out),
-        Some("hear") => {
-            write_heard(out, replies.hear(thief, seq))?;
-            Ok(Played::Answered)
+    out: &mut Answers,
+) -> Option<()> {
+    let thief = worker_at(line, 2)?;
+    let seq = count_at(line, 3)?;
+    match line.word(1)? {
+        "keep" => write_kept(alloc, line, (thief, seq), replies, out),
+        "hear" => {
+            write_heard(out, replies.hear(thief, seq));
+            Some(())
         }
-        _ => Ok(Played::Malformed),
+        _ => None,
     }
 }

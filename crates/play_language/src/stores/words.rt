@@ -1,14 +1,19 @@
 use ids::{Actor, Count, FrameNo, Incarnation, Status};
-use play_packets::{actor, word64};
-use play_words::CommandLine;
+use play_packets::actor;
+use play_words::{CommandLine, word64};
 
-/// The first and the last number of `FIRST..LAST`, which may be one number.
+/// The first and the last number of `FIRST..LAST`, which may be one number; none where the first is greater.
 pub fn ends(text: &str) -> Option<(u64, u64)> {
     let (first, last) = match text.split_once("..") {
         Some(ends) => ends,
         None => (text, text),
     };
-    Some((first.parse::<u64>().ok()?, last.parse::<u64>().ok()?))
+    let (first, last) = (word64(first)?, word64(last)?);
+    if first <= last {
+        Some((first, last))
+    } else {
+        None
+    }
 }
 
 /// The same of the word at an index, as numbers of frames.
@@ -45,7 +50,7 @@ pub fn status(text: &str, word: u64) -> Option<Status> {
         "dead" => Some(Status::Dead),
         "left:next" => Some(Status::Left(Incarnation::worker(word.checked_add(1)?)?)),
         _ => {
-            let heir = text.strip_prefix("left:")?.parse::<u64>().ok()?;
+            let heir = word64(text.strip_prefix("left:")?)?;
             Some(Status::Left(Incarnation::worker(heir)?))
         }
     }

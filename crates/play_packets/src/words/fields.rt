@@ -1,21 +1,8 @@
-use crate::words::unread::Unread;
 use ids::{
-    Actor, Address, Count, Epoch, FrameNo, GrantId, Hop, Incarnation, Listed, Member, Outcome,
-    Place, Progress, Return, Slots, Status,
+    Actor, Address, Count, Epoch, FrameNo, GrantId, Hop, Incarnation, Outcome, Progress, Return,
+    Status,
 };
-use std::alloc::Global;
-
-pub fn word64(text: &str) -> Option<u64> {
-    text.parse::<u64>().ok()
-}
-
-pub fn word32(text: &str) -> Option<u32> {
-    text.parse::<u32>().ok()
-}
-
-pub fn byte(text: &str) -> Option<u8> {
-    text.parse::<u8>().ok()
-}
+use play_words::{byte, signed64, word32, word64};
 
 pub fn worker(text: &str) -> Option<Incarnation> {
     Incarnation::worker(word64(text)?)
@@ -61,7 +48,7 @@ pub fn outcome(text: &str) -> Option<Outcome> {
     if text == "deep" {
         Some(Outcome::TooDeep)
     } else {
-        Some(Outcome::Value(text.parse::<i64>().ok()?))
+        Some(Outcome::Value(signed64(text)?))
     }
 }
 
@@ -81,7 +68,7 @@ pub fn returned(text: &str) -> Option<Return> {
     Some(Return::Local(frame_number(frame)?, byte(slot)?))
 }
 
-fn status(text: &str) -> Option<Status> {
+pub fn status(text: &str) -> Option<Status> {
     if text == "live" {
         Some(Status::Live)
     } else if text == "dead" {
@@ -89,93 +76,4 @@ fn status(text: &str) -> Option<Status> {
     } else {
         Some(Status::Left(worker(text.strip_prefix("left:")?)?))
     }
-}
-
-/// Adds a member `WORD:STATUS`, or with `FROM..TO` in the word's place one for each word.
-fn add_members(list: &mut Listed<Member>, text: &str) -> Result<(), Unread> {
-    let (words, said) = text.split_once(':').ok_or(Unread::Malformed)?;
-    let status = status(said).ok_or(Unread::Malformed)?;
-    let (first, last) = words.split_once("..").unwrap_or((words, words));
-    let first = word64(first).ok_or(Unread::Malformed)?;
-    let last = word64(last).ok_or(Unread::Malformed)?;
-    for word in first..=last {
-        list.push(Member {
-            incarnation: Incarnation::worker(word).ok_or(Unread::Malformed)?,
-            status,
-        })?;
-    }
-    Ok(())
-}
-
-pub fn members(alloc: Global, text: &str) -> Result<Listed<Member>, Unread> {
-    let mut list = Listed::new(alloc);
-    if text == "-" {
-        return Ok(list);
-    }
-    for part in text.split(',') {
-        add_members(&mut list, part)?;
-    }
-    Ok(list)
-}
-
-pub fn numbers(alloc: Global, text: &str) -> Result<Listed<i64>, Unread> {
-    let mut list = Listed::new(alloc);
-    if text == "-" {
-        return Ok(list);
-    }
-    for part in text.split(',') {
-        let Ok(number) = part.parse::<i64>() else {
-            return Err(Unread::Malformed);
-        };
-        list.push(number)?;
-    }
-    Ok(list)
-}
-
-fn slot(text: &str) -> Option<Option<i64>> {
-    if text == "_" {
-        Some(None)
-    } else {
-        Some(Some(text.parse::<i64>().ok()?))
-    }
-}
-
-pub fn slots(alloc: Global, text: &str) -> Result<Slots, Unread> {
-    let mut list = Slots::new(alloc);
-    if text == "-" {
-        return Ok(list);
-    }
-    for part in text.split(',') {
-        list.push(slot(part).ok_or(Unread::Malformed)?)?;
-    }
-    Ok(list)
-}
-
-/// A step, or `STEP*TIMES`.
-fn repeated_step(text: &str) -> Option<(u8, u16)> {
-    match text.split_once('*') {
-        Some((step, times)) => Some((byte(step)?, times.parse::<u16>().ok()?)),
-        None => Some((byte(text)?, 1)),
-    }
-}
-
-/// Steps joined by dots, `-` for none; `STEP*TIMES` is so many of a step.
-pub fn steps(alloc: Global, text: &str) -> Result<Listed<u8>, Unread> {
-    let mut list = Listed::new(alloc);
-    if text == "-" {
-        return Ok(list);
-    }
-    for part in text.split('.') {
-        let (step, times) = repeated_step(part).ok_or(Unread::Malformed)?;
-        for _ in 0..times {
-            list.push(step)?;
-        }
-    }
-    Ok(list)
-}
-
-/// The place that steps lead to.
-pub fn place(alloc: Global, text: &str) -> Result<Place, Unread> {
-    let steps = steps(alloc, text)?;
-    Place::of(steps).ok_or(Unread::Malformed)
 }

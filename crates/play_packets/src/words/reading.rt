@@ -1,59 +1,55 @@
 use crate::words::fields;
-use crate::words::unread::Unread;
+use crate::words::lists::members;
+use crate::words::work::{add_frames, add_records, task};
 use codec::{
     Abort, Beat, Body, Grant, Join, Leave, Offer, OfferAck, Packet, Refuse, ResultAck, Roster,
     Steal, TaskResult,
 };
-use ids::{Frame, FrameNo, GrantId, Listed, Numbers, Record, Task};
-use play_words::CommandLine;
-use std::alloc::{AllocError, Global};
+use ids::{
+    Actor, Address, Frame, FrameNo, GrantId, Hop, Incarnation, Listed, Progress, Record, Task,
+};
+use play_words::{Answers, CommandLine, byte, word64};
+use std::alloc::Global;
 
-/// The words of a packet that are still to be read; none behind the last one.
-#[derive(Drop)]
+/// The words of a packet that are still to be read, none behind the last one, and whether one was wrong of which a list was to be
+/// read.
+#[derive(Clone, Copy)]
 struct Words<'a> {
     rest: Option<&'a str>,
+    is_wrong: bool,
 }
 
 impl<'a> Words<'a> {
-    fn word(&mut self) -> Result<&'a str, Unread> {
-        let rest = self.rest.ok_or(Unread::Malformed)?;
+    /// The next word; an empty one behind the last.
+    fn word(&mut self) -> &'a str {
+        let rest = self.rest.unwrap_or("");
         match rest.split_once(' ') {
             Some((word, behind)) => {
                 self.rest = Some(behind);
-                Ok(word)
+                word
             }
             None => {
                 self.rest = None;
-                Ok(rest)
+                rest
             }
         }
     }
 
-    /// The value of the next word, which has this key.
-    fn value(&mut self, key: &str) -> Result<&'a str, Unread> {
-        let (name, value) = read(self.word()?.split_once('='))?;
-        if name == key {
-            Ok(value)
-        } else {
-            Err(Unread::Malformed)
+    /// The value of the next word, which has this key; empty, which is no value of any key, where it has not.
+    fn value(&mut self, key: &str) -> &'a str {
+        match self.word().split_once('=') {
+            Some((name, value)) if name == key => value,
+            _ => "",
         }
     }
 
     /// Whether the next word has this key.
     fn is_next(&self, key: &str) -> bool {
-        match self.rest {
-            Some(rest) => match rest.split_once('=') {
-                Some((name, _)) => name == key,
-                None => false,
-            },
+        match self.rest.unwrap_or("").split_once('=') {
+            Some((name, _)) => name == key,
             None => false,
         }
     }
-}
-
-/// What is read, or that it is malformed.
-fn read<T>(value: Option<T>) -> Result<T, Unread> {
-    value.ok_or(Unread::Malformed)
 }
 
 /// The packet that the words from an index on spell; none where they are no packet's.
@@ -61,240 +57,232 @@ pub fn read_packet(
     alloc: Global,
     line: &CommandLine<'_>,
     from: usize,
-) -> Result<Option<Packet>, AllocError> {
-    match packet_in(alloc, line, from) {
-        Ok(packet) => Ok(packet),
-        Err(Unread::Malformed) => Ok(None),
-        Err(Unread::Memory) => Err(AllocError),
-    }
+    out: &mut Answers,
+) -> Option<Packet> {
+    packet_in(alloc, line, from, out)?
 }
 
-/// The same, where words that are no packet's in form are malformed; none where they have a field that no packet can hold, or
+/// The same, where words that are no packet's in form are none; none inside where they have a field that no packet can hold, or
 /// an address that doesn't suit the kind.
 pub fn packet_in(
     alloc: Global,
     line: &CommandLine<'_>,
     from: usize,
-) -> Result<Option<Packet>, Unread> {
+    out: &mut Answers,
+) -> Option<Option<Packet>> {
     let mut words = Words {
         rest: Some(line.rest(from)),
+        is_wrong: false,
     };
-    packet(alloc, &mut words)
-}
-
-fn packet(alloc: Global, words: &mut Words<'_>) -> Result<Option<Packet>, Unread> {
-    let kind = words.word()?;
-    let body = body(alloc, kind, words)?;
-    let to = read(fields::address(words.value("to")?))?;
-    let job = read(fields::word64(words.value("job")?))?;
-    match words.rest {
-        None => Ok(Packet::of(job, to, body)),
-        Some(_) => Err(Unread::Malformed),
+    let body = body(alloc, &mut words, out)?;
+    match sent(&mut words) {
+        Some((to, job)) => Some(Packet::of(job, to, body)),
+        None => {
+            let_go_body(body);
+            None
+        }
     }
 }
 
-fn body(alloc: Global, kind: &str, words: &mut Words<'_>) -> Result<Body, Unread> {
+/// Whom a packet goes to, and its job: its last words.
+fn sent(words: &mut Words<'_>) -> Option<(Address, u64)> {
+    let to = fields::address(words.value("to"))?;
+    let job = word64(words.value("job"))?;
+    if words.is_wrong || words.rest.is_some() {
+        None
+    } else {
+        Some((to, job))
+    }
+}
+
+/// What is read is let go here alone, as each place where a packet may be let go is long to prove.
+fn let_go_body(body: Body) {
+    let _body = body;
+}
+
+/// Lets a packet go.
+pub fn let_go(packet: Packet) {
+    let_go_body(packet.into_body());
+}
+
+fn body(alloc: Global, words: &mut Words<'_>, out: &mut Answers) -> Option<Body> {
+    match words.word() {
+        "Roster" => roster(alloc, words, out),
+        "Grant" => grant(alloc, words, out),
+        "Offer" => offer(alloc, words, out),
+        kind => short_body(kind, words),
+    }
+}
+
+/// A body that takes no memory.
+fn short_body(kind: &str, words: &mut Words<'_>) -> Option<Body> {
     match kind {
-        "Join" => Ok(Body::Join(join(words)?)),
-        "Roster" => Ok(Body::Roster(roster(alloc, words)?)),
-        "Steal" => Ok(Body::Steal(steal(words)?)),
-        "Grant" => Ok(Body::Grant(grant(alloc, words)?)),
-        "Refuse" => Ok(Body::Refuse(refuse(words)?)),
-        "Result" => Ok(Body::Result(result(words)?)),
-        "ResultAck" => Ok(Body::ResultAck(result_ack(words)?)),
-        "Offer" => Ok(Body::Offer(offer(alloc, words)?)),
-        "OfferAck" => Ok(Body::OfferAck(offer_ack(words)?)),
-        "Leave" => Ok(Body::Leave(leave(words)?)),
-        "Abort" => Ok(Body::Abort(abort(words)?)),
-        "Beat" => Ok(Body::Beat(beat(words)?)),
-        _ => Err(Unread::Malformed),
+        "Join" => join(words),
+        "Steal" => steal(words),
+        "Refuse" => refuse(words),
+        "Result" => result(words),
+        "ResultAck" => result_ack(words),
+        "OfferAck" => offer_ack(words),
+        "Leave" => leave(words),
+        "Abort" => abort(words),
+        "Beat" => beat(words),
+        _ => None,
     }
 }
 
-fn join(words: &mut Words<'_>) -> Result<Join, Unread> {
-    let from = read(fields::worker(words.value("from")?))?;
-    Ok(Join { from })
+fn join(words: &mut Words<'_>) -> Option<Body> {
+    let from = fields::worker(words.value("from"))?;
+    Some(Body::Join(Join { from }))
 }
 
-fn roster(alloc: Global, words: &mut Words<'_>) -> Result<Roster, Unread> {
-    Ok(Roster {
-        epoch: read(fields::epoch(words.value("epoch")?))?,
-        version: read(fields::count(words.value("version")?))?,
-        members: fields::members(alloc, words.value("members")?)?,
+fn roster(alloc: Global, words: &mut Words<'_>, out: &mut Answers) -> Option<Body> {
+    let epoch = fields::epoch(words.value("epoch"))?;
+    let version = fields::count(words.value("version"))?;
+    let members = members(alloc, words.value("members"), out)?;
+    Some(Body::Roster(Roster {
+        epoch,
+        version,
+        members,
+    }))
+}
+
+fn steal(words: &mut Words<'_>) -> Option<Body> {
+    let from = fields::worker(words.value("from"))?;
+    let seq = fields::count(words.value("seq"))?;
+    Some(Body::Steal(Steal { from, seq }))
+}
+
+/// The task of the words that follow.
+fn task_in(alloc: Global, words: &mut Words<'_>, out: &mut Answers) -> Option<Task> {
+    let thread = byte(words.value("thread"))?;
+    let at = words.value("at");
+    task(alloc, thread, at, words.value("on"), out)
+}
+
+fn grant(alloc: Global, words: &mut Words<'_>, out: &mut Answers) -> Option<Body> {
+    let seq = fields::count(words.value("seq"))?;
+    let grant = fields::grant(words.value("grant"))?;
+    let task = task_in(alloc, words, out)?;
+    Some(Body::Grant(Grant { seq, grant, task }))
+}
+
+fn refuse(words: &mut Words<'_>) -> Option<Body> {
+    let seq = fields::count(words.value("seq"))?;
+    Some(Body::Refuse(Refuse { seq }))
+}
+
+fn result(words: &mut Words<'_>) -> Option<Body> {
+    let from = fields::worker(words.value("from"))?;
+    let grant = fields::grant(words.value("grant"))?;
+    let outcome = fields::outcome(words.value("outcome"))?;
+    Some(Body::Result(TaskResult {
+        from,
+        grant,
+        outcome,
+    }))
+}
+
+fn result_ack(words: &mut Words<'_>) -> Option<Body> {
+    let grant = fields::grant(words.value("grant"))?;
+    Some(Body::ResultAck(ResultAck { grant }))
+}
+
+/// The fields of an Offer before its task.
+#[derive(Clone, Copy)]
+struct BeforeTask {
+    from: Incarnation,
+    grant: GrantId,
+    hop: Hop,
+    parent: Actor,
+    progress: Progress,
+}
+
+fn fields_before(words: &mut Words<'_>) -> Option<BeforeTask> {
+    let from = fields::worker(words.value("from"))?;
+    let grant = fields::grant(words.value("grant"))?;
+    let hop = fields::hop(words.value("hop"))?;
+    let parent = fields::actor(words.value("parent"))?;
+    let progress = fields::progress(words.value("progress"))?;
+    Some(BeforeTask {
+        from,
+        grant,
+        hop,
+        parent,
+        progress,
     })
 }
 
-fn steal(words: &mut Words<'_>) -> Result<Steal, Unread> {
-    Ok(Steal {
-        from: read(fields::worker(words.value("from")?))?,
-        seq: read(fields::count(words.value("seq")?))?,
-    })
+fn offer(alloc: Global, words: &mut Words<'_>, out: &mut Answers) -> Option<Body> {
+    let before = fields_before(words)?;
+    let task = task_in(alloc, words, out)?;
+    Some(Body::Offer(Offer {
+        from: before.from,
+        grant: before.grant,
+        hop: before.hop,
+        parent: before.parent,
+        progress: before.progress,
+        task,
+        next: next(words),
+        frames: frames(alloc, words, out),
+        records: records(alloc, words, out),
+    }))
 }
 
-fn task(alloc: Global, words: &mut Words<'_>) -> Result<Task, Unread> {
-    let thread = read(fields::byte(words.value("thread")?))?;
-    Ok(Task {
-        place: fields::place(alloc, words.value("at")?)?,
-        thread,
-        numbers: Numbers::from_vec(fields::numbers(alloc, words.value("on")?)?.into_vec()),
-    })
-}
-
-fn grant(alloc: Global, words: &mut Words<'_>) -> Result<Grant, Unread> {
-    Ok(Grant {
-        seq: read(fields::count(words.value("seq")?))?,
-        grant: read(fields::grant(words.value("grant")?))?,
-        task: task(alloc, words)?,
-    })
-}
-
-fn refuse(words: &mut Words<'_>) -> Result<Refuse, Unread> {
-    let seq = read(fields::count(words.value("seq")?))?;
-    Ok(Refuse { seq })
-}
-
-fn result(words: &mut Words<'_>) -> Result<TaskResult, Unread> {
-    Ok(TaskResult {
-        from: read(fields::worker(words.value("from")?))?,
-        grant: read(fields::grant(words.value("grant")?))?,
-        outcome: read(fields::outcome(words.value("outcome")?))?,
-    })
-}
-
-fn result_ack(words: &mut Words<'_>) -> Result<ResultAck, Unread> {
-    let grant = read(fields::grant(words.value("grant")?))?;
-    Ok(ResultAck { grant })
-}
-
-fn offer(alloc: Global, words: &mut Words<'_>) -> Result<Offer, Unread> {
-    Ok(Offer {
-        from: read(fields::worker(words.value("from")?))?,
-        grant: read(fields::grant(words.value("grant")?))?,
-        hop: read(fields::hop(words.value("hop")?))?,
-        parent: read(fields::actor(words.value("parent")?))?,
-        progress: read(fields::progress(words.value("progress")?))?,
-        task: task(alloc, words)?,
-        next: read(fields::frame_number(words.value("next")?))?,
-        frames: frames(alloc, words)?,
-        records: records(alloc, words)?,
-    })
+/// The next number of a frame.
+fn next(words: &mut Words<'_>) -> FrameNo {
+    match fields::frame_number(words.value("next")) {
+        Some(number) => number,
+        None => {
+            words.is_wrong = true;
+            FrameNo::of(0)
+        }
+    }
 }
 
 /// The frames of the words that follow.
-fn frames(alloc: Global, words: &mut Words<'_>) -> Result<Listed<Frame>, Unread> {
+fn frames(alloc: Global, words: &mut Words<'_>, out: &mut Answers) -> Listed<Frame> {
     let mut list = Listed::new(alloc);
     for _ in 0..u32::MAX {
-        if !words.is_next("frame") {
+        if words.is_wrong || !words.is_next("frame") {
             break;
         }
-        let text = words.value("frame")?;
-        add_frames(alloc, &mut list, text)?;
+        words.is_wrong = !add_frames(alloc, &mut list, words.value("frame"), out);
     }
-    Ok(list)
-}
-
-/// Adds a frame `NUMBER;PLACE;THREAD;SLOTS;RETURN`, or with `FROM..TO` in the number's place one for each number.
-pub fn add_frames(alloc: Global, list: &mut Listed<Frame>, text: &str) -> Result<(), Unread> {
-    let (number, rest) = read(text.split_once(';'))?;
-    match number.split_once("..") {
-        None => list.push(frame(alloc, read(fields::frame_number(number))?, rest)?)?,
-        Some((first, last)) => {
-            let (first, last) = (read(fields::word32(first))?, read(fields::word32(last))?);
-            for number in first..=last {
-                list.push(frame(alloc, FrameNo::of(number), rest)?)?;
-            }
-        }
-    }
-    Ok(())
-}
-
-fn frame(alloc: Global, number: FrameNo, text: &str) -> Result<Frame, Unread> {
-    let (place, rest) = read(text.split_once(';'))?;
-    let (thread, rest) = read(rest.split_once(';'))?;
-    let (slots, returns) = read(rest.split_once(';'))?;
-    Ok(Frame {
-        number,
-        place: fields::place(alloc, place)?,
-        thread: read(fields::byte(thread))?,
-        slots: fields::slots(alloc, slots)?,
-        returns: read(fields::returned(returns))?,
-    })
+    list
 }
 
 /// The records of the words that follow.
-fn records(alloc: Global, words: &mut Words<'_>) -> Result<Listed<Record>, Unread> {
+fn records(alloc: Global, words: &mut Words<'_>, out: &mut Answers) -> Listed<Record> {
     let mut list = Listed::new(alloc);
     for _ in 0..u32::MAX {
-        if !words.is_next("record") {
+        if words.is_wrong || !words.is_next("record") {
             break;
         }
-        let text = words.value("record")?;
-        add_records(alloc, &mut list, text)?;
+        words.is_wrong = !add_records(alloc, &mut list, words.value("record"), out);
     }
-    Ok(list)
+    list
 }
 
-/// Adds a record `GRANT;HOLDER;FRAME;PLACE;THREAD;NUMBERS;RETURN`, or with `MINTER/FROM..TO` in the grant's place one for each
-/// number of a grant.
-fn add_records(alloc: Global, list: &mut Listed<Record>, text: &str) -> Result<(), Unread> {
-    let (granted, rest) = read(text.split_once(';'))?;
-    match granted.split_once("..") {
-        None => list.push(record(alloc, read(fields::grant(granted))?, rest)?)?,
-        Some((first, last)) => {
-            let (minter, first) = read(first.split_once('/'))?;
-            let minter = read(fields::actor(minter))?;
-            let (first, last) = (read(fields::word64(first))?, read(fields::word64(last))?);
-            for number in first..=last {
-                let grant = read(GrantId::of(minter, number))?;
-                list.push(record(alloc, grant, rest)?)?;
-            }
-        }
-    }
-    Ok(())
+fn offer_ack(words: &mut Words<'_>) -> Option<Body> {
+    let from = fields::worker(words.value("from"))?;
+    let grant = fields::grant(words.value("grant"))?;
+    let hop = fields::hop(words.value("hop"))?;
+    Some(Body::OfferAck(OfferAck { from, grant, hop }))
 }
 
-fn record(alloc: Global, grant: GrantId, text: &str) -> Result<Record, Unread> {
-    let (holder, rest) = read(text.split_once(';'))?;
-    let (frame, rest) = read(rest.split_once(';'))?;
-    let (place, rest) = read(rest.split_once(';'))?;
-    let (thread, rest) = read(rest.split_once(';'))?;
-    let (numbers, returns) = read(rest.split_once(';'))?;
-    Ok(Record {
-        grant,
-        holder: read(fields::worker(holder))?,
-        frame: read(fields::frame_number(frame))?,
-        task: Task {
-            place: fields::place(alloc, place)?,
-            thread: read(fields::byte(thread))?,
-            numbers: Numbers::from_vec(fields::numbers(alloc, numbers)?.into_vec()),
-        },
-        returns: read(fields::returned(returns))?,
-    })
+fn leave(words: &mut Words<'_>) -> Option<Body> {
+    let from = fields::worker(words.value("from"))?;
+    let heir = fields::worker(words.value("heir"))?;
+    Some(Body::Leave(Leave { from, heir }))
 }
 
-fn offer_ack(words: &mut Words<'_>) -> Result<OfferAck, Unread> {
-    Ok(OfferAck {
-        from: read(fields::worker(words.value("from")?))?,
-        grant: read(fields::grant(words.value("grant")?))?,
-        hop: read(fields::hop(words.value("hop")?))?,
-    })
+fn abort(words: &mut Words<'_>) -> Option<Body> {
+    let grant = fields::grant(words.value("grant"))?;
+    Some(Body::Abort(Abort { grant }))
 }
 
-fn leave(words: &mut Words<'_>) -> Result<Leave, Unread> {
-    Ok(Leave {
-        from: read(fields::worker(words.value("from")?))?,
-        heir: read(fields::worker(words.value("heir")?))?,
-    })
-}
-
-fn abort(words: &mut Words<'_>) -> Result<Abort, Unread> {
-    let grant = read(fields::grant(words.value("grant")?))?;
-    Ok(Abort { grant })
-}
-
-fn beat(words: &mut Words<'_>) -> Result<Beat, Unread> {
-    Ok(Beat {
-        from: read(fields::worker(words.value("from")?))?,
-        version: read(fields::count(words.value("version")?))?,
-    })
+fn beat(words: &mut Words<'_>) -> Option<Body> {
+    let from = fields::worker(words.value("from"))?;
+    let version = fields::count(words.value("version"))?;
+    Some(Body::Beat(Beat { from, version }))
 }

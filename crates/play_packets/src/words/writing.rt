@@ -1,227 +1,238 @@
-use codec::{Body, Offer, Packet, Roster};
+use codec::{Body, Grant, Offer, OfferAck, Packet, Roster, TaskResult};
 use ids::{
-    Actor, Address, Frame, GrantId, Member, Outcome, Place, Progress, Record, Return, Status, Task,
+    Actor, Address, Frame, GrantId, Incarnation, Member, Outcome, Place, Progress, Record, Return,
+    Status, Task,
 };
-use std::io::{self, Write};
+use play_words::Answers;
 
 /// Writes a packet in words: its kind, its fields in their order, whom it goes to and its job.
-pub fn write_packet<O: Write>(out: &mut O, packet: &Packet) -> io::Result<()> {
-    write_body(out, packet.body())?;
-    write!(out, " to=")?;
-    write_address(out, packet.to())?;
-    write!(out, " job={}", packet.job())
+pub fn write_packet(out: &mut Answers, packet: &Packet) {
+    write_body(out, packet.body());
+    out.text(" to=");
+    write_address(out, packet.to());
+    write_field(out, " job=", packet.job());
 }
 
-fn write_body<O: Write>(out: &mut O, body: &Body) -> io::Result<()> {
+/// Writes a number behind a text.
+fn write_field(out: &mut Answers, name: &str, number: u64) {
+    out.text(name);
+    out.number(number);
+}
+
+/// Writes the kind of a packet, and who it comes from.
+fn write_from(out: &mut Answers, kind: &str, from: Incarnation) {
+    out.text(kind);
+    write_field(out, " from=", from.word());
+}
+
+/// Writes a grant behind its key.
+fn write_granted(out: &mut Answers, grant: GrantId) {
+    out.text(" grant=");
+    write_grant(out, grant);
+}
+
+fn write_body(out: &mut Answers, body: &Body) {
     match body {
-        Body::Join(join) => write!(out, "Join from={}", join.from.word()),
+        Body::Join(join) => write_from(out, "Join", join.from),
         Body::Roster(roster) => write_roster(out, roster),
         Body::Steal(steal) => {
-            write!(
-                out,
-                "Steal from={} seq={}",
-                steal.from.word(),
-                steal.seq.number()
-            )
+            write_from(out, "Steal", steal.from);
+            write_field(out, " seq=", steal.seq.number());
         }
-        Body::Grant(grant) => {
-            write!(out, "Grant seq={} grant=", grant.seq.number())?;
-            write_grant(out, grant.grant)?;
-            write_task(out, &grant.task)
-        }
-        Body::Refuse(refuse) => write!(out, "Refuse seq={}", refuse.seq.number()),
-        Body::Result(result) => {
-            write!(out, "Result from={} grant=", result.from.word())?;
-            write_grant(out, result.grant)?;
-            write!(out, " outcome=")?;
-            write_outcome(out, result.outcome)
-        }
+        Body::Grant(grant) => write_given(out, grant),
+        Body::Refuse(refuse) => write_field(out, "Refuse seq=", refuse.seq.number()),
+        Body::Result(result) => write_result(out, result),
         Body::ResultAck(ack) => {
-            write!(out, "ResultAck grant=")?;
-            write_grant(out, ack.grant)
+            out.text("ResultAck");
+            write_granted(out, ack.grant);
         }
         Body::Offer(offer) => write_offer(out, offer),
-        Body::OfferAck(ack) => {
-            write!(out, "OfferAck from={} grant=", ack.from.word())?;
-            write_grant(out, ack.grant)?;
-            write!(out, " hop={}", ack.hop.count())
-        }
+        Body::OfferAck(ack) => write_offer_ack(out, ack),
         Body::Leave(leave) => {
-            write!(
-                out,
-                "Leave from={} heir={}",
-                leave.from.word(),
-                leave.heir.word()
-            )
+            write_from(out, "Leave", leave.from);
+            write_field(out, " heir=", leave.heir.word());
         }
         Body::Abort(abort) => {
-            write!(out, "Abort grant=")?;
-            write_grant(out, abort.grant)
+            out.text("Abort");
+            write_granted(out, abort.grant);
         }
         Body::Beat(beat) => {
-            write!(
-                out,
-                "Beat from={} version={}",
-                beat.from.word(),
-                beat.version.number()
-            )
+            write_from(out, "Beat", beat.from);
+            write_field(out, " version=", beat.version.number());
         }
     }
 }
 
-fn write_roster<O: Write>(out: &mut O, roster: &Roster) -> io::Result<()> {
-    write!(
-        out,
-        "Roster epoch={} version={} members=",
-        roster.epoch.number(),
-        roster.version.number()
-    )?;
+fn write_given(out: &mut Answers, grant: &Grant) {
+    write_field(out, "Grant seq=", grant.seq.number());
+    write_granted(out, grant.grant);
+    write_task(out, &grant.task);
+}
+
+fn write_result(out: &mut Answers, given: &TaskResult) {
+    write_from(out, "Result", given.from);
+    write_granted(out, given.grant);
+    out.text(" outcome=");
+    write_outcome(out, given.outcome);
+}
+
+fn write_offer_ack(out: &mut Answers, ack: &OfferAck) {
+    write_from(out, "OfferAck", ack.from);
+    write_granted(out, ack.grant);
+    write_field(out, " hop=", u64::from(ack.hop.count()));
+}
+
+fn write_roster(out: &mut Answers, roster: &Roster) {
+    write_field(out, "Roster epoch=", roster.epoch.number());
+    write_field(out, " version=", roster.version.number());
+    out.text(" members=");
     if roster.members.is_empty() {
-        return write!(out, "-");
+        out.text("-");
     }
-    let mut is_first = true;
+    let mut mark = "";
     for member in roster.members.as_slice() {
-        write_parted(out, &mut is_first, ",")?;
-        write!(out, "{}:", member.incarnation.word())?;
-        write_status(out, member.status)?;
-    }
-    Ok(())
-}
-
-/// Writes what parts an item from the one before it, if there is one.
-fn write_parted<O: Write>(out: &mut O, is_first: &mut bool, mark: &str) -> io::Result<()> {
-    if *is_first {
-        *is_first = false;
-        Ok(())
-    } else {
-        write!(out, "{mark}")
+        out.text(mark);
+        write_member(out, member);
+        mark = ",";
     }
 }
 
-fn write_status<O: Write>(out: &mut O, status: Status) -> io::Result<()> {
-    match status {
-        Status::Live => write!(out, "live"),
-        Status::Dead => write!(out, "dead"),
-        Status::Left(heir) => write!(out, "left:{}", heir.word()),
+fn write_member(out: &mut Answers, member: &Member) {
+    out.number(member.incarnation.word());
+    match member.status {
+        Status::Live => out.text(":live"),
+        Status::Dead => out.text(":dead"),
+        Status::Left(heir) => write_field(out, ":left:", heir.word()),
     }
 }
 
-fn write_offer<O: Write>(out: &mut O, offer: &Offer) -> io::Result<()> {
-    write!(out, "Offer from={} grant=", offer.from.word())?;
-    write_grant(out, offer.grant)?;
-    write!(out, " hop={} parent=", offer.hop.count())?;
-    write_actor(out, offer.parent)?;
-    write!(out, " progress=")?;
-    match offer.progress {
-        Progress::Active => write!(out, "active")?,
-        Progress::Finished(outcome) => write_outcome(out, outcome)?,
-    }
-    write_task(out, &offer.task)?;
-    write!(out, " next={}", offer.next.number())?;
+fn write_offer(out: &mut Answers, offer: &Offer) {
+    write_from(out, "Offer", offer.from);
+    write_granted(out, offer.grant);
+    write_field(out, " hop=", u64::from(offer.hop.count()));
+    out.text(" parent=");
+    write_actor(out, offer.parent);
+    out.text(" progress=");
+    write_progress(out, offer.progress);
+    write_task(out, &offer.task);
+    write_field(out, " next=", u64::from(offer.next.number()));
     for frame in offer.frames.as_slice() {
-        write_frame(out, frame)?;
+        write_frame(out, frame);
     }
     for record in offer.records.as_slice() {
-        write_record(out, record)?;
+        write_record(out, record);
     }
-    Ok(())
 }
 
-pub fn write_frame<O: Write>(out: &mut O, frame: &Frame) -> io::Result<()> {
-    write!(out, " frame={};", frame.number.number())?;
-    write_place(out, &frame.place)?;
-    write!(out, ";{};", frame.thread)?;
-    write_slots(out, frame.slots.as_slice())?;
-    write!(out, ";")?;
-    write_return(out, frame.returns)
+fn write_progress(out: &mut Answers, progress: Progress) {
+    match progress {
+        Progress::Active => out.text("active"),
+        Progress::Finished(outcome) => write_outcome(out, outcome),
+    }
 }
 
-fn write_record<O: Write>(out: &mut O, record: &Record) -> io::Result<()> {
-    write!(out, " record=")?;
-    write_grant(out, record.grant)?;
-    write!(out, ";{};{};", record.holder.word(), record.frame.number())?;
-    write_place(out, &record.task.place)?;
-    write!(out, ";{};", record.task.thread)?;
-    write_numbers(out, record.task.numbers.as_slice())?;
-    write!(out, ";")?;
-    write_return(out, record.returns)
+pub fn write_frame(out: &mut Answers, frame: &Frame) {
+    write_field(out, " frame=", u64::from(frame.number.number()));
+    out.text(";");
+    write_place(out, &frame.place);
+    write_field(out, ";", u64::from(frame.thread));
+    out.text(";");
+    write_slots(out, frame.slots.as_slice());
+    write_return(out, frame.returns);
 }
 
-fn write_slots<O: Write>(out: &mut O, slots: &[Option<i64>]) -> io::Result<()> {
+fn write_record(out: &mut Answers, record: &Record) {
+    out.text(" record=");
+    write_grant(out, record.grant);
+    write_field(out, ";", record.holder.word());
+    write_field(out, ";", u64::from(record.frame.number()));
+    out.text(";");
+    write_place(out, &record.task.place);
+    write_field(out, ";", u64::from(record.task.thread));
+    out.text(";");
+    write_numbers(out, record.task.numbers.as_slice());
+    write_return(out, record.returns);
+}
+
+fn write_slots(out: &mut Answers, slots: &[Option<i64>]) {
     if slots.is_empty() {
-        return write!(out, "-");
+        out.text("-");
     }
-    let mut is_first = true;
+    let mut mark = "";
     for slot in slots {
-        write_parted(out, &mut is_first, ",")?;
+        out.text(mark);
         match *slot {
-            Some(value) => write!(out, "{value}")?,
-            None => write!(out, "_")?,
+            Some(value) => out.signed(value),
+            None => out.text("_"),
+        }
+        mark = ",";
+    }
+}
+
+pub fn write_numbers(out: &mut Answers, numbers: &[i64]) {
+    if numbers.is_empty() {
+        out.text("-");
+    }
+    let mut mark = "";
+    for number in numbers {
+        out.text(mark);
+        out.signed(*number);
+        mark = ",";
+    }
+}
+
+pub fn write_place(out: &mut Answers, place: &Place) {
+    if place.len() == 0 {
+        out.text("-");
+    }
+    let mut mark = "";
+    for step in place.steps() {
+        write_field(out, mark, u64::from(*step));
+        mark = ".";
+    }
+}
+
+fn write_task(out: &mut Answers, task: &Task) {
+    write_field(out, " thread=", u64::from(task.thread));
+    out.text(" at=");
+    write_place(out, &task.place);
+    out.text(" on=");
+    write_numbers(out, task.numbers.as_slice());
+}
+
+/// Writes where a value returns, behind a mark.
+fn write_return(out: &mut Answers, returns: Return) {
+    match returns {
+        Return::Whole => out.text(";whole"),
+        Return::Local(frame, slot) => {
+            write_field(out, ";", u64::from(frame.number()));
+            write_field(out, ".", u64::from(slot));
         }
     }
-    Ok(())
 }
 
-pub fn write_numbers<O: Write>(out: &mut O, numbers: &[i64]) -> io::Result<()> {
-    if numbers.is_empty() {
-        return write!(out, "-");
-    }
-    let mut is_first = true;
-    for number in numbers {
-        write_parted(out, &mut is_first, ",")?;
-        write!(out, "{}", *number)?;
-    }
-    Ok(())
-}
-
-pub fn write_place<O: Write>(out: &mut O, place: &Place) -> io::Result<()> {
-    if place.len() == 0 {
-        return write!(out, "-");
-    }
-    let mut is_first = true;
-    for step in place.steps() {
-        write_parted(out, &mut is_first, ".")?;
-        write!(out, "{}", *step)?;
-    }
-    Ok(())
-}
-
-fn write_task<O: Write>(out: &mut O, task: &Task) -> io::Result<()> {
-    write!(out, " thread={} at=", task.thread)?;
-    write_place(out, &task.place)?;
-    write!(out, " on=")?;
-    write_numbers(out, task.numbers.as_slice())
-}
-
-fn write_return<O: Write>(out: &mut O, returns: Return) -> io::Result<()> {
-    match returns {
-        Return::Whole => write!(out, "whole"),
-        Return::Local(frame, slot) => write!(out, "{}.{slot}", frame.number()),
-    }
-}
-
-pub fn write_outcome<O: Write>(out: &mut O, outcome: Outcome) -> io::Result<()> {
+pub fn write_outcome(out: &mut Answers, outcome: Outcome) {
     match outcome {
-        Outcome::Value(value) => write!(out, "{value}"),
-        Outcome::TooDeep => write!(out, "deep"),
+        Outcome::Value(value) => out.signed(value),
+        Outcome::TooDeep => out.text("deep"),
     }
 }
 
-pub fn write_grant<O: Write>(out: &mut O, grant: GrantId) -> io::Result<()> {
-    write_actor(out, grant.minter())?;
-    write!(out, "/{}", grant.number())
+pub fn write_grant(out: &mut Answers, grant: GrantId) {
+    write_actor(out, grant.minter());
+    write_field(out, "/", grant.number());
 }
 
-fn write_actor<O: Write>(out: &mut O, actor: Actor) -> io::Result<()> {
+fn write_actor(out: &mut Answers, actor: Actor) {
     match actor.epoch() {
-        Some(epoch) => write!(out, "house:{epoch}"),
-        None => write!(out, "{}", actor.word()),
+        Some(epoch) => write_field(out, "house:", epoch),
+        None => out.number(actor.word()),
     }
 }
 
-fn write_address<O: Write>(out: &mut O, address: Address) -> io::Result<()> {
+fn write_address(out: &mut Answers, address: Address) {
     match Actor::of(address.word()) {
         Some(actor) => write_actor(out, actor),
-        None => write!(out, "house"),
+        None => out.text("house"),
     }
 }
