@@ -9,9 +9,10 @@ ends has the value 144, and its trace replays to it; of some, what was counted i
 at least half of them end, all others have spent their turns, and few nodes leave to a worker that has crashed. Then
 come runs under a gate that holds a body until the next one has begun, which only another thread can do, and under one
 that holds a body while each node crashes or leaves; nodes that crash with many turns of their body workers on the way;
-one node that crashes twice and its log, nodes that share their work, packets that are lost or come twice, a node that
-leaves, rows of the examples on one to 64 nodes, runs whose threads can't all be made, one that waits for a thread, and
-options that are refused. The last line counts; the status is 1 where anything failed.
+one node that crashes twice and its log, nodes that share their work, tasks that are evaluated whole, with values that
+evaluations kept which didn't come to their end, packets that are lost or come twice, a node that leaves, rows of the
+examples on one to 64 nodes, runs whose threads can't all be made, one that waits for a thread, and options that are
+refused. The last line counts; the status is 1 where anything failed.
 """
 import os
 import re
@@ -33,6 +34,12 @@ BUILT = PROGRAM if len(sys.argv) > 1 else f"{TOP}/crates/cilknow/out/cilknow"
 FIB = f"{EXAMPLES}/fib.ck"
 # The turns of FIB 20: each call is one, and each sum.
 TURNS_OF_20 = 32_836
+# A comb: some levels, each with a FIB of 15 beside it, whose kid comes first or last.
+COMB = (
+    "thread main(k,n){if n<1{send_argument(k,0);}else{spawn_next sum(k,?x,?y);spawn main(%s,n-1);spawn fib(%s,15);}}"
+    "thread sum(k,x,y){send_argument(k,x+y);}"
+    "thread fib(k,n){if n<2{send_argument(k,n);}else{spawn_next sum(k,?x,?y);spawn fib(x,n-1);spawn fib(y,n-2);}}"
+)
 # So many turns: a run that takes more ends with E95.
 TURNS = "100000000"
 # A library by which one of the threads that a program makes, told by its number, begins so many seconds late, or is
@@ -261,6 +268,31 @@ def wholes(folder):
             tell("\nwhole " in it.read(), f"whole {word}: no task is evaluated whole")
 
 
+def kept_values(folder):
+    """Tasks that take more turns than are allowed: the node uses the values that their evaluations kept, so that few turns are evaluated more
+    than once, also where the large ones form a chain, with a small one before or behind each, and where that chain is too deep."""
+    for name, program, grain, most, word, value in (
+        ("fib", None, "20000", 1.1, "25", "value 75025"),
+        ("fib, less at once", None, "2000", 1.15, "20", "value 6765"),
+        ("a comb that is evaluated from behind", ("x", "y"), "20000", 1.5, "900", "value 549000"),
+        ("a comb that is evaluated from the front", ("y", "x"), "20000", 1.5, "900", "value 549000"),
+        ("a comb that is too deep", ("y", "x"), "20000", 2, "2000", "too deep"),
+    ):
+        file = FIB
+        if program:
+            file = f"{folder}/comb.ck"
+            with open(file, "w") as out:
+                out.write(COMB % program)
+        _, _, err = called(PROGRAM, "serial", file, "--stats", word)
+        needed = int(re.search(r"^turns (\d+)$", err, re.M).group(1))
+        status, out, err = called(PROGRAM, "run", file, "--bodies", "1", "--grain", grain, "--turns", TURNS, "--stats", word)
+        tell((status, out) == (0, f"{value}\n"), f"kept, {name}: {status} {out}{err}")
+        told = dict(line.rsplit(" ", 1) for line in err.splitlines())
+        taken = sum(int(told.get(it, 0)) for it in ("turns", "turns in them", "turns evaluated in vain"))
+        tell(taken <= most * needed, f"kept, {name}: {taken} turns for {needed}")
+        tell(int(told.get("values kept and used", 0)) > 0, f"kept, {name}: no value that was kept is used")
+
+
 def fates(folder):
     """Packets that are lost or come twice, and a node that leaves."""
     lines = traced(folder, "repeated", 144, "--nodes", "2", "--repeat", "1", "12")
@@ -380,6 +412,7 @@ with tempfile.TemporaryDirectory() as folder:
     departures(folder)
     shares(folder)
     wholes(folder)
+    kept_values(folder)
     fates(folder)
     few_threads(folder)
     late_thread(folder, 2)

@@ -177,7 +177,7 @@ fn job_words<'a>(
 
 /// A subcommand that takes a run.
 fn run_words<'a>(alloc: Global) -> Result<Command<'a>, AllocError> {
-    job_words(alloc, "run", RUN, helps::RUN)?
+    let command = job_words(alloc, "run", RUN, helps::RUN)?
         .arg(number_word(
             alloc,
             "nodes",
@@ -198,7 +198,14 @@ fn run_words<'a>(alloc: Global) -> Result<Command<'a>, AllocError> {
                 .help(
                     "Tasks of at most so many turns are evaluated whole on nodes, none for 0; 100000 where it isn't given, or 0 with faults or `--trace`",
                 ),
-        )?
+        )?;
+    let command = with_fault_words(alloc, command)?;
+    with_file_words(alloc, command)
+}
+
+/// The words by which faults come to a run.
+fn with_fault_words<'a>(alloc: Global, command: Command<'a>) -> Result<Command<'a>, AllocError> {
+    command
         .arg(number_word(alloc, "faults", "1", "The word from which faults are drawn"))?
         .arg(number_word(
             alloc,
@@ -218,7 +225,12 @@ fn run_words<'a>(alloc: Global) -> Result<Command<'a>, AllocError> {
             "depart",
             "0",
             "So many nodes leave, fewer than there are",
-        ))?
+        ))
+}
+
+/// The files that a run reads or writes.
+fn with_file_words<'a>(alloc: Global, command: Command<'a>) -> Result<Command<'a>, AllocError> {
+    command
         .arg(
             Arg::new(alloc, "store")
                 .long("store")

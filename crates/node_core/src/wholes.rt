@@ -54,7 +54,7 @@ impl<'a> Node<'a> {
         let Some(work) = work_in(alloc, grant, sub, frame)? else {
             return Err(NodeError::Stale);
         };
-        let mut keeper = Keeper::new(alloc, 0);
+        let mut keeper = Keeper::new(alloc, checked, 0);
         match Whole::of(
             alloc,
             checked,

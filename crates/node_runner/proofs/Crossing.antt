@@ -31,6 +31,7 @@ use Rattle.ids.proofs.short_list.ShortList.TheSendSync as short
 use Rattle.local_pool.specs.contracts.owner.Owner as Owner
 use Rattle.local_pool.specs.contracts.worker.BodyWorker as BodyWorker
 use Rattle.node_runner.specs.contracts.desk.Desk as Desk
+use Rattle.node_runner.specs.contracts.desk.Home as Home
 use Rattle.event_script.specs.contracts.event.FrameOf as FrameOf
 use Rattle.node_runner.specs.contracts.desk.Ticket as Ticket
 use Rattle.node_runner.specs.contracts.turn.Evaluated as Evaluated
@@ -38,6 +39,7 @@ use Rattle.node_runner.specs.contracts.turn.Found as Found
 use Rattle.serial_meaning.specs.contracts.whole.Whole as Whole
 use Rattle.serial_meaning.specs.contracts.keeping.UnderWay as UnderWay
 use Rattle.node_runner.specs.contracts.turn.Finished as Finished
+use Rattle.node_runner.specs.contracts.kept.KeptValues as KeptValues
 use Rattle.node_runner.specs.contracts.line.Line as Line
 use Rattle.node_runner.specs.contracts.pace.Pace as Pace
 use Rattle.node_runner.specs.contracts.shared.Shared as Shared
@@ -95,6 +97,9 @@ done = search (sendable, listed.the_send, short.the_send, crosses) depth 25
 whole : IsSend Whole.the_row
 whole = search (sendable, short.the_send, crosses) depth 25
 
+wholes : IsSend (Vec.the_row Whole.the_row Heap.the_row ghosts)
+wholes = Vec-send Whole.the_row whole
+
 under_way : IsSend UnderWay.the_row
 under_way = search (sendable, short.the_send, crosses) depth 25
 
@@ -105,7 +110,7 @@ found_field : IsSend (Found.the_field).row
 found_field = enum_send (cases Found.the_type) ((search (sendable, done) depth 12, tt), ((search (sendable, whole) depth 12, tt), tt))
 
 evaluated_field : IsSend (Evaluated.the_field).row
-evaluated_field = struct_send (shape Evaluated.the_type) (search sendable depth 12, (search sendable depth 12, (found_field, (search (sendable, under_ways) depth 12, tt))))
+evaluated_field = struct_send (shape Evaluated.the_type) (search sendable depth 12, (search sendable depth 12, (found_field, (search (sendable, wholes) depth 12, (search (sendable, under_ways) depth 12, (search sendable depth 12, tt))))))
 
 evaluated : IsSend Evaluated.the_row
 evaluated = recorded_send (Evaluated.the_field).row _ _ (Evaluated.the_type).to_one evaluated_field
@@ -115,6 +120,12 @@ finished = search (sendable, evaluated, crosses) depth 25
 
 line_field : IsSend (Line.the_field).row
 line_field = struct_send (shape Line.the_type) (search (sendable, finished, queue.the_send, queue.the_sync, crosses) depth 25, (search (sendable, finished, pass.the_send) depth 25, tt))
+
+kept : IsSend KeptValues.the_row
+kept = search (sendable, wholes, crosses) depth 25
+
+home_field : IsSend (Home.the_field).row
+home_field = struct_send (shape Home.the_type) (line_field, (search (sendable, kept) depth 12, tt))
 
 own : IsSend (Owner.the_row Ticket.the_row)
 own = search (sendable, owner.the_send, ticket) depth 25
@@ -129,7 +140,7 @@ desk_field : IsSend (Desk.the_field).row
 desk_field = struct_send (shape Desk.the_type) (
   search (sendable, own) depth 12,
   (
-    line_field,
+    home_field,
     (
       search (sendable, bells.the_send, bells.the_sync, crosses) depth 25,
       (
@@ -141,10 +152,13 @@ desk_field = struct_send (shape Desk.the_type) (
             (
               search sendable depth 12,
               (
-                search (sendable, crosses) depth 12,
+                search sendable depth 12,
                 (
-                  search (sendable, frames) depth 12,
-                  tt,
+                  search (sendable, crosses) depth 12,
+                  (
+                    search (sendable, frames) depth 12,
+                    tt,
+                  ),
                 ),
               ),
             ),

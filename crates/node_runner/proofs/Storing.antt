@@ -1,5 +1,5 @@
 -- A run over a store, by what the store says before it and between its calls.
-use Rattle.std.proofs.Common.{◌≡◌, ◌⊎◌, ℕ, ◌+◌, List, Option, None, Some, Result, Ok, Err, IfOk, IfSome, inl, inr, refl, sym, ◌∙◌}
+use Rattle.std.proofs.Common.{◌≡◌, ℕ, ◌+◌, List, Option, None, Some, Result, Ok, IfOk, IfSome, inl, inr, refl}
 use Rattle.ids.specs.declared.outcome.Outcome.{Outcome}
 use Rattle.disk.specs.declared.cells.Cell.{Cell}
 use Rattle.checkpoint.specs.Moments.{KeepsEither}

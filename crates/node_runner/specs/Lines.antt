@@ -5,6 +5,7 @@ use Rattle.std.specs.declared.snapshot.Snapshot.{Snapshot}
 use Rattle.task_tree.specs.declared.tree.Program.{Program}
 use Rattle.local_pool.specs.Turns.{PassOf, QueueOf}
 use Rattle.node_runner.specs.Turns.{FinishedOf, stamp}
+use Rattle.node_runner.specs.declared.desk.Home.{Home}
 use Rattle.node_runner.specs.declared.line.Line.{Line}
 
 -- the pass is of this queue, all turns of which are of the program
@@ -13,3 +14,7 @@ IsPassFor program queue pass = (pass.queue ≡ queue.queue) × (pass.stamp ≡ S
 
 abbrev pub IsLineOf : Program → Line → Type 0
 IsLineOf program line = IsPassFor program (arc_value line.queue) line.pass
+
+-- what a node has of turns and values is of the program
+abbrev pub IsHomeOf : Program → Home → Type 0
+IsHomeOf program home = IsLineOf program home.line × (home.kept ≡ program)

@@ -4,7 +4,7 @@ use Rattle.serial_meaning.specs.Job.{JobOf, meaning_of}
 use Rattle.chronicle.specs.History.{IsSafeHistory, first_outcome}
 use Rattle.chronicle.specs.Seats.{ChronicleOf, IsSeatIn}
 use Rattle.start_words.specs.Words.{IsPenOf, TableOf}
-use Rattle.node_runner.specs.Lines.{IsLineOf}
+use Rattle.node_runner.specs.Lines.{IsHomeOf, IsLineOf}
 use Rattle.node_runner.specs.declared.crew.ActorContext.{ActorContext}
 use Rattle.node_runner.specs.declared.crew.NodeContext.{NodeContext}
 use Rattle.node_runner.specs.declared.crew.WorkerContext.{WorkerContext}
@@ -18,7 +18,7 @@ pub record IsRanOf (job : JobOf) (ran : Ran) : Type 0 where
 
 -- what a node has besides its seat: a pen of a table of start words, and a desk for turns of the job's program
 abbrev pub IsNodeIn : JobOf → TableOf → NodeContext → Type 0
-IsNodeIn job words node = IsPenOf words node.pen × IsLineOf job.program node.desk.line
+IsNodeIn job words node = IsPenOf words node.pen × IsHomeOf job.program node.desk.home
 
 -- an actor's context, in a chronicle
 abbrev pub IsContextIn : ChronicleOf → TableOf → ActorContext → Type 0

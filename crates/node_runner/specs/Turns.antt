@@ -2,17 +2,18 @@
 use Rattle.std.specs.Prelude.{◌≡◌, Option, IfSome}
 use Rattle.std.specs.declared.snapshot.Snapshot.{Snapshot}
 use Rattle.task_tree.specs.declared.tree.Program.{Program}
+use Rattle.serial_meaning.specs.Whole.{AreWholesOf}
 use Rattle.node_runner.specs.declared.turn.Evaluated.{Evaluated}
 use Rattle.node_runner.specs.declared.turn.Found.{Found}
 use Rattle.node_runner.specs.declared.turn.Found.TheVariants.{Turn, Whole}
 
--- what was found is of a program, and so is what was evaluated
+-- what was found is of a program, and so is what was evaluated, and all values that were kept
 abbrev pub IsFoundOf : Program → Found → Type 0
 IsFoundOf p (Turn d) = d.program ≡ p
 IsFoundOf p (Whole w) = w.program ≡ p
 
 abbrev pub IsEvaluatedOf : Program → Evaluated → Type 0
-IsEvaluatedOf p e = IsFoundOf p e.found
+IsEvaluatedOf p e = IsFoundOf p e.found × AreWholesOf p e.kept.items
 
 -- a program, and what was evaluated of it, if something was
 pub record FinishedOf : Type 0 where

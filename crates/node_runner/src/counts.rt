@@ -35,6 +35,7 @@ pub(crate) struct Counts {
     events: CachePadded<AtomicU64>,
     bodies: CachePadded<AtomicU64>,
     vain: AtomicU64,
+    used: AtomicU64,
     end: CachePadded<AtomicU64>,
 }
 
@@ -71,6 +72,7 @@ impl Counts {
             events: CachePadded::new(AtomicU64::new(0)),
             bodies: CachePadded::new(AtomicU64::new(0)),
             vain: AtomicU64::new(0),
+            used: AtomicU64::new(0),
             end: CachePadded::new(AtomicU64::new(0)),
         }
     }
@@ -124,9 +126,20 @@ impl Counts {
         let _ = self.turns.fetch_sub(turns, SeqCst);
     }
 
-    /// So many turns were evaluated in vain.
+    /// So many turns were evaluated in vain, but for those of values that were kept, as long as none of these is used.
     pub(crate) fn wastes(&self, turns: u64) {
         let _ = self.vain.fetch_add(turns, SeqCst);
+    }
+
+    /// A value was used that an evaluation kept: its turns weren't taken in vain.
+    pub(crate) fn uses(&self, turns: u64) {
+        let _ = self.used.fetch_add(1, SeqCst);
+        let _ = self.vain.fetch_sub(turns, SeqCst);
+    }
+
+    /// How many values were used that evaluations kept.
+    pub(crate) fn used(&self) -> u64 {
+        self.used.load(SeqCst)
     }
 
     /// How many turns were evaluated in vain.

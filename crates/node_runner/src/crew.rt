@@ -2,11 +2,12 @@ ghost use Rattle.std.specs.Prelude.{◌≡◌, ◌≤◌, All, IfOk, IfSome, vec
 ghost use Rattle.chronicle.specs.Seats.{ChronicleOf, IsSeatIn};
 ghost use Rattle.start_words.specs.Words.{IsPenOf, TableOf};
 ghost use Rattle.std.specs.Arc.{arc_value};
-ghost use Rattle.node_runner.specs.Lines.{IsLineOf, IsPassFor};
+ghost use Rattle.node_runner.specs.Lines.{IsHomeOf, IsPassFor};
 ghost use Rattle.node_runner.specs.Runs.{IsContextIn, IsNodeIn, IsWorkerOf};
 
 use crate::bells::Bells;
-use crate::desk::{Desk, Ticket};
+use crate::desk::{Desk, Home, Ticket};
+use crate::kept::KeptValues;
 use crate::line::Line;
 use crate::turn::Finished;
 use chronicle::ActorSeat;
@@ -112,7 +113,7 @@ fn desk_of<R: Wait>(
     workers: &mut Vec<WorkerContext>,
 ) -> Result<Desk, AllocError>
     requires { bodies ≤ 8 }
-    ensures desk { IfOk result (λ d. IsLineOf job.now.program d.line) }
+    ensures desk { IfOk result (λ d. IsHomeOf job.now.program d.home) }
     ensures workers { All (IsWorkerOf job.now) workers.old.items → All (IsWorkerOf job.now) workers.new.items }
 {
     let bodies = usize::from(bodies);
@@ -125,7 +126,11 @@ fn desk_of<R: Wait>(
     };
     let bells = Arc::new(alloc, Bells::new(bodies))?;
     hire(job, &queue, &bells, thieves, passes, workers)?;
-    let desk = Desk::new(alloc, owner, Line { queue, pass }, bells, bodies, grain)?;
+    let home = Home {
+        line: Line { queue, pass },
+        kept: KeptValues::new(alloc, job.checked()),
+    };
+    let desk = Desk::new(alloc, owner, home, bells, bodies, grain)?;
     Ok(desk)
 }
 

@@ -1,8 +1,9 @@
 ghost use Rattle.std.specs.Prelude.{◌≡◌, IfOk, IfSome};
-ghost use Rattle.node_runner.specs.Lines.{IsLineOf};
+ghost use Rattle.node_runner.specs.Lines.{IsHomeOf};
 ghost use Rattle.node_runner.specs.Turns.{IsFoundOf};
 
 use crate::bells::Bells;
+use crate::kept::{KeptValues, LEVELS};
 use crate::line::Line;
 use crate::turn::{Evaluated, Found};
 use chronicle::frame_of;
@@ -10,7 +11,7 @@ use event_script::FrameOf;
 use kind_check::Checked;
 use local_pool::Owner;
 use node_core::Work;
-use serial_meaning::UnderWay;
+use serial_meaning::{UnderWay, Whole};
 use std::alloc::{AllocError, Global};
 use std::sync::{Arc, Wait};
 
@@ -21,12 +22,20 @@ const TICKETS: usize = 2;
 const MOST_LARGE: usize = 4_096;
 
 /// A ready frame of a node that waits for a body worker, with the number of the ticket, and in at most how many turns its task is to be
-/// evaluated whole; 0 where only its own turn is.
+/// evaluated whole; 0 where only its own turn is. On so many levels below it is kept what was finished and what was under way.
 #[derive(Drop)]
 pub(crate) struct Ticket {
     pub(crate) number: u64,
     pub(crate) work: Work,
     pub(crate) most_turns: u64,
+    pub(crate) levels: u16,
+}
+
+/// What comes to a node of its job's program: turns that come back, and values that evaluations kept.
+#[derive(Drop)]
+pub(crate) struct Home {
+    pub(crate) line: Line,
+    pub(crate) kept: KeptValues,
 }
 
 /// What came back, without what the desk keeps of it: the frame, and what was found for it.
@@ -41,13 +50,15 @@ pub(crate) struct Returned {
 #[derive(Drop)]
 pub(crate) struct Desk {
     owner: Owner<Ticket>,
-    pub(crate) line: Line,
+    pub(crate) home: Home,
     bells: Arc<Bells, Global>,
     workers: usize,
     // In at most how many turns a task is evaluated whole; 0 where each frame takes its own turn.
     grain: u64,
-    // Tasks that were under way where an evaluation ran out of turns.
+    // Tasks that were under way where an evaluation didn't come to its end.
     large: Vec<UnderWay>,
+    // On how many levels the next evaluation keeps values.
+    levels: u16,
     next: u64,
     // The tickets that are out, and the frame of each at the same index.
     tickets: Vec<u64>,
@@ -59,21 +70,22 @@ impl Desk {
     pub(crate) fn new(
         alloc: Global,
         owner: Owner<Ticket>,
-        line: Line,
+        home: Home,
         bells: Arc<Bells, Global>,
         workers: usize,
         grain: u64,
     ) -> Result<Desk, AllocError>
-        ensures { IfOk result (λ d. d.line ≡ line) }
+        ensures { IfOk result (λ d. d.home ≡ home) }
     {
         let room = workers.saturating_mul(TICKETS);
         Ok(Desk {
             owner,
-            line,
+            home,
             bells,
             workers,
             grain,
             large: Vec::new(alloc),
+            levels: LEVELS,
             next: 0,
             tickets: Vec::with_capacity(alloc, room)?,
             frames: Vec::with_capacity(alloc, room)?,
@@ -107,7 +119,7 @@ impl Desk {
 
     /// Offers a ready frame to the workers; whether it is out now. It isn't where there is no memory, and may be offered again.
     pub(crate) fn offer(&mut self, work: Work) -> bool
-        ensures { self.new.line ≡ self.old.line }
+        ensures { self.new.home ≡ self.old.home }
     {
         let number = self.next;
         if !self.notes(number, frame_of(&work)) {
@@ -117,6 +129,7 @@ impl Desk {
             number,
             most_turns: self.most_turns(&work),
             work,
+            levels: self.levels,
         };
         if self.owner.offer(ticket).is_err() {
             self.removes(number);
@@ -130,7 +143,7 @@ impl Desk {
     /// In at most how many turns a ready frame's task is to be evaluated whole: only its own turn is where it is known to be large, which it
     /// isn't any more then.
     fn most_turns(&mut self, work: &Work) -> u64
-        ensures { self.new.line ≡ self.old.line }
+        ensures { self.new.home ≡ self.old.home }
     {
         if self.grain == 0 {
             return 0;
@@ -142,10 +155,29 @@ impl Desk {
         0
     }
 
-    /// Tasks are known to be large, as far as there is memory.
-    fn learns(&mut self, mut large: Vec<UnderWay>)
-        ensures { self.new.line ≡ self.old.line }
+    /// Whether the value of a ready frame's task is kept here.
+    pub(crate) fn has_value(&self, work: &Work) -> bool {
+        self.home.kept.has(work)
+    }
+
+    /// The value of a ready frame's task, where an evaluation kept it. It isn't kept any more then.
+    pub(crate) fn value_of(&mut self, checked: &Checked, work: &Work) -> Option<Whole>
+        requires { IsHomeOf checked.now self.old.home }
+        ensures home { self.new.home ≡ self.old.home }
+        ensures own { IfSome result (λ w. w.program ≡ checked.now) }
     {
+        let _ = checked;
+        self.home.kept.take(work)
+    }
+
+    /// Tasks were under way where an evaluation didn't come to its end: they are known to be large, as far as there is memory. Those that follow
+    /// keep values on so many levels.
+    fn learns(&mut self, mut large: Vec<UnderWay>, levels: u16)
+        ensures { self.new.home ≡ self.old.home }
+    {
+        if !large.is_empty() {
+            self.levels = levels;
+        }
         if self.large.len() >= MOST_LARGE {
             self.large.clear();
         }
@@ -154,7 +186,7 @@ impl Desk {
 
     /// A ticket is out. Whether there was memory.
     fn notes(&mut self, ticket: u64, frame: FrameOf) -> bool
-        ensures { self.new.line ≡ self.old.line }
+        ensures { self.new.home ≡ self.old.home }
     {
         if self.tickets.push(ticket).is_err() {
             return false;
@@ -168,24 +200,27 @@ impl Desk {
 
     /// What comes back next, if something does. Its ticket isn't out any more.
     pub(crate) fn take<R: Wait>(&mut self, rt: &R, checked: &Checked) -> Option<Returned>
-        requires { IsLineOf checked.now self.old.line }
-        ensures line { IsLineOf checked.now self.new.line }
+        requires { IsHomeOf checked.now self.old.home }
+        ensures home { IsHomeOf checked.now self.new.home }
         ensures own { IfSome result (λ r. IsFoundOf checked.now r.found) }
     {
         let Evaluated {
             ticket,
             frame,
             found,
+            kept,
             under_way,
-        } = self.line.take(rt, checked)?;
+            levels,
+        } = self.home.line.take(rt, checked)?;
         self.removes(ticket);
-        self.learns(under_way);
+        self.learns(under_way, levels);
+        self.home.kept.add(kept);
         Some(Returned { frame, found })
     }
 
     /// Takes those tickets back that no worker has begun, and forgets them.
     pub(crate) fn takes_back(&mut self)
-        ensures { self.new.line ≡ self.old.line }
+        ensures { self.new.home ≡ self.old.home }
     {
         for _ in 0..self.tickets.len() {
             let Some(ticket) = self.owner.take_own() else {
@@ -198,17 +233,18 @@ impl Desk {
 
     /// Takes tickets back, and forgets all others too.
     pub(crate) fn forgets(&mut self)
-        ensures { self.new.line ≡ self.old.line }
+        ensures { self.new.home ≡ self.old.home }
     {
         self.takes_back();
         self.tickets.clear();
         self.frames.clear();
         self.large.clear();
+        self.home.kept.clear();
     }
 
     /// A ticket isn't out any more.
     fn removes(&mut self, ticket: u64)
-        ensures { self.new.line ≡ self.old.line }
+        ensures { self.new.home ≡ self.old.home }
     {
         let Some(index) = self.tickets.iter().position(|out| *out == ticket) else {
             return;

@@ -37,6 +37,7 @@ mod fates;
 mod gate;
 mod house;
 mod inbox;
+mod kept;
 mod line;
 mod members;
 mod muster;

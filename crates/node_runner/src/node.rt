@@ -1,6 +1,6 @@
 ghost use Rattle.std.specs.Prelude.{◌≡◌};
 ghost use Rattle.chronicle.specs.Seats.{IsSeatIn};
-ghost use Rattle.node_runner.specs.Lines.{IsLineOf};
+ghost use Rattle.node_runner.specs.Lines.{IsHomeOf};
 ghost use Rattle.node_runner.specs.Turns.{IsFoundOf};
 
 use crate::counts::{Counts, End, Turns};
@@ -14,7 +14,7 @@ use crate::resting::{YIELDS, asks_in_vain, nap, pause, pauses, rest, rest_idle, 
 use crate::shared::{Shared, commit, commit_turn, commit_whole};
 use crate::turn::Found;
 use body_eval::Done;
-use chronicle::{ActorSeat, Continued, Receiver};
+use chronicle::{ActorSeat, Continued, Receiver, frame_of};
 use event_script::{Event, FrameOf, NodeEvent, NodePlace};
 use node_core::NodeError;
 use serial_meaning::Whole;
@@ -86,7 +86,7 @@ pub(crate) fn run_node<'a, R: Wait + Clock, G: Gate + Sync>(
 ) -> ActorSeat<'a>
     requires seat { IsSeatIn shared.now.chronicle.now seat }
     requires pen { pen.table ≡ shared.now.words.now.table }
-    requires line { IsLineOf shared.now.chronicle.now.job.program desk.line }
+    requires home { IsHomeOf shared.now.chronicle.now.job.program desk.home }
     ensures { IsSeatIn shared.entry.now.chronicle.now result }
 {
     let mut note = shared.board.note();
@@ -146,10 +146,10 @@ fn turn<'a, R: Wait + Clock, G: Gate + Sync>(
 ) -> bool
     requires seat { IsSeatIn shared.now.chronicle.now seat.old }
     requires pen { pen.old.table ≡ shared.now.words.now.table }
-    requires line { IsLineOf shared.now.chronicle.now.job.program desk.old.line }
+    requires home { IsHomeOf shared.now.chronicle.now.job.program desk.old.home }
     ensures seat { IsSeatIn shared.entry.now.chronicle.now seat.new }
     ensures pen { pen.new.table ≡ shared.entry.now.words.now.table }
-    ensures line { IsLineOf shared.entry.now.chronicle.now.job.program desk.new.line }
+    ensures home { IsHomeOf shared.entry.now.chronicle.now.job.program desk.new.home }
 {
     let events = shared.counts.events();
     if node.plans.crashes(events) && !node.leaves {
@@ -189,10 +189,10 @@ fn goes_on<'a, R: Wait + Clock, G: Gate + Sync>(
 ) -> bool
     requires seat { IsSeatIn shared.now.chronicle.now seat.old }
     requires pen { pen.old.table ≡ shared.now.words.now.table }
-    requires line { IsLineOf shared.now.chronicle.now.job.program desk.old.line }
+    requires home { IsHomeOf shared.now.chronicle.now.job.program desk.old.home }
     ensures seat { IsSeatIn shared.entry.now.chronicle.now seat.new }
     ensures pen { pen.new.table ≡ shared.entry.now.words.now.table }
-    ensures line { IsLineOf shared.entry.now.chronicle.now.job.program desk.new.line }
+    ensures home { IsHomeOf shared.entry.now.chronicle.now.job.program desk.new.home }
 {
     match node.inbox.take(rt, alloc, shared.chronicle, seat) {
         Ok(Some(delivered)) => return takes(alloc, shared, node, &delivered),
@@ -205,8 +205,10 @@ fn goes_on<'a, R: Wait + Clock, G: Gate + Sync>(
     if let Some(returned) = desk.take(rt, shared.chronicle.job().checked()) {
         return executes(rt, alloc, shared, seat, desk, node, &returned);
     }
-    if offers(rt, alloc, shared, seat, desk, node) {
-        return true;
+    match offers(rt, alloc, shared, seat, desk, node) {
+        Some(true) => return true,
+        Some(false) => {}
+        None => return false,
     }
     if !node.has_asked && !node.plans.leaves() && !desk.is_busy() {
         if node.pauses > 0 {
@@ -277,7 +279,7 @@ fn crashes<'a, R: Wait, G: Gate + Sync>(
     requires pen { pen.old.table ≡ shared.now.words.now.table }
     ensures seat { IsSeatIn shared.entry.now.chronicle.now seat.new }
     ensures pen { pen.new.table ≡ shared.entry.now.words.now.table }
-    ensures line { desk.new.line ≡ desk.old.line }
+    ensures home { desk.new.home ≡ desk.old.home }
 {
     desk.forgets();
     let event = Event::Crash(node.place);
@@ -315,7 +317,7 @@ fn departs<'a, R: Wait, G: Gate + Sync>(
 ) -> bool
     requires { IsSeatIn shared.now.chronicle.now seat.old }
     ensures seat { IsSeatIn shared.entry.now.chronicle.now seat.new }
-    ensures line { desk.new.line ≡ desk.old.line }
+    ensures home { desk.new.home ≡ desk.old.home }
 {
     let Some(heir) = node.members.heir(node.word) else {
         return true;
@@ -345,7 +347,7 @@ fn sends_again<'a, R: Wait, G: Gate + Sync>(
     requires pen { pen.old.table ≡ shared.now.words.now.table }
     ensures seat { IsSeatIn shared.entry.now.chronicle.now seat.new }
     ensures pen { pen.new.table ≡ shared.entry.now.words.now.table }
-    ensures line { desk.new.line ≡ desk.old.line }
+    ensures home { desk.new.home ≡ desk.old.home }
 {
     node.sent = shared.counts.events();
     node.holds = true;
@@ -387,7 +389,8 @@ fn takes<G: Gate + Sync>(
     true
 }
 
-/// A ready frame that isn't out is offered to the body workers, if they take one more. Whether one was.
+/// A ready frame that isn't out is carried out by its task's value, where an evaluation kept it; else it is offered to the body workers, if
+/// they take one more. Whether one was; none where there was no memory.
 fn offers<'a, R: Wait, G: Gate + Sync>(
     rt: &R,
     alloc: Global,
@@ -395,22 +398,30 @@ fn offers<'a, R: Wait, G: Gate + Sync>(
     seat: &mut ActorSeat<'a>,
     desk: &mut Desk,
     node: &mut Node,
-) -> bool
-    requires { IsSeatIn shared.now.chronicle.now seat.old }
-    ensures seat { seat.new ≡ seat.old }
-    ensures line { desk.new.line ≡ desk.old.line }
+) -> Option<bool>
+    requires seat { IsSeatIn shared.now.chronicle.now seat.old }
+    requires home { IsHomeOf shared.now.chronicle.now.job.program desk.old.home }
+    ensures seat { IsSeatIn shared.entry.now.chronicle.now seat.new }
+    ensures home { desk.new.home ≡ desk.old.home }
 {
     if !node.may_be_ready || desk.is_full() {
-        return false;
+        return Some(false);
     }
     let Some(work) = shared
         .chronicle
         .ready(rt, alloc, seat, node.place, desk.frames())
     else {
         node.may_be_ready = false;
-        return false;
+        return Some(false);
     };
-    desk.offer(work)
+    let Some(whole) = desk.value_of(shared.chronicle.job().checked(), &work) else {
+        return Some(desk.offer(work));
+    };
+    if !sends_whole(rt, alloc, shared, seat, desk, node, frame_of(&work), &whole) {
+        return None;
+    }
+    shared.counts.uses(whole.turns());
+    Some(true)
 }
 
 /// A frame of the node is carried out by what a body worker found for it. Whether there was memory.
@@ -426,7 +437,7 @@ fn executes<'a, R: Wait, G: Gate + Sync>(
     requires seat { IsSeatIn shared.now.chronicle.now seat.old }
     requires own { IsFoundOf shared.now.chronicle.now.job.program returned.now.found }
     ensures seat { IsSeatIn shared.entry.now.chronicle.now seat.new }
-    ensures line { desk.new.line ≡ desk.old.line }
+    ensures home { desk.new.home ≡ desk.old.home }
 {
     match &returned.found {
         Found::Turn(turn) => takes_turn(rt, alloc, shared, seat, desk, node, returned.frame, turn),
@@ -450,7 +461,7 @@ fn takes_turn<'a, R: Wait, G: Gate + Sync>(
     requires seat { IsSeatIn shared.now.chronicle.now seat.old }
     requires own { turn.now.program ≡ shared.now.chronicle.now.job.program }
     ensures seat { IsSeatIn shared.entry.now.chronicle.now seat.new }
-    ensures line { desk.new.line ≡ desk.old.line }
+    ensures home { desk.new.home ≡ desk.old.home }
 {
     let event = Event::AtNode(node.place, NodeEvent::Exec(frame));
     let (chronicle, counts) = (shared.chronicle, shared.counts);
@@ -485,7 +496,7 @@ fn sends_whole<'a, R: Wait, G: Gate + Sync>(
     requires seat { IsSeatIn shared.now.chronicle.now seat.old }
     requires own { whole.now.program ≡ shared.now.chronicle.now.job.program }
     ensures seat { IsSeatIn shared.entry.now.chronicle.now seat.new }
-    ensures line { desk.new.line ≡ desk.old.line }
+    ensures home { desk.new.home ≡ desk.old.home }
 {
     let event = Event::AtNode(node.place, NodeEvent::Whole(frame, whole.turns()));
     let (chronicle, counts) = (shared.chronicle, shared.counts);
@@ -506,9 +517,10 @@ fn sends_whole<'a, R: Wait, G: Gate + Sync>(
     true
 }
 
-/// A frame was carried out. A ready frame that was found right behind it is offered to the workers, if they take one more.
+/// A frame was carried out. A ready frame that was found right behind it is offered to the workers, if they take one more. One whose task's
+/// value is kept is found again in the next turn.
 fn follows(desk: &mut Desk, node: &mut Node, continued: Continued)
-    ensures { desk.new.line ≡ desk.old.line }
+    ensures { desk.new.home ≡ desk.old.home }
 {
     let Continued { committed, next } = continued;
     node.notes(committed.told);
@@ -516,7 +528,7 @@ fn follows(desk: &mut Desk, node: &mut Node, continued: Continued)
     node.pauses = 0;
     node.left_out = false;
     match next {
-        Some(work) if !desk.is_full() => {
+        Some(work) if !desk.is_full() && !desk.has_value(&work) => {
             desk.offer(work);
         }
         Some(_) => {}

@@ -60,7 +60,7 @@ pub fn run_job<'a, R: Threads + Wait + Clock + Sync, G: Gate + Sync>(
         }
         let counts = Counts::new(config.turns(), patience);
         let mut trace = traced(rt, alloc, job, config, gate, &counts)?;
-        trace.tell_kept(0, counts.vain());
+        trace.tell_kept(counts.used(), counts.vain());
         if let Some(outcome) = trace.outcome() {
             return Ok(Ran { outcome, trace });
         }

@@ -17,14 +17,16 @@ pub(crate) enum Found {
     Whole(Whole),
 }
 
-/// What a body worker evaluated: the number of the ticket, its frame, and what was found; and where the task took too many turns, which
-/// tasks below it were under way then.
+/// What a body worker evaluated: the number of the ticket, its frame, and what was found; and where its task wasn't evaluated to its end, what
+/// was kept of tasks below it, which ones were under way, and on how many levels the next evaluation should keep values.
 #[derive(Drop)]
 pub(crate) struct Evaluated {
     pub(crate) ticket: u64,
     pub(crate) frame: FrameOf,
     pub(crate) found: Found,
+    pub(crate) kept: Vec<Whole>,
     pub(crate) under_way: Vec<UnderWay>,
+    pub(crate) levels: u16,
 }
 
 /// What comes back from body workers, all of one program. The first one has nothing, and stands for the program. Contracts see both.

@@ -8,6 +8,7 @@ use crate::counts::{Counts, End, Turns};
 use crate::crew::WorkerContext;
 use crate::desk::Ticket;
 use crate::gate::Gate;
+use crate::kept::{LEVELS, levels_behind};
 use crate::line::Line;
 use crate::muster::musters;
 use crate::resting::{YIELDS, rest};
@@ -23,9 +24,6 @@ use std::alloc::Global;
 use std::sync::Wait;
 use std::thread::yield_now;
 use std::time::Clock;
-
-/// On how many levels below a task it is told what was under way, where it takes too many turns.
-const LEVELS: u16 = 10;
 
 /// A body worker's turns, until the run ends: it steals a ticket of its node, evaluates the frame once the gate lets it, and gives
 /// back what it found.
@@ -128,8 +126,8 @@ fn works<R: Wait + Clock, G: Gate + Sync>(
     )
 }
 
-/// Evaluates a ticket's task whole, in as many turns as it says or are left; where that isn't done, its frame's turn. None where there is no
-/// memory for that.
+/// Evaluates a ticket's task whole, in as many turns as it says or are left; where that isn't done, its frame's turn, with what was kept on
+/// the way. None where there is no memory for that.
 fn evaluates(
     alloc: Global,
     checked: &Checked,
@@ -149,7 +147,7 @@ fn evaluates(
         ..
     } = ticket.work;
     let most = counts.takes_for(ticket.most_turns);
-    let mut keeper = Keeper::new(alloc, LEVELS);
+    let mut keeper = Keeper::new(alloc, checked, ticket.levels);
     match Whole::of(
         alloc,
         checked,
@@ -166,18 +164,23 @@ fn evaluates(
                 ticket: ticket.number,
                 frame,
                 found: Found::Whole(whole),
+                kept: Vec::new(alloc),
                 under_way: Vec::new(alloc),
+                levels: LEVELS,
             })
         }
         Err((numbers, _)) => {
-            let (_, under_way) = keeper.into_parts();
+            let (kept, under_way) = keeper.into_parts();
+            let levels = levels_behind(kept.as_slice(), room, most);
             counts.wastes(most);
             let turn = Done::on(alloc, checked, thread, numbers).ok()?;
             Some(Evaluated {
                 ticket: ticket.number,
                 frame,
                 found: Found::Turn(turn),
+                kept,
                 under_way,
+                levels,
             })
         }
     }

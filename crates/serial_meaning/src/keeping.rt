@@ -1,11 +1,14 @@
 //! What an evaluation keeps of the tasks that it finished, for where it doesn't come to its own end.
 ghost use Rattle.std.specs.Prelude.{◌≡◌, ◌≤◌, true, false, is_some, drop, take, vec_len, IfOk, Some};
 ghost use Rattle.serial_meaning.specs.Serial.{serial, serial_turns};
+ghost use Rattle.serial_meaning.specs.Whole.{AreWholesOf};
 
 use crate::whole::Whole;
 use ids::Numbers;
 use kind_check::Checked;
 use std::alloc::{AllocError, Global};
+use std::marker::Model;
+use std::snapshot::Snapshot;
 
 /// How many tasks an evaluation had finished, and how many were under way, when a kid began.
 #[derive(Clone, Copy)]
@@ -16,12 +19,19 @@ pub struct Mark {
 
 /// Who keeps what the kids of a task give, and theirs. Nothing of the evaluation hangs on it.
 pub trait KeepsValues {
+    ghost use Rattle.task_tree.specs.declared.tree.Program.{Program};
+
+    // The program of whose tasks values are kept.
+    ghost program: { Self → Program };
+
     /// A kid begins: a task of a thread, with so many places below its own, whose numbers stand from `start` to `end` on the stack. Some
     /// where what it gives is to be kept.
-    fn begins(&mut self, thread: u8, room: u16, start: usize, end: usize) -> Option<Mark>;
+    fn begins(&mut self, thread: u8, room: u16, start: usize, end: usize) -> Option<Mark>
+        ensures { program self.new ≡ program self.old };
 
     /// A task goes on as its successor, which is said in the same way.
-    fn goes_on(&mut self, thread: u8, room: u16, start: usize, end: usize);
+    fn goes_on(&mut self, thread: u8, room: u16, start: usize, end: usize)
+        ensures { program self.new ≡ program self.old };
 
     /// A kid that began with this mark gave a number, in so many turns.
     fn keeps(
@@ -34,8 +44,14 @@ pub trait KeepsValues {
         turns: u64,
         value: i64,
     )
+        requires same { program self.old ≡ checked.now }
         requires gives { serial checked.now room thread numbers.now ≡ Some value }
-        requires takes { serial_turns checked.now room thread numbers.now ≡ turns };
+        requires takes { serial_turns checked.now room thread numbers.now ≡ turns }
+        ensures { program self.new ≡ program self.old };
+
+    /// The evaluation ends in the midst, with this stack: the numbers of what is under way are taken from there.
+    fn breaks_off(&mut self, stack: &[i64])
+        ensures { program self.new ≡ program self.old };
 }
 
 /// Where a kid's numbers begin, which are the last ones of a stack: those of one that is to be kept are doubled, so that they are at hand
@@ -75,13 +91,15 @@ pub fn kid_done<K: KeepsValues>(
     turns: u64,
     value: i64,
 )
+    requires same { K.program keeper.old ≡ checked.now }
     requires inside { start ≤ vec_len stack.old }
     requires single { is_some begun ≡ false → vec_len stack.old ≡ start }
     requires gives { is_some begun ≡ true → serial checked.now room thread (drop start stack.old.items)
         ≡ Some value }
     requires takes { is_some begun ≡ true → serial_turns checked.now room thread (drop start stack.old.items)
         ≡ turns }
-    ensures { stack.new.items ≡ take start stack.old.items }
+    ensures program { K.program keeper.new ≡ checked.now }
+    ensures stack { stack.new.items ≡ take start stack.old.items }
 {
     if let Some(mark) = begun {
         keeper.keeps(checked, mark, thread, room, &stack[start..], turns, value);
@@ -89,11 +107,27 @@ pub fn kid_done<K: KeepsValues>(
     }
 }
 
-/// Nothing is kept.
-#[derive(Clone, Copy)]
-pub struct Unkept;
+/// Nothing is kept of a program's tasks.
+#[derive(Drop)]
+pub struct Unkept {
+    // It has no bytes.
+    program: Snapshot<Checked>,
+}
+
+impl Unkept {
+    /// Nothing of this program's tasks is kept.
+    pub fn of(checked: &Checked) -> Unkept
+        ensures { result.program.value ≡ checked.now }
+    {
+        Unkept {
+            program: Snapshot::of(checked),
+        }
+    }
+}
 
 impl KeepsValues for Unkept {
+    ghost program = { λ k. k.program.value };
+
     #[inline(always)]
     fn begins(&mut self, _thread: u8, _room: u16, _start: usize, _end: usize) -> Option<Mark> {
         None
@@ -113,6 +147,9 @@ impl KeepsValues for Unkept {
         _turns: u64,
         _value: i64,
     ) {}
+
+    #[inline(always)]
+    fn breaks_off(&mut self, _stack: &[i64]) {}
 }
 
 /// How many turns a task takes at least that is kept.
@@ -127,8 +164,8 @@ struct Begun {
     end: usize,
 }
 
-/// A task that an evaluation had begun, and didn't finish: its thread, how many places can be below its own, and its numbers. It is a
-/// hint alone.
+/// A task that an evaluation had begun and didn't finish: its thread, how many places can be below its own, and its numbers. It is a hint
+/// alone.
 #[derive(Drop)]
 pub struct UnderWay {
     pub thread: u8,
@@ -136,10 +173,12 @@ pub struct UnderWay {
     pub numbers: Numbers,
 }
 
-/// Keeps the tasks that an evaluation finished and that are no part of another one that it finished, and those that it had begun, down to
-/// some level below the task itself. Where there is no memory it keeps less.
+/// Keeps the tasks of one program that an evaluation finished and that are no part of another one that it finished, and those that it had
+/// begun, down to some level below the task itself. Where there is no memory it keeps less.
 #[derive(Drop)]
 pub struct Keeper {
+    // It has no bytes.
+    program: Snapshot<Checked>,
     alloc: Global,
     levels: u16,
     finished: Vec<Whole>,
@@ -147,10 +186,30 @@ pub struct Keeper {
     under_way: Vec<UnderWay>,
 }
 
+impl Model for Keeper {
+    ghost use Rattle.task_tree.specs.declared.tree.Program.{Program};
+    ghost use Rattle.std.specs.Coded.{codes};
+    ghost use Rattle.task_tree.specs.contracts.tree.Expr as expr;
+    ghost use Rattle.task_tree.specs.contracts.tree.Block as block;
+    ghost use Rattle.task_tree.specs.contracts.tree.End as end;
+    ghost use Rattle.serial_meaning.specs.Whole.{AreWholesOf};
+
+    ghost Value = { Program };
+
+    ghost coded = { Prim.hlevel (codes, expr.the_row.coded, block.the_row.coded, end.the_row.coded) };
+
+    ghost view = { λ k. k.program.value };
+
+    ghost invariant = { λ k. AreWholesOf k.program.value k.finished.items };
+}
+
 impl Keeper {
-    /// Nothing is kept yet, and kids will be so many levels deep: kids of the task itself are on the first one.
-    pub fn new(alloc: Global, levels: u16) -> Keeper {
+    /// Nothing of this program's tasks is kept yet, and kids will be so many levels deep: kids of the task itself are on the first one.
+    pub fn new(alloc: Global, checked: &Checked, levels: u16) -> Keeper
+        ensures { result ≡ checked.now }
+    {
         Keeper {
+            program: Snapshot::of(checked),
             alloc,
             levels,
             finished: Vec::new(alloc),
@@ -159,29 +218,17 @@ impl Keeper {
         }
     }
 
-    /// The tasks that were finished, and those that were under way where the evaluation ran out of turns.
-    pub fn into_parts(self) -> (Vec<Whole>, Vec<UnderWay>) {
+    /// The tasks that were finished, and those that were under way where the evaluation ran out of turns, or came to where no place is left.
+    pub fn into_parts(self) -> (Vec<Whole>, Vec<UnderWay>)
+        ensures { AreWholesOf self result.0.items }
+    {
         (self.finished, self.under_way)
-    }
-
-    /// The evaluation ended in the midst, with this stack: the numbers of what it had begun are taken from there.
-    pub(crate) fn breaks_off(&mut self, stack: &[i64]) {
-        for begun in &self.begun {
-            let Some(numbers) = stack.get(begun.start..begun.end) else {
-                continue;
-            };
-            if let Ok(numbers) = Numbers::copy_of(self.alloc, numbers) {
-                let _ = self.under_way.push(UnderWay {
-                    thread: begun.thread,
-                    room: begun.room,
-                    numbers,
-                });
-            }
-        }
     }
 }
 
 impl KeepsValues for Keeper {
+    ghost program = { λ k. k };
+
     #[inline(always)]
     fn begins(&mut self, thread: u8, room: u16, start: usize, end: usize) -> Option<Mark> {
         let levels = self.levels;
@@ -230,6 +277,21 @@ impl KeepsValues for Keeper {
             let _ = self
                 .finished
                 .push(Whole::kept(checked, thread, numbers, room, value, turns));
+        }
+    }
+
+    fn breaks_off(&mut self, stack: &[i64]) {
+        for begun in &self.begun {
+            let Some(numbers) = stack.get(begun.start..begun.end) else {
+                continue;
+            };
+            if let Ok(numbers) = Numbers::copy_of(self.alloc, numbers) {
+                let _ = self.under_way.push(UnderWay {
+                    thread: begun.thread,
+                    room: begun.room,
+                    numbers,
+                });
+            }
         }
     }
 }

@@ -1,4 +1,4 @@
-use Rattle.std.proofs.Common.{◌≡◌, All, vec_len}
+use Rattle.std.proofs.Common.{All, vec_len}
 use Rattle.std.specs.Arc.{arc_value}
 use Rattle.node_runner.specs.Lines.{IsPassFor}
 use Rattle.node_runner.specs.Runs.{IsWorkerOf}

@@ -2,7 +2,7 @@ use Rattle.std.proofs.Common.{arith, ◌≡◌, ◌∙◌, ◌+◌, ◌∷◌, [
 use Rattle.std.specs.List.{range_with_len}
 use Rattle.std.proofs.lemmas.List.{length-map}
 use Rattle.std.proofs.lemmas.List.FromFn.{length-range_with_len}
-use Rattle.serial_meaning.specs.Job.{JobOf, meaning_of}
+use Rattle.serial_meaning.specs.Job.{JobOf}
 use Rattle.node_runner.specs.Runs.{IsWorkerOf}
 use Rattle.node_runner.proofs.run.traced.Goals as goal
 

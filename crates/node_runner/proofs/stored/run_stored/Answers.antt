@@ -1,6 +1,4 @@
-use Rattle.std.proofs.Common.{◌≡◌, ◌∙◌, Option, None, Some, Ok, IfSome, inr, refl, sym, ap, rules}
-use Rattle.ids.specs.declared.outcome.Outcome.{Outcome}
-use Rattle.checkpoint.specs.Store.{Opened}
+use Rattle.std.proofs.Common.{◌≡◌, ◌∙◌, None, Some, Ok, IfSome, inr, refl, sym, ap, rules}
 use Rattle.checkpoint.specs.declared.record.CheckpointRecord.{CheckpointRecord}
 use Rattle.serial_meaning.specs.Job.{meaning_of}
 use Rattle.job_store.specs.Kept.{begun, finished}

@@ -2,4 +2,4 @@ use Rattle.std.proofs.Common.{◌≡◌}
 use Rattle.node_runner.proofs.desk.Desk.takes_back.Given as goal
 
 abbrev pub invariant-loop : goal.invariant-loop
-invariant-loop l = l.self.line ≡ l.fn.self.line
+invariant-loop l = l.self.home ≡ l.fn.self.home

@@ -1,0 +1,111 @@
+//! Values that evaluations kept of tasks below one that took too many turns.
+ghost use Rattle.std.specs.Prelude.{◌≡◌, IfSome};
+ghost use Rattle.serial_meaning.specs.Whole.{AreWholesOf};
+
+use kind_check::Checked;
+use node_core::Work;
+use serial_meaning::Whole;
+use std::alloc::Global;
+use std::marker::Model;
+use std::snapshot::Snapshot;
+
+/// From how many values on older ones are forgotten.
+const MOST_KEPT: usize = 2_048;
+
+/// On how many levels below a task an evaluation keeps values. To do so on all of them takes a third longer.
+pub(crate) const LEVELS: u16 = 10;
+
+/// Values of tasks of one program. Contracts see the program alone.
+#[derive(Drop)]
+pub(crate) struct KeptValues {
+    // It has no bytes.
+    program: Snapshot<Checked>,
+    values: Vec<Whole>,
+}
+
+impl Model for KeptValues {
+    ghost use Rattle.std.specs.Coded.{codes as known};
+    ghost use Rattle.task_tree.specs.contracts.tree.Expr as expr;
+    ghost use Rattle.task_tree.specs.contracts.tree.Block as block;
+    ghost use Rattle.task_tree.specs.contracts.tree.End as end;
+    ghost use Rattle.task_tree.specs.declared.tree.Program.{Program};
+    ghost use Rattle.serial_meaning.specs.Whole.{AreWholesOf};
+
+    ghost Value = { Program };
+
+    ghost coded = { Prim.hlevel (known, expr.the_row.coded, block.the_row.coded, end.the_row.coded) };
+
+    ghost view = { λ k. k.program.value };
+
+    ghost invariant = { λ k. AreWholesOf k.program.value k.values.items };
+}
+
+impl KeptValues {
+    /// None is kept yet.
+    pub(crate) fn new(alloc: Global, checked: &Checked) -> KeptValues
+        ensures { result ≡ checked.now }
+    {
+        KeptValues {
+            program: Snapshot::of(checked),
+            values: Vec::new(alloc),
+        }
+    }
+
+    /// Whether the value of a ready frame's task is kept.
+    pub(crate) fn has(&self, work: &Work) -> bool {
+        self.values.iter().any(|value| is_value_of(value, work))
+    }
+
+    /// The value of a ready frame's task, if it is kept. It isn't any more.
+    pub(crate) fn take(&mut self, work: &Work) -> Option<Whole>
+        ensures same { self.new ≡ self.old }
+        ensures own { IfSome result (λ w. w.program ≡ self.old) }
+    {
+        let index = self
+            .values
+            .iter()
+            .position(|value| is_value_of(value, work))?;
+        Some(self.values.swap_remove(index))
+    }
+
+    /// Values are kept, as far as there is memory.
+    pub(crate) fn add(&mut self, mut values: Vec<Whole>)
+        requires { AreWholesOf self.old values.items }
+        ensures { self.new ≡ self.old }
+    {
+        if self.values.len() >= MOST_KEPT {
+            self.clear();
+        }
+        let _ = self.values.append(&mut values);
+    }
+
+    /// None is kept any more.
+    pub(crate) fn clear(&mut self)
+        ensures { self.new ≡ self.old }
+    {
+        self.values.clear();
+    }
+}
+
+/// On how many levels those evaluations should keep values that follow one of a task with so many places below its own, which took so many
+/// turns and didn't come to its end: on all of them, where what it kept on the first ones is less than three quarters of what it did.
+pub(crate) fn levels_behind(kept: &[Whole], room: u16, turns: u64) -> u16 {
+    let mut near: u64 = 0;
+    for value in kept {
+        if room.saturating_sub(value.room()) <= LEVELS {
+            near = near.saturating_add(value.turns());
+        }
+    }
+    if near < turns - turns / 4 {
+        u16::MAX
+    } else {
+        LEVELS
+    }
+}
+
+/// Whether a value is that of a ready frame's task, as far as its thread, its numbers and its room say so.
+fn is_value_of(value: &Whole, work: &Work) -> bool {
+    value.thread() == work.thread
+        && value.room() == work.room
+        && value.numbers() == work.numbers.as_slice()
+}
