@@ -7,8 +7,8 @@
 //! - `start W` and `crash W` begin and end worker W; `crash` answers nothing.
 //! - `ask W V` and `ask W house`, `run W` (the first frame that it shows as ready), `exec W GRANT FRAME` (that frame, by its own
 //!   turn), `exec W GRANT FRAME thread=T on=NUMBERS` (that frame, by the turn of a thread on numbers), `exec W GRANT FRAME given
-//!   thread=T on=NUMBERS` (by that turn if it is the frame's own, else by its own), `depart W HEIR` and `resend W` are calls of
-//!   worker W's node.
+//!   thread=T on=NUMBERS` (by that turn if it is the frame's own, else by its own), `whole W GRANT FRAME TURNS` (that frame, by what
+//!   its task gives in at most so many turns), `depart W HEIR` and `resend W` are calls of worker W's node.
 //! - `give W PACKET` carries a packet to worker W. PACKET is `#N`, the Nth of all that were sent; `KIND from V`, the last packet
 //!   of a kind from worker V to W; a packet in words, which comes of nobody; or `bytes HEX`. A packet that was sent may be followed by
 //!   `with AT HEX`: the byte at AT, from 0, is another.

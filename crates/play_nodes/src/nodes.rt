@@ -116,6 +116,7 @@ impl Nodes {
             "ask" => self.ask(alloc, word, line, out),
             "run" => self.calls(alloc, word, &Call::Run, out),
             "exec" => self.exec(alloc, word, line, out),
+            "whole" => self.whole(alloc, word, line, out),
             "depart" => self.depart(alloc, word, line, out),
             "resend" => self.calls(alloc, word, &Call::Resend, out),
             "ready" => self.ready(alloc, word, out),
@@ -209,6 +210,18 @@ impl Nodes {
             return self.calls(alloc, word, &call, out);
         }
         let call = Call::ExecBy(frame_of(line)?, thread, numbers.as_slice());
+        self.calls(alloc, word, &call, out)
+    }
+
+    /// A frame runs by its whole value, in at most so many turns.
+    fn whole(
+        &mut self,
+        alloc: Global,
+        word: u64,
+        line: &CommandLine<'_>,
+        out: &mut Answers,
+    ) -> Option<()> {
+        let call = Call::Whole(frame_of(line)?, line.number(4)?);
         self.calls(alloc, word, &call, out)
     }
 

@@ -5,7 +5,7 @@ use body_eval::Done;
 use ids::{FrameNo, GrantId, Incarnation};
 use node_core::{Node, NodeError, Step, SubView, Victim, Work};
 use play_words::keep;
-use serial_meaning::Job;
+use serial_meaning::{Flat, Job};
 use std::alloc::{AllocError, Global};
 
 /// A frame, by the numbers of its grant and its own, which may name none.
@@ -40,6 +40,8 @@ pub enum Call<'a> {
     ExecBy(FrameOf, u8, &'a [i64]),
     /// A frame runs by such a turn if that is its own, else by its own.
     ExecGiven(FrameName, u8, &'a [i64]),
+    /// A frame runs by its whole value, if its task gives one in so many turns.
+    Whole(FrameOf, u64),
     /// It leaves to an heir, by its start word, which may be none.
     Depart(u64),
     /// It sends again what isn't answered.
@@ -120,6 +122,20 @@ fn runs_given(
     ensures { node.new.job ≡ node.old.job }
 {
     node.exec_turn_named(alloc, name.minter, name.number, name.frame, done)
+}
+
+/// A frame is carried out by what its task gives with all that comes of it, in at most so many turns.
+fn runs_whole(
+    alloc: Global,
+    node: &mut Node<'_>,
+    flat: &Flat,
+    at: FrameOf,
+    most_turns: u64,
+) -> Result<Step, NodeError>
+    requires { flat.now.program ≡ node.old.job.program }
+    ensures { node.new.job ≡ node.old.job }
+{
+    node.whole_ready(alloc, flat, at.grant, at.frame, most_turns)
 }
 
 /// A node leaves to an heir.
@@ -218,6 +234,18 @@ impl Player {
         }
     }
 
+    /// A frame runs by its whole value.
+    fn runs_whole(&mut self, alloc: Global, at: FrameOf, most_turns: u64) -> Answer {
+        match Flat::of(alloc, self.job.checked()) {
+            Ok(flat) => {
+                let answer = answer_of(runs_whole(alloc, &mut self.node, &flat, at, most_turns));
+                keep(flat);
+                answer
+            }
+            Err(_) => Answer::Refused(NodeError::Memory),
+        }
+    }
+
     /// What a call comes to.
     pub fn calls(&mut self, alloc: Global, call: &Call<'_>) -> Answer {
         match call {
@@ -228,6 +256,7 @@ impl Player {
             Call::Exec(name) => answer_of(runs(alloc, &mut self.node, *name)),
             Call::ExecBy(at, thread, on) => self.runs_by(alloc, *at, *thread, on),
             Call::ExecGiven(name, thread, on) => self.runs_given(alloc, *name, *thread, on),
+            Call::Whole(at, most_turns) => self.runs_whole(alloc, *at, *most_turns),
             Call::Depart(heir) => answer_of(departs(alloc, &mut self.node, *heir)),
             Call::Resend => answer_of(self.node.resend(alloc)),
         }
