@@ -133,15 +133,22 @@ class Model:
                 self.send("Abort", self.root, (HOUSE + 1, self.minted))
             self.root = holder
 
+    def wants_root(self):
+        """Whether the root is granted to who asks next."""
+        return self.root is None
+
+    def root_task(self):
+        return INPUT
+
     def serve_root(self, thief, seq):
         last, answer = self.replies.get(thief, (0, None))
         if seq < last:
             return
         if seq > last:
             answer = ("Refuse", thief, seq)
-            if self.root is None:
+            if self.wants_root():
                 self.minted, self.root = self.minted + 1, thief
-                answer = ("Grant", thief, (seq, HOUSE + 1, (HOUSE + 1, self.minted), INPUT, 0))
+                answer = ("Grant", thief, (seq, HOUSE + 1, (HOUSE + 1, self.minted), self.root_task(), 0))
             self.replies[thief] = (seq, answer)
         self.send(*answer)
 

@@ -254,17 +254,11 @@ class Model(world.Model):
         if kind == "Result" and to == world.HOUSE + 1 and self.root and what[1] == (to, self.minted):
             self.root, self.outcome = None, what[2]
 
-    def serve_root(self, thief, seq):
-        last, answer = self.replies.get(thief, (0, None))
-        if seq < last:
-            return
-        if seq > last:
-            answer = ("Refuse", thief, seq)
-            if self.root is None and self.outcome is None:
-                self.minted, self.root = self.minted + 1, thief
-                answer = ("Grant", thief, (seq, world.HOUSE + 1, (world.HOUSE + 1, self.minted), ("main", list(self.inputs), 0), 0))
-            self.replies[thief] = seq, answer
-        self.send(*answer)
+    def wants_root(self):
+        return super().wants_root() and self.outcome is None
+
+    def root_task(self):
+        return "main", list(self.inputs), 0
 
     def on_grant(self, node, what):
         seq, minter, grant, task, level = what
