@@ -44,6 +44,7 @@ use Rattle.node_runner.specs.contracts.line.Line as Line
 use Rattle.node_runner.specs.contracts.pace.Pace as Pace
 use Rattle.node_runner.specs.contracts.shared.Shared as Shared
 use Rattle.node_runner.proofs.bells.Bells.TheSendSync as bells
+use Rattle.node_runner.proofs.budget.Budget.TheSendSync as budget
 use Rattle.node_runner.proofs.counts.Counts.TheSendSync as counts
 use Rattle.node_runner.proofs.config.RunConfig.TheSendSync as config
 
@@ -110,7 +111,7 @@ found_field : IsSend (Found.the_field).row
 found_field = enum_send (cases Found.the_type) ((search (sendable, done) depth 12, tt), ((search (sendable, whole) depth 12, tt), tt))
 
 evaluated_field : IsSend (Evaluated.the_field).row
-evaluated_field = struct_send (shape Evaluated.the_type) (search sendable depth 12, (search sendable depth 12, (found_field, (search (sendable, wholes) depth 12, (search (sendable, under_ways) depth 12, (search sendable depth 12, tt))))))
+evaluated_field = struct_send (shape Evaluated.the_type) (search sendable depth 12, (search sendable depth 12, (found_field, (search (sendable, wholes) depth 12, (search (sendable, under_ways) depth 12, (search sendable depth 12, (search sendable depth 12, tt)))))))
 
 evaluated : IsSend Evaluated.the_row
 evaluated = recorded_send (Evaluated.the_field).row _ _ (Evaluated.the_type).to_one evaluated_field
@@ -146,7 +147,7 @@ desk_field = struct_send (shape Desk.the_type) (
       (
         search sendable depth 12,
         (
-          search sendable depth 12,
+          search (sendable, budget.the_send) depth 12,
           (
             search (sendable, under_ways) depth 12,
             (
@@ -154,10 +155,13 @@ desk_field = struct_send (shape Desk.the_type) (
               (
                 search sendable depth 12,
                 (
-                  search (sendable, crosses) depth 12,
+                  search sendable depth 12,
                   (
-                    search (sendable, frames) depth 12,
-                    tt,
+                    search (sendable, crosses) depth 12,
+                    (
+                      search (sendable, frames) depth 12,
+                      tt,
+                    ),
                   ),
                 ),
               ),

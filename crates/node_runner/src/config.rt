@@ -80,8 +80,8 @@ impl RunConfig {
         })
     }
 
-    /// The same, where a ready frame's task is evaluated whole, with all that comes of it, in at most so many turns; where it takes more, or
-    /// for 0, the frame takes its own turn.
+    /// The same, where a ready frame's task may be evaluated whole, with all that comes of it, in at most so many turns, and fewer where those
+    /// before it took more than they might; where it isn't, or for 0, the frame takes its own turn.
     pub fn with_grain(self, grain: u64) -> RunConfig
         ensures { result ≡ self }
     {

@@ -1,14 +1,16 @@
-ghost use Rattle.std.specs.Prelude.{◌≡◌, IfOk, IfSome};
+ghost use Rattle.std.specs.Prelude.{◌≡◌, length, IfOk, IfSome};
+ghost use Rattle.kind_check.specs.Total.{Takes};
 ghost use Rattle.node_runner.specs.Lines.{IsHomeOf};
 ghost use Rattle.node_runner.specs.Turns.{IsFoundOf};
 
 use crate::bells::Bells;
+use crate::budget::Budget;
 use crate::kept::{KeptValues, LEVELS};
 use crate::line::Line;
 use crate::turn::{Evaluated, Found};
 use chronicle::frame_of;
 use event_script::FrameOf;
-use kind_check::Checked;
+use kind_check::{BlockCode, Checked, EndCode, Leaf};
 use local_pool::Owner;
 use node_core::Work;
 use serial_meaning::{UnderWay, Whole};
@@ -20,6 +22,9 @@ const TICKETS: usize = 2;
 
 /// From how many tasks on that are known to be large older ones are forgotten.
 const MOST_LARGE: usize = 4_096;
+
+/// After how many evaluations in a row that came to their end the next ones keep values on few levels.
+const MOST_ENDED: u64 = 8;
 
 /// A ready frame of a node that waits for a body worker, with the number of the ticket, and in at most how many turns its task is to be
 /// evaluated whole; 0 where only its own turn is. On so many levels below it is kept what was finished and what was under way.
@@ -53,12 +58,12 @@ pub(crate) struct Desk {
     pub(crate) home: Home,
     bells: Arc<Bells, Global>,
     workers: usize,
-    // In at most how many turns a task is evaluated whole; 0 where each frame takes its own turn.
-    grain: u64,
+    budget: Budget,
     // Tasks that were under way where an evaluation didn't come to its end.
     large: Vec<UnderWay>,
-    // On how many levels the next evaluation keeps values.
+    // On how many levels the next evaluation keeps values, and how many of the last ones came to their end in a row.
     levels: u16,
+    ended: u64,
     next: u64,
     // The tickets that are out, and the frame of each at the same index.
     tickets: Vec<u64>,
@@ -83,9 +88,10 @@ impl Desk {
             home,
             bells,
             workers,
-            grain,
+            budget: Budget::new(grain),
             large: Vec::new(alloc),
             levels: LEVELS,
+            ended: 0,
             next: 0,
             tickets: Vec::with_capacity(alloc, room)?,
             frames: Vec::with_capacity(alloc, room)?,
@@ -127,7 +133,7 @@ impl Desk {
         }
         let ticket = Ticket {
             number,
-            most_turns: self.most_turns(&work),
+            most_turns: self.budget.most_turns(),
             work,
             levels: self.levels,
         };
@@ -140,24 +146,22 @@ impl Desk {
         true
     }
 
-    /// In at most how many turns a ready frame's task is to be evaluated whole: only its own turn is where it is known to be large, which it
-    /// isn't any more then.
-    fn most_turns(&mut self, work: &Work) -> u64
-        ensures { self.new.home ≡ self.old.home }
+    /// Whether a ready frame's task takes one turn, as its thread spawns nothing, and tasks are evaluated whole. No worker is asked then.
+    pub(crate) fn is_short(&self, checked: &Checked, work: &Work) -> bool
+        requires { Takes checked.now work.now.thread (length work.now.numbers) }
     {
-        if self.grain == 0 {
-            return 0;
-        }
-        let Some(index) = self.large.iter().position(|task| is_same(task, work)) else {
-            return self.grain;
-        };
-        let _ = self.large.swap_remove(index);
-        0
+        self.budget.is_some() && only_sends(checked.body(work.thread))
     }
 
-    /// Whether the value of a ready frame's task is kept here.
-    pub(crate) fn has_value(&self, work: &Work) -> bool {
-        self.home.kept.has(work)
+    /// Whether a ready frame's task is known to be large. It isn't any more then.
+    pub(crate) fn was_large(&mut self, work: &Work) -> bool
+        ensures { self.new.home ≡ self.old.home }
+    {
+        let Some(index) = self.large.iter().position(|task| is_same(task, work)) else {
+            return false;
+        };
+        let _ = self.large.swap_remove(index);
+        true
     }
 
     /// The value of a ready frame's task, where an evaluation kept it. It isn't kept any more then.
@@ -167,7 +171,20 @@ impl Desk {
         ensures own { IfSome result (λ w. w.program ≡ checked.now) }
     {
         let _ = checked;
-        self.home.kept.take(work)
+        let whole = self.home.kept.take(work)?;
+        self.budget.ends(whole.turns());
+        Some(whole)
+    }
+
+    /// A task was evaluated to its end in so many turns. Where those before it were too, the next ones keep few values.
+    fn ends(&mut self, turns: u64)
+        ensures { self.new.home ≡ self.old.home }
+    {
+        self.budget.ends(turns);
+        self.ended = self.ended.saturating_add(1);
+        if self.ended >= MOST_ENDED {
+            self.levels = LEVELS;
+        }
     }
 
     /// Tasks were under way where an evaluation didn't come to its end: they are known to be large, as far as there is memory. Those that follow
@@ -177,6 +194,7 @@ impl Desk {
     {
         if !large.is_empty() {
             self.levels = levels;
+            self.ended = 0;
         }
         if self.large.len() >= MOST_LARGE {
             self.large.clear();
@@ -211,8 +229,13 @@ impl Desk {
             kept,
             under_way,
             levels,
+            vain,
         } = self.home.line.take(rt, checked)?;
         self.removes(ticket);
+        match &found {
+            Found::Whole(whole) => self.ends(whole.turns()),
+            Found::Turn(_) => self.budget.fails(vain),
+        }
         self.learns(under_way, levels);
         self.home.kept.add(kept);
         Some(Returned { frame, found })
@@ -239,6 +262,7 @@ impl Desk {
         self.tickets.clear();
         self.frames.clear();
         self.large.clear();
+        self.budget.forgets();
         self.home.kept.clear();
     }
 
@@ -261,4 +285,13 @@ fn is_same(task: &UnderWay, work: &Work) -> bool {
     task.thread == work.thread
         && task.room == work.room
         && task.numbers.as_slice() == work.numbers.as_slice()
+}
+
+/// Whether a body gives a number however it ends.
+fn only_sends(block: &BlockCode) -> bool {
+    match &block.end {
+        EndCode::Leaf(Leaf::Sends(_)) => true,
+        EndCode::Leaf(Leaf::Joins(_, _)) => false,
+        EndCode::If(_, first, second) => only_sends(first) && only_sends(second),
+    }
 }

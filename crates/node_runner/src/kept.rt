@@ -51,11 +51,6 @@ impl KeptValues {
         }
     }
 
-    /// Whether the value of a ready frame's task is kept.
-    pub(crate) fn has(&self, work: &Work) -> bool {
-        self.values.iter().any(|value| is_value_of(value, work))
-    }
-
     /// The value of a ready frame's task, if it is kept. It isn't any more.
     pub(crate) fn take(&mut self, work: &Work) -> Option<Whole>
         ensures same { self.new ≡ self.old }

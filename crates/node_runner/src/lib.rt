@@ -28,6 +28,7 @@
 #![tactic(auto)]
 
 mod bells;
+mod budget;
 mod config;
 mod counts;
 mod crew;

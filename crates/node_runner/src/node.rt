@@ -1,4 +1,5 @@
-ghost use Rattle.std.specs.Prelude.{◌≡◌};
+ghost use Rattle.std.specs.Prelude.{◌≡◌, length};
+ghost use Rattle.kind_check.specs.Total.{Takes};
 ghost use Rattle.chronicle.specs.Seats.{IsSeatIn};
 ghost use Rattle.node_runner.specs.Lines.{IsHomeOf};
 ghost use Rattle.node_runner.specs.Turns.{IsFoundOf};
@@ -14,9 +15,9 @@ use crate::resting::{YIELDS, asks_in_vain, nap, pause, pauses, rest, rest_idle, 
 use crate::shared::{Shared, commit, commit_turn, commit_whole};
 use crate::turn::Found;
 use body_eval::Done;
-use chronicle::{ActorSeat, Continued, Receiver, frame_of};
+use chronicle::{ActorSeat, Continued, Receiver, frame_of, takes_its_numbers};
 use event_script::{Event, FrameOf, NodeEvent, NodePlace};
-use node_core::NodeError;
+use node_core::{NodeError, Work};
 use serial_meaning::Whole;
 use start_words::Pen;
 use std::alloc::Global;
@@ -48,8 +49,9 @@ struct Node {
     inbox: Inbox,
     members: Members,
     plans: Plans,
-    /// Whether a frame may have become ready since there was none.
+    /// Whether a frame may have become ready since there was none, and one that was found ready, if no packet came since.
     may_be_ready: bool,
+    next: Option<Work>,
     /// Whether a request waits for its answer.
     has_asked: bool,
     /// Whether it leaves, and whether it has ended then.
@@ -100,6 +102,7 @@ pub(crate) fn run_node<'a, R: Wait + Clock, G: Gate + Sync>(
         members: Members::new(alloc, faults.word, number),
         plans: Plans::new(shared.config, place),
         may_be_ready: false,
+        next: None,
         has_asked: false,
         leaves: false,
         is_over: false,
@@ -257,6 +260,7 @@ fn starts<'a, R: Wait, G: Gate + Sync>(
     node.inbox.receiver = Receiver::Worker(word);
     node.members.forget();
     node.may_be_ready = false;
+    node.next = None;
     node.has_asked = false;
     node.rested = 0;
     node.idle = 0;
@@ -324,6 +328,7 @@ fn departs<'a, R: Wait, G: Gate + Sync>(
     };
     desk.takes_back();
     node.may_be_ready = true;
+    node.next = None;
     match does(rt, shared, seat, node, NodeEvent::Depart(heir)) {
         Some(EventAnswer::Did(_, _)) => {
             node.leaves = true;
@@ -378,6 +383,7 @@ fn takes<G: Gate + Sync>(
     let told = delivered.committed.told;
     shared.counts.commits();
     node.notes(told);
+    node.next = None;
     node.has_asked = false;
     let Some(roster) = &delivered.roster else {
         return true;
@@ -389,8 +395,8 @@ fn takes<G: Gate + Sync>(
     true
 }
 
-/// A ready frame that isn't out is carried out by its task's value, where an evaluation kept it; else it is offered to the body workers, if
-/// they take one more. Whether one was; none where there was no memory.
+/// A ready frame that isn't out is carried out by its own turn, where its task is short work or known to be large, or by its task's value,
+/// where an evaluation kept it; else it is offered to the body workers, if they take one more. Whether one was; none where there was no memory.
 fn offers<'a, R: Wait, G: Gate + Sync>(
     rt: &R,
     alloc: Global,
@@ -404,23 +410,79 @@ fn offers<'a, R: Wait, G: Gate + Sync>(
     ensures seat { IsSeatIn shared.entry.now.chronicle.now seat.new }
     ensures home { desk.new.home ≡ desk.old.home }
 {
-    if !node.may_be_ready || desk.is_full() {
+    if !node.may_be_ready {
         return Some(false);
     }
-    let Some(work) = shared
-        .chronicle
-        .ready(rt, alloc, seat, node.place, desk.frames())
-    else {
+    let Some(work) = next_ready(rt, alloc, shared, seat, desk, node) else {
         node.may_be_ready = false;
         return Some(false);
     };
-    let Some(whole) = desk.value_of(shared.chronicle.job().checked(), &work) else {
-        return Some(desk.offer(work));
+    let checked = shared.chronicle.job().checked();
+    let fits = takes_its_numbers(checked, &work);
+    if fits && desk.is_short(checked, &work) {
+        return does_itself(rt, alloc, shared, seat, desk, node, work);
+    }
+    if let Some(whole) = desk.value_of(checked, &work) {
+        if !sends_whole(rt, alloc, shared, seat, desk, node, frame_of(&work), &whole) {
+            return None;
+        }
+        shared.counts.uses(whole.turns());
+        return Some(true);
+    }
+    if fits && desk.was_large(&work) {
+        return does_itself(rt, alloc, shared, seat, desk, node, work);
+    }
+    if desk.is_full() {
+        node.next = Some(work);
+        return Some(false);
+    }
+    Some(desk.offer(work))
+}
+
+/// The ready frame that was found right behind the last one, or else the next one that isn't out, if there is one.
+fn next_ready<'a, R: Wait, G: Gate + Sync>(
+    rt: &R,
+    alloc: Global,
+    shared: &Shared<'_, 'a, G>,
+    seat: &mut ActorSeat<'a>,
+    desk: &Desk,
+    node: &mut Node,
+) -> Option<Work>
+    requires { IsSeatIn shared.now.chronicle.now seat.old }
+    ensures { IsSeatIn shared.entry.now.chronicle.now seat.new }
+{
+    if let Some(work) = node.next.take() {
+        return Some(work);
+    }
+    shared
+        .chronicle
+        .ready(rt, alloc, seat, node.place, desk.frames())
+}
+
+/// A frame of the node is carried out by its turn, which no body worker is asked for. None where there was no memory.
+fn does_itself<'a, R: Wait, G: Gate + Sync>(
+    rt: &R,
+    alloc: Global,
+    shared: &Shared<'_, 'a, G>,
+    seat: &mut ActorSeat<'a>,
+    desk: &mut Desk,
+    node: &mut Node,
+    work: Work,
+) -> Option<bool>
+    requires seat { IsSeatIn shared.now.chronicle.now seat.old }
+    requires takes { Takes shared.now.chronicle.now.job.program work.thread (length work.numbers) }
+    ensures seat { IsSeatIn shared.entry.now.chronicle.now seat.new }
+    ensures home { desk.new.home ≡ desk.old.home }
+{
+    let frame = frame_of(&work);
+    let checked = shared.chronicle.job().checked();
+    let Ok(turn) = Done::on(alloc, checked, work.thread, work.numbers) else {
+        shared.counts.ends(End::Memory);
+        return None;
     };
-    if !sends_whole(rt, alloc, shared, seat, desk, node, frame_of(&work), &whole) {
+    if !takes_turn(rt, alloc, shared, seat, desk, node, frame, &turn) {
         return None;
     }
-    shared.counts.uses(whole.turns());
     Some(true)
 }
 
@@ -478,7 +540,7 @@ fn takes_turn<'a, R: Wait, G: Gate + Sync>(
     ) else {
         return false;
     };
-    follows(desk, node, continued);
+    follows(node, continued);
     true
 }
 
@@ -513,27 +575,21 @@ fn sends_whole<'a, R: Wait, G: Gate + Sync>(
     ) else {
         return false;
     };
-    follows(desk, node, continued);
+    follows(node, continued);
     true
 }
 
-/// A frame was carried out. A ready frame that was found right behind it is offered to the workers, if they take one more. One whose task's
-/// value is kept is found again in the next turn.
-fn follows(desk: &mut Desk, node: &mut Node, continued: Continued)
-    ensures { desk.new.home ≡ desk.old.home }
-{
+/// A frame was carried out. A ready frame that was found right behind it is looked at in the next turn.
+fn follows(node: &mut Node, continued: Continued) {
     let Continued { committed, next } = continued;
     node.notes(committed.told);
     node.dry = 0;
     node.pauses = 0;
     node.left_out = false;
-    match next {
-        Some(work) if !desk.is_full() && !desk.has_value(&work) => {
-            desk.offer(work);
-        }
-        Some(_) => {}
-        None => node.may_be_ready = false,
+    if next.is_none() {
+        node.may_be_ready = false;
     }
+    node.next = next;
 }
 
 /// The node asks for work, where somebody is listed. Whether it did; none where there was no memory.

@@ -18,7 +18,8 @@ pub(crate) enum Found {
 }
 
 /// What a body worker evaluated: the number of the ticket, its frame, and what was found; and where its task wasn't evaluated to its end, what
-/// was kept of tasks below it, which ones were under way, and on how many levels the next evaluation should keep values.
+/// was kept of tasks below it, which ones were under way, on how many levels the next evaluation should keep values, and how many turns were
+/// tried in vain.
 #[derive(Drop)]
 pub(crate) struct Evaluated {
     pub(crate) ticket: u64,
@@ -27,6 +28,7 @@ pub(crate) struct Evaluated {
     pub(crate) kept: Vec<Whole>,
     pub(crate) under_way: Vec<UnderWay>,
     pub(crate) levels: u16,
+    pub(crate) vain: u64,
 }
 
 /// What comes back from body workers, all of one program. The first one has nothing, and stands for the program. Contracts see both.

@@ -167,6 +167,7 @@ fn evaluates(
                 kept: Vec::new(alloc),
                 under_way: Vec::new(alloc),
                 levels: LEVELS,
+                vain: 0,
             })
         }
         Err((numbers, _)) => {
@@ -181,6 +182,7 @@ fn evaluates(
                 kept,
                 under_way,
                 levels,
+                vain: most,
             })
         }
     }

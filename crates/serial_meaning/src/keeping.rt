@@ -1,5 +1,5 @@
 //! What an evaluation keeps of the tasks that it finished, for where it doesn't come to its own end.
-ghost use Rattle.std.specs.Prelude.{◌≡◌, ◌≤◌, true, false, is_some, drop, take, vec_len, IfOk, Some};
+ghost use Rattle.std.specs.Prelude.{◌≡◌, ◌≤◌, drop, take, vec_len, IfOk, Some};
 ghost use Rattle.serial_meaning.specs.Serial.{serial, serial_turns};
 ghost use Rattle.serial_meaning.specs.Whole.{AreWholesOf};
 
@@ -17,73 +17,24 @@ pub struct Mark {
     begun: usize,
 }
 
-/// Who keeps what the kids of a task give, and theirs. Nothing of the evaluation hangs on it.
-pub trait KeepsValues {
-    ghost use Rattle.task_tree.specs.declared.tree.Program.{Program};
-
-    // The program of whose tasks values are kept.
-    ghost program: { Self → Program };
-
-    /// A kid begins: a task of a thread, with so many places below its own, whose numbers stand from `start` to `end` on the stack. Some
-    /// where what it gives is to be kept.
-    fn begins(&mut self, thread: u8, room: u16, start: usize, end: usize) -> Option<Mark>
-        ensures { program self.new ≡ program self.old };
-
-    /// A task goes on as its successor, which is said in the same way.
-    fn goes_on(&mut self, thread: u8, room: u16, start: usize, end: usize)
-        ensures { program self.new ≡ program self.old };
-
-    /// A kid that began with this mark gave a number, in so many turns.
-    fn keeps(
-        &mut self,
-        checked: &Checked,
-        mark: Mark,
-        thread: u8,
-        room: u16,
-        numbers: &[i64],
-        turns: u64,
-        value: i64,
-    )
-        requires same { program self.old ≡ checked.now }
-        requires gives { serial checked.now room thread numbers.now ≡ Some value }
-        requires takes { serial_turns checked.now room thread numbers.now ≡ turns }
-        ensures { program self.new ≡ program self.old };
-
-    /// The evaluation ends in the midst, with this stack: the numbers of what is under way are taken from there.
-    fn breaks_off(&mut self, stack: &[i64])
-        ensures { program self.new ≡ program self.old };
-}
-
-/// Where a kid's numbers begin, which are the last ones of a stack: those of one that is to be kept are doubled, so that they are at hand
-/// when it is done.
-#[inline(always)]
-pub fn kid_base(
-    stack: &mut Vec<i64>,
-    start: usize,
-    begun: Option<Mark>,
-) -> Result<usize, AllocError>
+/// Doubles the last numbers of a stack, those from `start` on: a kid takes the upper ones away, and the lower ones are at hand when it is
+/// done. Where the upper ones begin.
+pub fn double(stack: &mut Vec<i64>, start: usize) -> Result<usize, AllocError>
     requires { start ≤ vec_len stack.old }
     ensures inside { IfOk result (λ b. b ≤ vec_len stack.new) }
-    ensures above { IfOk result (λ b. start ≤ b) }
     ensures numbers { IfOk result (λ b. drop b stack.new.items ≡ drop start stack.old.items) }
-    ensures below { IfOk result (λ b. take start (take b stack.new.items) ≡ take start stack.old.items) }
-    ensures doubled { IfOk result (λ b. is_some begun ≡ true → take b stack.new.items ≡ stack.old.items) }
-    ensures single { IfOk result (λ b. is_some begun ≡ false → b ≡ start) }
+    ensures below { IfOk result (λ b. take b stack.new.items ≡ stack.old.items) }
 {
-    if begun.is_none() {
-        return Ok(start);
-    }
     let end = stack.len();
     stack.extend_from_within(start..)?;
     Ok(end)
 }
 
-/// A kid gave a number: it is kept, if it is to be, and its numbers go.
-#[inline(always)]
-pub fn kid_done<K: KeepsValues>(
-    keeper: &mut K,
+/// A kid gave a number: it is kept, and its numbers go.
+pub fn kid_done(
+    keeper: &mut Keeper,
     checked: &Checked,
-    begun: Option<Mark>,
+    mark: Mark,
     thread: u8,
     room: u16,
     stack: &mut Vec<i64>,
@@ -91,65 +42,15 @@ pub fn kid_done<K: KeepsValues>(
     turns: u64,
     value: i64,
 )
-    requires same { K.program keeper.old ≡ checked.now }
+    requires same { keeper.old ≡ checked.now }
     requires inside { start ≤ vec_len stack.old }
-    requires single { is_some begun ≡ false → vec_len stack.old ≡ start }
-    requires gives { is_some begun ≡ true → serial checked.now room thread (drop start stack.old.items)
-        ≡ Some value }
-    requires takes { is_some begun ≡ true → serial_turns checked.now room thread (drop start stack.old.items)
-        ≡ turns }
-    ensures program { K.program keeper.new ≡ checked.now }
+    requires gives { serial checked.now room thread (drop start stack.old.items) ≡ Some value }
+    requires takes { serial_turns checked.now room thread (drop start stack.old.items) ≡ turns }
+    ensures program { keeper.new ≡ checked.now }
     ensures stack { stack.new.items ≡ take start stack.old.items }
 {
-    if let Some(mark) = begun {
-        keeper.keeps(checked, mark, thread, room, &stack[start..], turns, value);
-        stack.truncate(start);
-    }
-}
-
-/// Nothing is kept of a program's tasks.
-#[derive(Drop)]
-pub struct Unkept {
-    // It has no bytes.
-    program: Snapshot<Checked>,
-}
-
-impl Unkept {
-    /// Nothing of this program's tasks is kept.
-    pub fn of(checked: &Checked) -> Unkept
-        ensures { result.program.value ≡ checked.now }
-    {
-        Unkept {
-            program: Snapshot::of(checked),
-        }
-    }
-}
-
-impl KeepsValues for Unkept {
-    ghost program = { λ k. k.program.value };
-
-    #[inline(always)]
-    fn begins(&mut self, _thread: u8, _room: u16, _start: usize, _end: usize) -> Option<Mark> {
-        None
-    }
-
-    #[inline(always)]
-    fn goes_on(&mut self, _thread: u8, _room: u16, _start: usize, _end: usize) {}
-
-    #[inline(always)]
-    fn keeps(
-        &mut self,
-        _checked: &Checked,
-        _mark: Mark,
-        _thread: u8,
-        _room: u16,
-        _numbers: &[i64],
-        _turns: u64,
-        _value: i64,
-    ) {}
-
-    #[inline(always)]
-    fn breaks_off(&mut self, _stack: &[i64]) {}
+    keeper.keeps(checked, mark, thread, room, &stack[start..], turns, value);
+    stack.truncate(start);
 }
 
 /// How many turns a task takes at least that is kept.
@@ -224,31 +125,28 @@ impl Keeper {
     {
         (self.finished, self.under_way)
     }
-}
 
-impl KeepsValues for Keeper {
-    ghost program = { λ k. k };
+    /// How many levels deep kids are that are kept.
+    pub(crate) fn levels(&self) -> u16 {
+        self.levels
+    }
 
-    #[inline(always)]
-    fn begins(&mut self, thread: u8, room: u16, start: usize, end: usize) -> Option<Mark> {
-        let levels = self.levels;
-        if levels == 0 {
-            return None;
-        }
+    /// A kid begins: a task of a thread, with so many places below its own, whose numbers stand from `start` to `end` on the stack.
+    pub(crate) fn begins(&mut self, thread: u8, room: u16, start: usize, end: usize) -> Mark
+        ensures { self.new ≡ self.old }
+    {
         let mark = Mark {
             finished: self.finished.len(),
             begun: self.begun.len(),
         };
         self.goes_on(thread, room, start, end);
-        self.levels = levels - 1;
-        Some(mark)
+        mark
     }
 
-    #[inline(always)]
-    fn goes_on(&mut self, thread: u8, room: u16, start: usize, end: usize) {
-        if self.levels == 0 {
-            return;
-        }
+    /// A task goes on as its successor, which is said in the same way.
+    pub(crate) fn goes_on(&mut self, thread: u8, room: u16, start: usize, end: usize)
+        ensures { self.new ≡ self.old }
+    {
         let _ = self.begun.push(Begun {
             thread,
             room,
@@ -257,7 +155,8 @@ impl KeepsValues for Keeper {
         });
     }
 
-    fn keeps(
+    /// A kid that began with this mark gave a number, in so many turns.
+    pub(crate) fn keeps(
         &mut self,
         checked: &Checked,
         mark: Mark,
@@ -266,8 +165,12 @@ impl KeepsValues for Keeper {
         numbers: &[i64],
         turns: u64,
         value: i64,
-    ) {
-        self.levels = self.levels.saturating_add(1);
+    )
+        requires same { self.old ≡ checked.now }
+        requires gives { serial checked.now room thread numbers.now ≡ Some value }
+        requires takes { serial_turns checked.now room thread numbers.now ≡ turns }
+        ensures { self.new ≡ self.old }
+    {
         self.begun.truncate(mark.begun);
         if turns < LEAST_KEPT {
             return;
@@ -280,7 +183,10 @@ impl KeepsValues for Keeper {
         }
     }
 
-    fn breaks_off(&mut self, stack: &[i64]) {
+    /// The evaluation ends in the midst, with this stack: the numbers of what is under way are taken from there.
+    pub(crate) fn breaks_off(&mut self, stack: &[i64])
+        ensures { self.new ≡ self.old }
+    {
         for begun in &self.begun {
             let Some(numbers) = stack.get(begun.start..begun.end) else {
                 continue;

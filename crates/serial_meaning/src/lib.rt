@@ -6,6 +6,7 @@ mod counting;
 mod instr;
 mod job;
 mod keeping;
+mod kept;
 mod laws;
 mod machine;
 mod meaning;

@@ -1,0 +1,56 @@
+//! In how many turns a node lets its body workers evaluate a task.
+
+/// So many turns a task may take at least, where a run allows as many: they take about as long as the events of its frame.
+const LEAST: u64 = 1_024;
+
+/// The first task of a node may take one in so many of the turns that a run allows.
+const FIRST: u64 = 8;
+
+/// In at most how many turns the next task is evaluated. They are halved where one didn't come to its end in as many, and doubled where one
+/// took more than half of them. So what is evaluated in vain is at most some times as much as what isn't, however many of a node's tasks are
+/// large.
+#[derive(Clone, Copy)]
+pub(crate) struct Budget {
+    // How many a run allows; 0 where each frame takes its own turn.
+    grain: u64,
+    most: u64,
+}
+
+impl Budget {
+    /// None was evaluated yet.
+    pub(crate) fn new(grain: u64) -> Budget {
+        Budget {
+            grain,
+            most: (grain / FIRST).max(LEAST).min(grain),
+        }
+    }
+
+    /// Whether tasks are evaluated whole.
+    pub(crate) fn is_some(&self) -> bool {
+        self.grain > 0
+    }
+
+    /// In at most how many turns the next task is evaluated.
+    pub(crate) fn most_turns(&self) -> u64 {
+        self.most
+    }
+
+    /// A task's value was found, in so many turns.
+    pub(crate) fn ends(&mut self, turns: u64) {
+        if turns > self.most / 2 {
+            self.most = self.most.saturating_mul(2).min(self.grain);
+        }
+    }
+
+    /// A task wasn't evaluated to its end in so many turns.
+    pub(crate) fn fails(&mut self, turns: u64) {
+        if turns <= self.most {
+            self.most = (self.most / 2).max(LEAST).min(self.grain);
+        }
+    }
+
+    /// Another node starts at the place: nothing is known of its tasks.
+    pub(crate) fn forgets(&mut self) {
+        *self = Budget::new(self.grain);
+    }
+}
