@@ -10,7 +10,7 @@ at least half of them end, all others have spent their turns, and few nodes leav
 come runs under a gate that holds a body until the next one has begun, which only another thread can do, and under one
 that holds a body while each node crashes or leaves; nodes that crash with many turns of their body workers on the way;
 one node that crashes twice and its log, nodes that share their work, tasks that are evaluated whole, with values that
-evaluations kept which didn't come to their end, packets that are lost or come twice, a node that leaves, rows of the
+evaluations kept which didn't come to their end, and on little stack, packets that are lost or come twice, a node that leaves, rows of the
 examples on one to 64 nodes, runs whose threads can't all be made, one that waits for a thread, and options that are
 refused. The last line counts; the status is 1 where anything failed.
 """
@@ -42,6 +42,8 @@ COMB = (
 )
 # So many turns: a run that takes more ends with E95.
 TURNS = "100000000"
+# So many bytes of stack.
+STACK = 256 * 1024
 # A library by which one of the threads that a program makes, told by its number, begins so many seconds late, or is
 # refused.
 LATE = 6
@@ -83,9 +85,19 @@ CHECKS = Tally()
 tell = CHECKS.tell
 
 
-def called(*words):
-    done = subprocess.run(words, capture_output=True, text=True, timeout=300)
+def called(*words, seconds=300):
+    done = subprocess.run(words, capture_output=True, text=True, timeout=seconds)
     return done.returncode, done.stdout, done.stderr
+
+
+def called_again(*words):
+    """What a program answers within half a minute; it is called again, at most five times, where it doesn't end in that time."""
+    for _ in range(5):
+        try:
+            return called(*words, seconds=30)
+        except subprocess.TimeoutExpired:
+            pass
+    return None, "", "no end"
 
 
 def replayed(trace, value, job):
@@ -168,9 +180,10 @@ def held(folder, nodes, bodies):
 
 
 def held_faulty(folder, nodes, bodies):
-    """A run in which the second body is held while each node crashes or leaves."""
+    """A run in which the second body is held while each node crashes or leaves. Where threads come so late that this happens before that body
+    began, nothing frees it, and the run doesn't end; so it is made again."""
     trace = f"{folder}/faulty {nodes}"
-    status, out, err = called(HOLDER, "faulty", nodes, bodies)
+    status, out, err = called_again(HOLDER, "faulty", nodes, bodies)
     tell(status == 0, f"faulty {nodes}: {status} {err}")
     with open(trace, "w") as it:
         it.write(out)
@@ -293,6 +306,18 @@ def kept_values(folder):
         tell(int(told.get("values kept and used", 0)) > 0, f"kept, {name}: no value that was kept is used")
 
 
+def deep(folder):
+    """Tasks nearly as deep as may be, and deeper, are evaluated whole where each thread has 256 KiB of stack."""
+    file = f"{folder}/deep.ck"
+    with open(file, "w") as out:
+        out.write(COMB % ("x", "y"))
+    limited = lambda: resource.setrlimit(resource.RLIMIT_STACK, (STACK, STACK))
+    for word, value in ("990", "value 603900"), ("1023", "too deep"):
+        words = (BUILT, "run", file, "--bodies", "1", "--grain", TURNS, "--turns", "10000000000", word)
+        done = subprocess.run(words, capture_output=True, text=True, timeout=300, preexec_fn=limited)
+        tell((done.returncode, done.stdout) == (0, f"{value}\n"), f"deep {word}: {done.returncode} {done.stdout}{done.stderr}")
+
+
 def fates(folder):
     """Packets that are lost or come twice, and a node that leaves."""
     lines = traced(folder, "repeated", 144, "--nodes", "2", "--repeat", "1", "12")
@@ -413,6 +438,7 @@ with tempfile.TemporaryDirectory() as folder:
     shares(folder)
     wholes(folder)
     kept_values(folder)
+    deep(folder)
     fates(folder)
     few_threads(folder)
     late_thread(folder, 2)
