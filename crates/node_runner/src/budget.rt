@@ -6,14 +6,22 @@ const LEAST: u64 = 1_024;
 /// The first task of a node may take one in so many of the turns that a run allows.
 const FIRST: u64 = 8;
 
+/// Where less than one in so many turns of values that were used was in vain, a task may take one in so many of these.
+const FEW: u64 = 8;
+
+const PART: u64 = 32;
+
 /// In at most how many turns the next task is evaluated. They are halved where one didn't come to its end in as many, and doubled where one
-/// took more than half of them. So what is evaluated in vain is at most some times as much as what isn't, however many of a node's tasks are
-/// large.
+/// took more than half of them; there are more where little was in vain so far. So what is evaluated in vain is at most some times as much
+/// as what isn't, however many of a node's tasks are large.
 #[derive(Clone, Copy)]
 pub(crate) struct Budget {
     // How many a run allows; 0 where each frame takes its own turn.
     grain: u64,
     most: u64,
+    // The turns of values by which frames were carried out, and of those that were tried in vain, but for kept values that were used.
+    used: u64,
+    vain: u64,
 }
 
 impl Budget {
@@ -22,6 +30,8 @@ impl Budget {
         Budget {
             grain,
             most: (grain / FIRST).max(LEAST).min(grain),
+            used: 0,
+            vain: 0,
         }
     }
 
@@ -32,18 +42,30 @@ impl Budget {
 
     /// In at most how many turns the next task is evaluated.
     pub(crate) fn most_turns(&self) -> u64 {
-        self.most
+        if self.vain < self.used / FEW {
+            self.most.max(self.used / PART).min(self.grain)
+        } else {
+            self.most
+        }
     }
 
-    /// A task's value was found, in so many turns.
+    /// A frame is carried out by its task's value, which was found in so many turns.
     pub(crate) fn ends(&mut self, turns: u64) {
+        self.used = self.used.saturating_add(turns);
         if turns > self.most / 2 {
             self.most = self.most.saturating_mul(2).min(self.grain);
         }
     }
 
+    /// The same, where the value was kept: these turns weren't in vain.
+    pub(crate) fn ends_kept(&mut self, turns: u64) {
+        self.ends(turns);
+        self.vain = self.vain.saturating_sub(turns);
+    }
+
     /// A task wasn't evaluated to its end in so many turns.
     pub(crate) fn fails(&mut self, turns: u64) {
+        self.vain = self.vain.saturating_add(turns);
         if turns <= self.most {
             self.most = (self.most / 2).max(LEAST).min(self.grain);
         }

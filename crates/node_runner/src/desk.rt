@@ -24,7 +24,7 @@ const TICKETS: usize = 2;
 const MOST_LARGE: usize = 4_096;
 
 /// After how many evaluations in a row that came to their end the next ones keep values on few levels.
-const MOST_ENDED: u64 = 8;
+const MOST_ENDED: u64 = 64;
 
 /// A ready frame of a node that waits for a body worker, with the number of the ticket, and in at most how many turns its task is to be
 /// evaluated whole; 0 where only its own turn is. On so many levels below it is kept what was finished and what was under way.
@@ -172,7 +172,7 @@ impl Desk {
     {
         let _ = checked;
         let whole = self.home.kept.take(work)?;
-        self.budget.ends(whole.turns());
+        self.budget.ends_kept(whole.turns());
         Some(whole)
     }
 

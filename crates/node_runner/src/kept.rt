@@ -12,8 +12,8 @@ use std::snapshot::Snapshot;
 /// From how many values on older ones are forgotten.
 const MOST_KEPT: usize = 2_048;
 
-/// On how many levels below a task an evaluation keeps values. To do so on all of them takes a third longer.
-pub(crate) const LEVELS: u16 = 10;
+/// On how many levels below a task an evaluation keeps values. To do so on all of them takes up to a half longer.
+pub(crate) const LEVELS: u16 = 7;
 
 /// Values of tasks of one program. Contracts see the program alone.
 #[derive(Drop)]
