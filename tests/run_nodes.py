@@ -43,7 +43,7 @@ COMB = (
 # So many turns: a run that takes more ends with E95.
 TURNS = "100000000"
 # So many bytes of stack.
-STACK = 256 * 1024
+STACK = 512 * 1024
 # A library by which one of the threads that a program makes, told by its number, begins so many seconds late, or is
 # refused.
 LATE = 6
@@ -307,7 +307,7 @@ def kept_values(folder):
 
 
 def deep(folder):
-    """Tasks nearly as deep as may be, and deeper, are evaluated whole where each thread has 256 KiB of stack."""
+    """Tasks nearly as deep as may be, and deeper, are evaluated whole where each thread has 512 KiB of stack."""
     file = f"{folder}/deep.ck"
     with open(file, "w") as out:
         out.write(COMB % ("x", "y"))
