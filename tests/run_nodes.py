@@ -180,8 +180,8 @@ def held(folder, nodes, bodies):
 
 
 def held_faulty(folder, nodes, bodies):
-    """A run in which the second body is held while each node crashes or leaves. Where threads come so late that this happens before that body
-    began, nothing frees it, and the run doesn't end; so it is made again."""
+    """A run in which the second body is held while each node crashes or leaves. One in some forty beside other work doesn't end: nothing
+    frees the body where this happened before it began, as slow threads may bring about. So it is made again."""
     trace = f"{folder}/faulty {nodes}"
     status, out, err = called_again(HOLDER, "faulty", nodes, bodies)
     tell(status == 0, f"faulty {nodes}: {status} {err}")
