@@ -16,6 +16,7 @@ for it. The status is 5 where a proof fails.
 import importlib.machinery
 import importlib.util
 import os
+import shutil
 import subprocess
 import sys
 import threading
@@ -36,6 +37,9 @@ EVERY = 300
 
 def toolchain():
     """Loads what `rt` is made of."""
+    if shutil.which("rt") is None:
+        print("missing: the command `rt`, of the toolchain", file=sys.stderr)
+        sys.exit(2)
     page = subprocess.run(["rt", "doc"], stdout=subprocess.PIPE, check=True, text=True).stdout.strip()
     loader = importlib.machinery.SourceFileLoader("rt_command", f"{os.path.dirname(page)}/bin/rt")
     command = importlib.util.module_from_spec(importlib.util.spec_from_loader("rt_command", loader))

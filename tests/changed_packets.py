@@ -40,6 +40,8 @@ JOB, NODE = 7, 4
 ANY_HOUSE = 1 << 63
 HOUSE = ANY_HOUSE + 1
 MOST = 1_048_576
+# A part of an offer has so many bytes, the last one at most so many.
+PART_OF_OFFER = 65_536
 
 
 # What bytes say, by docs/FORMATS.md.
@@ -139,6 +141,16 @@ class Fields:
     def task(self):
         place, thread, numbers = self.place(), self.thread(), self.numbers()
         return place, thread, numbers
+
+    def part(self, is_last):
+        """The bytes of a part of an offer; several that are all the same as one of them and how many there are."""
+        self.counts.append((self.at, 4, PART_OF_OFFER))
+        count = self.checked(4, lambda it: 1 <= it <= PART_OF_OFFER if is_last else it == PART_OF_OFFER)
+        if self.at + count > len(self.content):
+            raise Refused(31)
+        part = self.content[self.at:self.at + count]
+        self.at += count
+        return f"{part[:1].hex()}*{count}" if count > 1 and len(set(part)) == 1 else part.hex()
 
     def members(self):
         shown, last = [], 0
@@ -247,6 +259,17 @@ def say_leave(it):
     it.say("heir", str(it.other_worker(own)))
 
 
+def say_piece(it):
+    it.say("from", str(it.worker()))
+    it.say("grant", grant_words(it.grant()))
+    it.say("hop", str(it.raised()))
+    pieces = it.checked(2, lambda count: 2 <= count <= 16_384)
+    it.say("pieces", str(pieces))
+    number = it.checked(2, lambda number: number < pieces)
+    it.say("number", str(number))
+    it.say("bytes", it.part(number == pieces - 1))
+
+
 def is_any_house(to):
     return to == ANY_HOUSE
 
@@ -277,16 +300,21 @@ KINDS = (
     ("Leave", is_house, say_leave),
     ("Abort", is_worker, say_named),
     ("Beat", is_house, say_workers_count("version")),
+    ("Piece", is_worker, say_piece),
 )
+# The versions of packets, and the kinds of each.
+VERSIONS = {1: range(1, 13), 2: range(13, 14)}
 
 
 def taken(it):
     """The packet that fields say, taken to their end."""
-    for size, known, number in ((2, 0x434E, 32), (1, 1, 33)):
-        if it.number(size) != known:
-            raise Refused(number)
+    if it.number(2) != 0x434E:
+        raise Refused(32)
+    version = it.number(1)
+    if version not in VERSIONS:
+        raise Refused(33)
     kind = it.number(1)
-    if not 1 <= kind <= len(KINDS):
+    if kind not in VERSIONS[version]:
         raise Refused(34)
     name, suits, say = KINDS[kind - 1]
     job, to = it.number(8), it.checked(8, suits)
@@ -433,6 +461,8 @@ RUN = [
     "make Abort grant=3/2 to=4 job=7",
     *(f"make OfferAck from={it} grant=4/{it - 4} hop=0 to=4 job=7" for it in (5, 6, 7)),
     *(f"make OfferAck from=8 grant={it} hop=1 to=4 job=7" for it in ("3/1", "3/2", "5/1")),
+    "make Piece from=7 grant=5/1 hop=2 pieces=2 number=1 bytes=000102 to=4 job=7",
+    "make Piece from=3 grant=house:1/1 hop=1 pieces=16384 number=16383 bytes=ff*9 to=4 job=7",
     "make Result from=7 grant=4/3 outcome=5 to=4 job=7",
     "make Result from=3 grant=house:1/1 outcome=8 to=house:1 job=7",
     "house hear Result from=3 grant=house:1/1 outcome=8 to=house:1 job=7",
@@ -499,9 +529,9 @@ def filled(draw, content, _others):
 
 
 def renamed(draw, content, others):
-    """The front of a packet of another kind, or its kind alone, stands before the fields."""
+    """The front of a packet of another kind, its version and its kind, or its kind alone, stands before the fields."""
     other = draw.choice([it for it in others if it[3] != content[3]])
-    return draw.choice((other[:20], content[:3] + other[3:4] + content[4:20])) + content[20:]
+    return draw.choice((other[:20], content[:2] + other[2:4] + content[4:20], content[:3] + other[3:4] + content[4:20])) + content[20:]
 
 
 def sent_elsewhere(draw, content, others):
@@ -594,9 +624,10 @@ NODE_SENDS = {
         "Result": {"ResultAck", "Abort", "Result"},
         "ResultAck": set(),
         "Offer": {"OfferAck", "Abort"},
+        "Piece": {"OfferAck"},
         "Abort": {"Abort"},
     },
-    "leaving": {"Roster": set(), "Steal": {"Grant", "Refuse"}, "Grant": {"OfferAck"}, "Offer": {"OfferAck"}, "OfferAck": {"Leave"}},
+    "leaving": {"Roster": set(), "Steal": {"Grant", "Refuse"}, "Grant": {"OfferAck"}, "Offer": {"OfferAck"}, "OfferAck": {"Leave"}, "Piece": {"OfferAck"}},
     "ended": {},
 }
 # The same of a clearinghouse.
@@ -607,11 +638,12 @@ FIRST = {
     "Grant": {"OfferAck"},
     "Result": {"ResultAck"},
     "Offer": {"OfferAck"},
+    "Piece": {"OfferAck"},
     "Join": {"Roster"},
     "Leave": {"Roster"},
     "Beat": {"Roster"},
 }
-QUIET = {"Roster", "Grant", "Refuse", "ResultAck", "OfferAck", "Abort", "Beat"}
+QUIET = {"Roster", "Grant", "Refuse", "ResultAck", "OfferAck", "Abort", "Beat", "Piece"}
 
 # Somebody who gets packets: the lines that make it, once and each time anew, that show it, and that end it; the words before a packet's bytes;
 # which packets are its own; what it may send.

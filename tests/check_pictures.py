@@ -6,9 +6,12 @@ Usage: tests/check_pictures.py [PROGRAM], by default bin/cilknow.
 Each picture is well-formed XML of ASCII, and comes twice the same. It has a lane for the clearinghouse and one for each place that the
 script names; an arrow for each packet that is delivered, a dashed one for each further delivery, and a stub for each packet that isn't, but
 for what is all within one fold; fewer kinds of packets with `--work`, and where these would be more than 400; no more than 4,000 pixels of
-width; and the outcome. A fold has 40 events or more; in none of them does a body run, a node start, crash or leave, or the clearinghouse
-start, crash, show a worker dead or record the outcome. Each worker that starts has its start word. The longer scripts are traces of runs on
-nodes, and some of Beats alone. `-o` writes the same as standard output. The last line counts; the status is 1 where anything failed.
+width; and the outcome. Where it is wide enough, the names of the lanes and the legend stand again, a screen's width from one another. The
+title of a turn, of the first 1,000, says of it what `replay --packets` does. A fold has 40 events or more; in none of them does a body run, a
+node start, crash or leave, or the clearinghouse start, crash, show a worker dead or record the outcome. Each worker that starts has its start
+word, within the picture. The longer scripts are traces of runs on nodes, some of Beats alone, one of so many packets that it is drawn as with
+`--work` by itself, and one of more starts at one place than there is room for their words. `-o` writes the same as standard output. The last
+line counts; the status is 1 where anything failed.
 """
 import re
 import subprocess
@@ -20,10 +23,12 @@ from common import EXAMPLES, TOP, Tally
 
 PROGRAM = sys.argv[1] if len(sys.argv) > 1 else f"{TOP}/bin/cilknow"
 SVG = "{http://www.w3.org/2000/svg}"
-MOST_ARROWS, MOST_WIDTH, LEAST_FOLD = 400, 4000, 40
+MOST_ARROWS, MOST_WIDTH, LEAST_FOLD, MOST_TOLD = 400, 4000, 40, 1000
+# lengths in tenths of a pixel: a screen, the legend, and a character of a lane's name and of a mark's words
+SCREEN, LEGEND, CHAR = 12_000, 9600, 67
 # which kinds of packets have arrows: all, with `--work`, and where these are too many still
-ALL = {"Join", "Roster", "Steal", "Grant", "Refuse", "Result", "ResultAck", "Offer", "OfferAck", "Leave", "Abort", "Beat"}
-SHOWN = [ALL, ALL - {"Join", "Roster", "Beat"}, {"Grant", "Offer", "Result"}, set()]
+ALL = {"Join", "Roster", "Steal", "Grant", "Refuse", "Result", "ResultAck", "Offer", "OfferAck", "Leave", "Abort", "Beat", "Piece"}
+SHOWN = [ALL, ALL - {"Join", "Roster", "Beat"}, {"Grant", "Offer", "Piece", "Result"}, set()]
 WORDS = re.compile(r"[\x20-\x7e\n]*")
 
 CHECKS = Tally()
@@ -136,6 +141,53 @@ def has_class(element, word):
     return word in element.get("class", "").split(" ")
 
 
+def tenths(pixels):
+    return round(10 * float(pixels))
+
+
+def events_end(root):
+    """The right end of the events: behind it the picture goes on for the words that stand aslant, by the longest of them."""
+    folds = [len(f"{last - first + 1} events in which no body runs") for first, last in folds_of(root)]
+    aslant = [it.text for it in root.iter(f"{SVG}text") if has_class(it, "words") and it.get("transform")]
+    events = [len(it.split(" ", 1)[1]) + 4 for it in aslant if not it.endswith(" events in which no body runs")]
+    return tenths(root.get("width")) - max(600, 31 * max(folds + events, default=0))
+
+
+def look_at_again(name, root, lanes):
+    """Whether the names of lanes and the legend stand again as often as the picture is wide enough for it, and how often the names do."""
+    width, right = tenths(root.get("width")), events_end(root)
+    names = [it.text for it in root.iter(f"{SVG}text") if has_class(it, "name")]
+    left = 260 + CHAR * max(13, *map(len, names))
+    screens = [SCREEN * number for number in (1, 2, 3)]
+    wanted = [at + 140 for at in screens if right > SCREEN + left and at + 1140 < right]
+    again = [tenths(it.get("x")) for it in root.iter(f"{SVG}text") if has_class(it, "again-name")]
+    tell(sorted(again) == sorted(wanted * lanes), f"{name}: the names of {lanes} lanes again at {again}, and {wanted} are wanted")
+    legends = [tenths(it.get("x")) for it in root.iter(f"{SVG}use") if it.get("href") == "#legend"]
+    wanted_legends = [at for at in screens if at + LEGEND < width]
+    tell(legends == wanted_legends, f"{name}: the legend again at {legends}, and {wanted_legends} are wanted")
+    tell(sum(it.get("id") == "legend" for it in root.iter(f"{SVG}g")) == 1, f"{name}: the legend itself")
+    return len(wanted)
+
+
+def look_at_turns(name, root, events, told):
+    """Whether the title of each turn that has one says what came of it."""
+    turns = [at for at, event in enumerate(events) if event[0] in ("exec", "whole") and not re.match(r"E\d+$|nothing$", told[at])]
+    first = set(turns[:MOST_TOLD])
+    for title in root.iter(f"{SVG}title"):
+        found = re.match(r"event (\d+): (?:exec|whole) ", title.text or "")
+        if found and int(found[1]) - 1 in first:
+            did = told[int(found[1]) - 1].split("; ", 1)[0]
+            tell(title.text.split(": ", 2)[2] == did, f"{name}: {title.text}, and it was {did}")
+
+
+def look_at_words(name, root):
+    """Whether the words of all marks stand within the picture."""
+    width = tenths(root.get("width"))
+    for it in root.iter(f"{SVG}text"):
+        if has_class(it, "mark") and it.get("text-anchor") is None:
+            tell(tenths(it.get("x")) + CHAR * len(it.text) <= width, f"{name}: {it.text} goes on behind the right end")
+
+
 def look_at(name, program, script, inputs, folder, folds=None):
     drawn = asked("draw", program, script, "--", *inputs)
     told = asked("replay", program, script, "--", *inputs).stdout.decode().split("\n")
@@ -162,10 +214,14 @@ def look_at(name, program, script, inputs, folder, folds=None):
             tell(any(re.match(f"start {int(event[2])}( at |$)", it) for it in words), f"{name}: worker {event[2]} isn't told")
     look_at_folds(name, root, events, told)
     tell(folds is None or folds_of(root) == folds, f"{name}: the folds {folds_of(root)}")
+    look_at_turns(name, root, events, told)
+    look_at_words(name, root)
+    screens = look_at_again(name, root, lanes)
     look_at_arrows(name, root, events, told, 0)
     work = asked("draw", program, script, "--work", "--", *inputs)
     tell(work.returncode == 0, f"{name}: status {work.returncode} with --work")
     look_at_arrows(f"{name} with --work", xml.fromstring(work.stdout), events, told, 1)
+    return screens, work.stdout == drawn.stdout
 
 
 def beats(count):
@@ -174,6 +230,24 @@ def beats(count):
     for packet in range(2, 2 + count):
         lines += ["resend 0", f"house-deliver {packet}"]
     return "".join(line + "\n" for line in lines)
+
+
+def beats_apart(rounds):
+    """One node gets the root task, and beats; so often a start and a crash of another one keep the Beats out of folds."""
+    lines = ["house-restart", "start 0 3", "house-deliver 0", "deliver 0 1", "ask 0 house", "house-deliver 2", "deliver 0 3"]
+    packet = 4
+    for number in range(rounds):
+        lines += [f"start 1 {100 + number}", "crash 1"]
+        packet += 1
+        for _ in range(18):
+            lines += ["resend 0", f"house-deliver {packet}"]
+            packet += 1
+    return "".join(line + "\n" for line in lines)
+
+
+def starts(count):
+    """So many nodes start at one place, and crash."""
+    return "".join(f"start 0 {2**62 + number}\ncrash 0\n" for number in range(count))
 
 
 def main():
@@ -189,6 +263,12 @@ def main():
             with open(f"{folder}/beats.script", "w", encoding="ascii") as it:
                 it.write(beats(count))
             look_at(f"{count} beats", f"{EXAMPLES}/fib.ck", f"{folder}/beats.script", ["2"], folder, [(2, 3 + 2 * count)])
+        for name, text, is_between in (("Beats apart", beats_apart(24), True), ("few Beats apart", beats_apart(4), False), ("starts", starts(150), False)):
+            with open(f"{folder}/apart.script", "w", encoding="ascii") as it:
+                it.write(text)
+            screens, is_work = look_at(name, f"{EXAMPLES}/fib.ck", f"{folder}/apart.script", ["2"], folder, [])
+            tell(is_work == is_between, f"{name}: whether it is drawn as with --work by itself")
+            tell(screens > 0, f"{name}: the names of lanes don't stand again")
         for nodes, crashes, departures, number in ((1, 0, 0, "6"), (4, 1, 1, "8"), (4, 2, 1, "12"), (8, 2, 2, "16")):
             trace = f"{folder}/trace.script"
             faults = ["--crash", str(crashes), "--depart", str(departures), "--lose", "20", "--repeat", "20"]

@@ -37,7 +37,9 @@ and for a table
     gate            each crate's lines and edits, and the minutes that docs/times.tsv has of it
     tried           what docs/wrong-bodies.txt has of each crate's edits
 
-The last line counts numbers and rows; where one differs, a line says the page, its line and both.
+The page that comes first and the three that it leads to may have 600 words each.
+
+The last line counts numbers, rows and these pages; where one differs, a line says the page, its line and both.
 """
 import collections
 import os
@@ -147,12 +149,12 @@ def gate_table():
 
 
 def tried_table():
-    """The table of wrong bodies: what came of those of each crate when they were last tried."""
-    columns = (wrong_bodies.CLAUSE, wrong_bodies.SAFETY, wrong_bodies.NOT_TRIED)
-    rows = ["| crate | edits | by a clause | by safety | not tried | else |", "|" + "---|" * 6]
-    counts, table, none = collections.Counter(), wrong_bodies.kept_table(), (wrong_bodies.NOT_TRIED,)
+    """The table of wrong bodies: what came of those of each crate when they were last tried, and of how many that was on other sources."""
+    columns = (wrong_bodies.CLAUSE, wrong_bodies.SAFETY, wrong_bodies.STALE, wrong_bodies.NOT_TRIED)
+    rows = ["| crate | edits | by a clause | by safety | before a change | not tried | else |", "|" + "---|" * 7]
+    counts, table = collections.Counter(), wrong_bodies.kept_table()
     for name in crates():
-        of_crate = collections.Counter(table.get(f"{name}/{it}", none)[0] for it in wrong_bodies.edits_of(name))
+        of_crate = collections.Counter(wrong_bodies.state_of(table, name, it) for it in wrong_bodies.edits_of(name))
         if of_crate:
             counts += of_crate
             rows.append(tried_row(name, of_crate, columns))
@@ -165,6 +167,9 @@ def tried_row(name, counts, columns):
     return f"| {name} | {' | '.join(shown(it) if it else '' for it in cells)} |"
 
 
+# What a reader meets first, and so many words of letters or digits each has at most.
+DOORS = ("README.md", "docs/USE.md", "CONTRIBUTING.md", "docs/TRUST.md")
+MOST_WORDS = 600
 TABLES = {"gate": gate_table, "tried": tried_table}
 
 
@@ -232,6 +237,9 @@ def main(words):
         print(number)
         return 0
     tally = Tally()
+    for page in DOORS:
+        number = sum(bool(re.search(r"[^\W_]", it)) for it in read(f"{TOP}/{page}").split())
+        tally.tell(number <= MOST_WORDS, f"{page}: {number} words, and at most {MOST_WORDS} are wanted")
     for path in pages():
         text = read(path)
         if BEGIN.search(text):

@@ -45,6 +45,7 @@ CHECKS = {
     "packets": f"tests/changed_packets.py {PLAY}",
     "counts_of_packets": f"tests/unbacked_counts.py {PLAY}",
     "growths_of_transcripts": f"tests/play_all.py --growth {PLAY}",
+    "pieces": f"tests/offers_in_pieces.py {PLAY}",
     "growths_of_joins": f"tests/join_growths.py {PLAY}",
     "growths_of_nodes": f"tests/node_growths.py {PLAY}",
     "growths": "tests/refuse_growth --built",

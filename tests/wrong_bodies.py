@@ -53,6 +53,8 @@ TABLE_HEAD = """\
 SORTS = "clause", "safety", "NO CLAUSE", "NOT REFUSED", "NOT APPLIED"
 CLAUSE, SAFETY, NO_CLAUSE, NOT_REFUSED, NOT_APPLIED = SORTS
 NOT_TRIED = "not tried"
+# It was tried on other sources than stand here now.
+STALE = "stale"
 # The parts of a crate that a check reads, and those of out/ that it goes on from.
 PARTS = ("src", "specs", "proofs", "out/incremental", "out/rlib")
 # So many edits go into one check.
@@ -355,13 +357,18 @@ def look():
     return tally.end()
 
 
+def state_of(table, crate, edit):
+    """What came of an edit, where it was tried on what stands here now; whether it was tried before, or wasn't."""
+    row = table.get(f"{crate}/{edit}", (NOT_TRIED,))
+    return NOT_TRIED if row == (NOT_TRIED,) else row[0] if row[1] == sum_of(crate, edit) else STALE
+
+
 def state(names):
     """Tells which edits were tried on what stands here now, which before, and which weren't."""
     table, counts = kept_table(), {}
     for crate in names:
         for edit in edits_of(crate):
-            row = table.get(f"{crate}/{edit}", (NOT_TRIED,))
-            sort = NOT_TRIED if row == (NOT_TRIED,) else row[0] if row[1] == sum_of(crate, edit) else "stale"
+            sort = state_of(table, crate, edit)
             counts.setdefault(crate, {}).setdefault(sort, []).append(edit)
     for crate, found in counts.items():
         print(f"{crate}: {', '.join(f'{len(edits)} {sort}' for sort, edits in sorted(found.items()))}")

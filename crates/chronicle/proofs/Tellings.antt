@@ -55,6 +55,7 @@ answered_silent : (a : ℕ) (r : node.Answer) (w : WorldOf) → Silent (answered
 answered_silent a node.Ignored w = refl
 answered_silent a (node.Refused e) w = refl
 answered_silent a (node.Does s) w = refl
+answered_silent a (node.Forgets m) w = refl
 
 at_node_silent : (job : JobOf) (choice : Option Candidate) (a : ℕ) (e : NodeEvent) (n : NodeOf) (w : WorldOf) → Silent (at_node job choice a e n w)
 at_node_silent job choice a (at.Deliver i) n w = by_some _ w (λ (p : PacketOf). answered a (on_packet job choice p n) w) (λ p. answered_silent a (on_packet job choice p n) w)

@@ -196,7 +196,7 @@ fn run_words<'a>(alloc: Global) -> Result<Command<'a>, AllocError> {
                 .action(ArgAction::Set)
                 .value_parser(value_parser!(u64))
                 .help(
-                    "Tasks of at most so many turns are evaluated whole on nodes, none for 0; 100000 where it isn't given, or 0 with faults or `--trace`",
+                    "A task may be evaluated whole on nodes, in at most so many turns, none for 0; 100000 where it isn't given, or 0 with faults or `--trace`",
                 ),
         )?;
     let command = with_fault_words(alloc, command)?;
@@ -236,7 +236,7 @@ fn with_file_words<'a>(alloc: Global, command: Command<'a>) -> Result<Command<'a
                 .long("store")
                 .action(ArgAction::Set)
                 .help(
-                    "The file that keeps the outcome, made where it is missing; not with `--trace`",
+                    "The file that keeps the outcome, made where it is missing, with PATH.job beside it, by which another program or input is refused; not with `--trace`",
                 ),
         )?
         .arg(

@@ -165,6 +165,7 @@ module _ (job : JobOf) where
   body_safe to (body.Offer b) h = tt
   body_safe to (body.OfferAck b) h = tt
   body_safe to (body.Abort b) h = tt
+  body_safe to (body.Piece b) h = tt
 
   packet_safe : (p : PacketOf) (h : HouseOf) → IsSafe h (on_packet job p h)
   unfolding on_packet

@@ -1,7 +1,7 @@
 -- How many bytes a format writes at most, of what can be written. A packet that is no offer takes fewer than are allowed.
-use Rattle.std.proofs.Common.{◌≡◌, ℕ, zero, suc, ◌+◌, ◌*◌, ◌^◌, ◌≤◌, Bool, true, false, not, eqb, leb, ltb, List, [], ◌∷◌, ◌++◌, length, reverse, Option, Some, None, ap, ◌∙◌, arith}
+use Rattle.std.proofs.Common.{◌≡◌, ℕ, zero, suc, ◌+◌, ◌*◌, ◌^◌, ◌≤◌, Bool, true, false, cond, not, eqb, leb, ltb, List, [], ◌∷◌, ◌++◌, length, reverse, Option, Some, None, ap, ◌∙◌, arith}
 use Rattle.std.specs.Prelude.{◌&&◌}
-use Rattle.std.proofs.lemmas.Bool.{and_parts, leb-true}
+use Rattle.std.proofs.lemmas.Bool.{and_parts, eqb-true, leb-true}
 use Rattle.std.proofs.lemmas.List.{length-append}
 use Rattle.std.proofs.Math.Nat.{mul-le-mul_left, mul-suc}
 use Rattle.std.specs.Int.{w64, cast_unsigned}
@@ -12,11 +12,11 @@ use Rattle.ids.specs.declared.outcome.Outcome.TheVariants.{Value, TooDeep}
 use Rattle.ids.specs.declared.member.Status.TheVariants.{Live, Dead, Left}
 use Rattle.packet_fields.specs.declared.fault.Fault.{Fault}
 use Rattle.packet_fields.specs.declared.fault.Fault.TheVariants as fault
-use Rattle.packet_fields.specs.Format.{Format, at_most, tagged_arm, followed, items, listed, made, never, nothing, number, of_part, plain, tested, variant}
+use Rattle.packet_fields.specs.Format.{Format, at_most, tagged_arm, followed, items, listed, made, never, nothing, number, of_part, plain, raw, tested, variant}
 use Rattle.packet_fields.specs.Fields as field
 use Rattle.codec.specs.declared.body.Body.{Body}
 use Rattle.codec.specs.declared.body.Body.TheVariants as body
-use Rattle.codec.specs.Table.{PacketOf, Spells, abort, beat, fields, fits_body, granted, is_packet, is_short, join, kind_of, leave, offer_ack, packet, refuse, result_ack, roster, steal, suits, task_result, write_body}
+use Rattle.codec.specs.Table.{PacketOf, Spells, abort, beat, fields, fits_body, granted, is_packet, is_short, join, kind_of, leave, offer_ack, packet, piece, refuse, result_ack, roster, steal, suits, task_result, version_of, write_body}
 use Rattle.codec.proofs.TableLaws.{is_written}
 
 -- of what can be written, at most so many bytes are
@@ -236,6 +236,47 @@ beat_bytes =
     made_bytes 16 (followed field.worker (λ _. field.counted)) (λ x. record { from = x.0; version = x.1 }) (λ b. (b.from, b.version))
     (followed_bytes 8 8 field.worker (λ _. field.counted) worker_bytes (λ _. counted_bytes))
 
+-- a part of an offer
+part_few : (pieces number count : ℕ) → field.allows_part pieces number count ≡ true → count ≤ 65536
+part_few pieces number count e = by_last (eqb (number + 1) pieces) e
+  where
+    by_last : (b : Bool) → cond b (ltb 0 count && leb count field.part_bytes) (eqb count field.part_bytes) ≡ true → count ≤ 65536
+    by_last true f = leb-true count field.part_bytes (and_parts (ltb 0 count) (leb count field.part_bytes) f).1
+    by_last false f = omega (arith, eqb-true count field.part_bytes f)
+
+part_of_bytes : (pieces number : ℕ) → AtMost 65540 (field.part pieces number)
+unfolding field.part
+part_of_bytes pieces number = record {
+  bytes = λ xs f.
+      let count : ℕ = length xs in
+      let h = and_parts (ltb count (256 ^ 4) && field.allows_part pieces number count) ((raw count).fits xs) f in
+      let few : count ≤ 65536 = part_few pieces number count (and_parts (ltb count (256 ^ 4)) (field.allows_part pieces number count) h.0).1 in
+      omega (arith, length-append (big_bytes 4 count) xs, length-bytes_high_first 4 count, few);
+}
+
+raised_bytes : AtMost 4 field.raised
+unfolding field.raised
+raised_bytes = tested_bytes 4 fault.Field (number 4) (λ n. ltb 0 n) (number_bytes 4)
+
+pieces_bytes : AtMost 2 field.pieces
+unfolding field.pieces
+pieces_bytes = tested_bytes 2 fault.Field (number 2) (λ n. leb 2 n && leb n field.most_pieces) (number_bytes 2)
+
+piece_of_bytes : (pieces : ℕ) → AtMost 2 (field.piece_of pieces)
+piece_of_bytes pieces = tested_bytes 2 fault.Field (number 2) (λ n. ltb n pieces) (number_bytes 2)
+
+piece_bytes : AtMost 65572 piece
+unfolding piece
+piece_bytes =
+    made_bytes 65572 (followed field.worker (λ _. followed field.grant (λ _. followed field.raised (λ _. followed field.pieces (λ pieces. followed (field.piece_of pieces) (λ number. field.part pieces number))))))
+    (λ x. record { from = x.0; grant = x.1.0; hop = x.1.1.0; pieces = x.1.1.1.0; number = x.1.1.1.1.0; bytes = x.1.1.1.1.1 })
+    (λ b. (b.from, (b.grant, (b.hop, (b.pieces, (b.number, b.bytes))))))
+    (followed_bytes 8 65564 field.worker (λ _. followed field.grant (λ _. followed field.raised (λ _. followed field.pieces (λ pieces. followed (field.piece_of pieces) (λ number. field.part pieces number))))) worker_bytes (λ _.
+    followed_bytes 16 65548 field.grant (λ _. followed field.raised (λ _. followed field.pieces (λ pieces. followed (field.piece_of pieces) (λ number. field.part pieces number)))) grant_bytes (λ _.
+    followed_bytes 4 65544 field.raised (λ _. followed field.pieces (λ pieces. followed (field.piece_of pieces) (λ number. field.part pieces number))) raised_bytes (λ _.
+    followed_bytes 2 65542 field.pieces (λ pieces. followed (field.piece_of pieces) (λ number. field.part pieces number)) pieces_bytes (λ pieces.
+    followed_bytes 2 65540 (field.piece_of pieces) (λ number. field.part pieces number) (piece_of_bytes pieces) (part_of_bytes pieces))))))
+
 -- the fields of a short body: a roster's are the most
 body_bytes : (b : Body) → is_short b ≡ true → fits_body b ≡ true → length (write_body b) ≤ 69650
 body_bytes (body.Join b) short f = omega (arith, join_bytes.bytes b f)
@@ -250,11 +291,12 @@ body_bytes (body.OfferAck b) short f = omega (arith, offer_ack_bytes.bytes b f)
 body_bytes (body.Leave b) short f = omega (arith, leave_bytes.bytes b f)
 body_bytes (body.Abort b) short f = omega (arith, abort_bytes.bytes b f)
 body_bytes (body.Beat b) short f = omega (arith, beat_bytes.bytes b f)
+body_bytes (body.Piece b) short f = omega (arith, piece_bytes.bytes b f)
 
 -- ---- packets
 
-pieces : (a b c d e f : List ℕ) → length (a ++ (b ++ (c ++ (d ++ (e ++ f))))) ≡ length a + (length b + (length c + (length d + (length e + length f))))
-pieces a b c d e f = simp length-append
+six_parts : (a b c d e f : List ℕ) → length (a ++ (b ++ (c ++ (d ++ (e ++ f))))) ≡ length a + (length b + (length c + (length d + (length e + length f))))
+six_parts a b c d e f = simp length-append
 
 -- a short packet has at most 69,670 bytes
 packet_bytes : (p : PacketOf) → is_packet p ≡ true → is_short p.body ≡ true → length (packet.write p) ≤ 69670
@@ -265,9 +307,9 @@ packet_bytes p whole short =
     let fits : fits_body p.body ≡ true = (and_parts (suits kind p.to) (fits_body p.body) rest.1).1 in
     omega (
       arith,
-      pieces (big_bytes 2 0x434E) (big_bytes 1 1) (big_bytes 1 kind) (big_bytes 8 p.job) (big_bytes 8 p.to) (write_body p.body),
+      six_parts (big_bytes 2 0x434E) (big_bytes 1 (version_of kind)) (big_bytes 1 kind) (big_bytes 8 p.job) (big_bytes 8 p.to) (write_body p.body),
       length-bytes_high_first 2 0x434E,
-      length-bytes_high_first 1 1,
+      length-bytes_high_first 1 (version_of kind),
       length-bytes_high_first 1 kind,
       length-bytes_high_first 8 p.job,
       length-bytes_high_first 8 p.to,

@@ -1,4 +1,5 @@
 pub mod TableLaws
+pub mod Joining
 pub mod Written
 pub mod Lengths
 pub mod Rosters

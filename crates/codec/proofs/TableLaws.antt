@@ -17,10 +17,11 @@ use Rattle.packet_fields.specs.Format.{Fails, Format, Gives, IsBytes, ◌>>=◌,
 use Rattle.packet_fields.specs.Fields as field
 use Rattle.packet_fields.proofs.FormatLaws.{Lawful, bind_ok, constant_lawful, followed_lawful, made_lawful, number_lawful, ok_is, test_ok, tested_lawful, wide1, wide2, wide8}
 use Rattle.packet_fields.proofs.Skipping.{ended}
-use Rattle.packet_fields.proofs.FieldLaws.{actor_lawful, address_lawful, counted_lawful, epoch_lawful, frames_lawful, grant_lawful, hop_lawful, members_lawful, other_worker_lawful, outcome_lawful, progress_lawful, raised_lawful, records_lawful, task_lawful, worker_lawful}
+use Rattle.packet_fields.proofs.FieldLaws.{actor_lawful, address_lawful, counted_lawful, epoch_lawful, frames_lawful, grant_lawful, hop_lawful, part_lawful, piece_of_lawful, pieces_lawful, members_lawful, other_worker_lawful, outcome_lawful, progress_lawful, raised_lawful, records_lawful, task_lawful, worker_lawful}
 use Rattle.codec.specs.declared.body.Body.{Body}
 use Rattle.codec.specs.declared.body.Body.TheVariants as body
-use Rattle.codec.specs.Table.{IsSpelled, IsTooBig, PacketOf, SpelledBody, Spelling, Spells, abort, beat, task_result, fields, fits_body, granted, is_house, is_kind, is_packet, join, kind_of, leave, offer, offer_ack, packet, read_body, reading, reads, refuse, result_ack, roster, steal, suits, write_body}
+use Rattle.codec.specs.Pieces.{long_reading}
+use Rattle.codec.specs.Table.{IsSpelled, IsTooBig, PacketOf, SpelledBody, Spelling, Spells, abort, beat, task_result, fields, fits_body, granted, has_kind, is_house, is_kind, is_packet, is_version, join, kind_of, leave, offer, offer_ack, packet, piece, read_body, reading, reads, refuse, result_ack, roster, steal, suits, version_of, write_body}
 
 -- ---- the kinds
 
@@ -131,6 +132,20 @@ beat_lawful =
     (λ b. refl)
     (λ from to x s. refl)
 
+pub piece_lawful : Lawful piece
+unfolding piece
+piece_lawful =
+    made_lawful (followed field.worker (λ _. followed field.grant (λ _. followed field.raised (λ _. followed field.pieces (λ pieces. followed (field.piece_of pieces) (λ number. field.part pieces number))))))
+    (λ x. record { from = x.0; grant = x.1.0; hop = x.1.1.0; pieces = x.1.1.1.0; number = x.1.1.1.1.0; bytes = x.1.1.1.1.1 })
+    (λ b. (b.from, (b.grant, (b.hop, (b.pieces, (b.number, b.bytes))))))
+    (followed_lawful field.worker (λ _. followed field.grant (λ _. followed field.raised (λ _. followed field.pieces (λ pieces. followed (field.piece_of pieces) (λ number. field.part pieces number))))) worker_lawful (λ _.
+    followed_lawful field.grant (λ _. followed field.raised (λ _. followed field.pieces (λ pieces. followed (field.piece_of pieces) (λ number. field.part pieces number)))) grant_lawful (λ _.
+    followed_lawful field.raised (λ _. followed field.pieces (λ pieces. followed (field.piece_of pieces) (λ number. field.part pieces number))) raised_lawful (λ _.
+    followed_lawful field.pieces (λ pieces. followed (field.piece_of pieces) (λ number. field.part pieces number)) pieces_lawful (λ pieces.
+    followed_lawful (field.piece_of pieces) (λ number. field.part pieces number) (piece_of_lawful pieces) (part_lawful pieces))))))
+    (λ b. refl)
+    (λ from to x s. refl)
+
 -- ---- the fields of a kind
 
 reads_found : {X : Type 0} (F : Format X) (make : X → Body) (kind : ℕ) → Lawful F → ((x : X) → kind_of (make x) ≡ kind) → ((from to : List ℕ) (x : X) → F.Spelled from to x → SpelledBody from to (make x))
@@ -158,7 +173,8 @@ body_found (suc (suc (suc (suc (suc (suc (suc (suc (suc zero))))))))) from to b 
 body_found (suc (suc (suc (suc (suc (suc (suc (suc (suc (suc zero)))))))))) from to b bytes e = reads_found leave body.Leave 10 leave_lawful (λ x. refl) (λ f t x s. s) from to b bytes e
 body_found (suc (suc (suc (suc (suc (suc (suc (suc (suc (suc (suc zero))))))))))) from to b bytes e = reads_found abort body.Abort 11 abort_lawful (λ x. refl) (λ f t x s. s) from to b bytes e
 body_found (suc (suc (suc (suc (suc (suc (suc (suc (suc (suc (suc (suc zero)))))))))))) from to b bytes e = reads_found beat body.Beat 12 beat_lawful (λ x. refl) (λ f t x s. s) from to b bytes e
-body_found (suc (suc (suc (suc (suc (suc (suc (suc (suc (suc (suc (suc (suc n))))))))))))) from to b bytes e = absurd cc
+body_found (suc (suc (suc (suc (suc (suc (suc (suc (suc (suc (suc (suc (suc zero))))))))))))) from to b bytes e = reads_found piece body.Piece 13 piece_lawful (λ x. refl) (λ f t x s. s) from to b bytes e
+body_found (suc (suc (suc (suc (suc (suc (suc (suc (suc (suc (suc (suc (suc (suc n)))))))))))))) from to b bytes e = absurd cc
 
 body_only : (from to : List ℕ) (b : Body) → SpelledBody from to b → read_body (kind_of b) from ≡ Ok (b, to)
 body_only from to (body.Join b) s = reads_only join body.Join join_lawful from to b s
@@ -173,6 +189,7 @@ body_only from to (body.OfferAck b) s = reads_only offer_ack body.OfferAck offer
 body_only from to (body.Leave b) s = reads_only leave body.Leave leave_lawful from to b s
 body_only from to (body.Abort b) s = reads_only abort body.Abort abort_lawful from to b s
 body_only from to (body.Beat b) s = reads_only beat body.Beat beat_lawful from to b s
+body_only from to (body.Piece b) s = reads_only piece body.Piece piece_lawful from to b s
 
 body_one : (from to : List ℕ) (b : Body) → SpelledBody from to b → from ≡ write_body b ++ to
 body_one from to (body.Join b) s = join_lawful.one from to b s
@@ -187,6 +204,7 @@ body_one from to (body.OfferAck b) s = offer_ack_lawful.one from to b s
 body_one from to (body.Leave b) s = leave_lawful.one from to b s
 body_one from to (body.Abort b) s = abort_lawful.one from to b s
 body_one from to (body.Beat b) s = beat_lawful.one from to b s
+body_one from to (body.Piece b) s = piece_lawful.one from to b s
 
 body_writes : (b : Body) (to : List ℕ) → fits_body b ≡ true → SpelledBody (write_body b ++ to) to b
 body_writes (body.Join b) to f = join_lawful.writes b to f
@@ -201,6 +219,7 @@ body_writes (body.OfferAck b) to f = offer_ack_lawful.writes b to f
 body_writes (body.Leave b) to f = leave_lawful.writes b to f
 body_writes (body.Abort b) to f = abort_lawful.writes b to f
 body_writes (body.Beat b) to f = beat_lawful.writes b to f
+body_writes (body.Piece b) to f = piece_lawful.writes b to f
 
 body_fit : (from to : List ℕ) (b : Body) → SpelledBody from to b → fits_body b ≡ true
 body_fit from to (body.Join b) s = join_lawful.fit from to b s
@@ -215,6 +234,7 @@ body_fit from to (body.OfferAck b) s = offer_ack_lawful.fit from to b s
 body_fit from to (body.Leave b) s = leave_lawful.fit from to b s
 body_fit from to (body.Abort b) s = abort_lawful.fit from to b s
 body_fit from to (body.Beat b) s = beat_lawful.fit from to b s
+body_fit from to (body.Piece b) s = piece_lawful.fit from to b s
 
 pub fields_lawful : (kind : ℕ) → Lawful (fields kind)
 unfolding fields
@@ -243,22 +263,55 @@ kind_spelled : (kind : ℕ) (from to : List ℕ) (x : ℕ × (ℕ × Body)) → 
 unfolding after_kind fields
 kind_spelled kind from to x s = s.2.2.0
 
+-- what stands behind the version
+in_version : ℕ → Format (ℕ × (ℕ × (ℕ × Body)))
+in_version version = followed (tested fault.Kind (number 1) (has_kind version)) after_kind
+
+in_version_lawful : (version : ℕ) → Lawful (in_version version)
+unfolding in_version
+in_version_lawful version = followed_lawful (tested fault.Kind (number 1) (has_kind version)) after_kind (tested_lawful fault.Kind (number 1) (has_kind version) (number_lawful 1 wide1)) after_kind_lawful
+
+-- what is spelled behind a version is of a kind that it has
+version_spelled : (version : ℕ) (from to : List ℕ) (x : ℕ × (ℕ × (ℕ × Body))) → (in_version version).Spelled from to x → (version_of x.0 ≡ version) × (kind_of x.1.1.1 ≡ x.0)
+unfolding in_version
+version_spelled version from to x s = (eqb-true (version_of x.0) version (and_parts (is_kind x.0) (eqb (version_of x.0) version) s.1.1).1, kind_spelled x.0 s.0 to x.1 s.2)
+
+abbrev Fields : Type 0
+Fields = Unit {0} × (ℕ × (ℕ × (ℕ × (ℕ × Body))))
+
+same_fields : (x : Fields) → version_of x.1.1.0 ≡ x.1.0 → kind_of x.1.1.1.1.1 ≡ x.1.1.0 → ◌≡◌ {A = Fields} (tt, (version_of (kind_of x.1.1.1.1.1), (kind_of x.1.1.1.1.1, (x.1.1.1.0, (x.1.1.1.1.0, x.1.1.1.1.1))))) x
+same_fields x v k = rw (k, v) refl
+
 pub packet_lawful : Lawful packet
-unfolding packet after_kind
+unfolding packet in_version after_kind
 packet_lawful =
-    let kind : Format ℕ = tested fault.Kind (number 1) is_kind in
-    made_lawful (followed (constant fault.Magic 2 0x434E) (λ _. followed (constant fault.Version 1 1) (λ _. followed kind after_kind)))
+    let version : Format ℕ = tested fault.Version (number 1) is_version in
+    made_lawful (followed (constant fault.Magic 2 0x434E) (λ _. followed version in_version))
     (λ x. record { job = x.1.1.1.0; to = x.1.1.1.1.0; body = x.1.1.1.1.1 })
-    (λ p. (tt, (tt, (kind_of p.body, (p.job, (p.to, p.body))))))
-    (followed_lawful (constant fault.Magic 2 0x434E) (λ _. followed (constant fault.Version 1 1) (λ _. followed kind after_kind)) (constant_lawful fault.Magic 2 0x434E wide2) (λ _.
-    followed_lawful (constant fault.Version 1 1) (λ _. followed kind after_kind) (constant_lawful fault.Version 1 1 wide1) (λ _.
-    followed_lawful kind after_kind (tested_lawful fault.Kind (number 1) is_kind (number_lawful 1 wide1)) after_kind_lawful)))
+    (λ p. (tt, (version_of (kind_of p.body), (kind_of p.body, (p.job, (p.to, p.body))))))
+    (followed_lawful (constant fault.Magic 2 0x434E) (λ _. followed version in_version) (constant_lawful fault.Magic 2 0x434E wide2) (λ _.
+    followed_lawful version in_version (tested_lawful fault.Version (number 1) is_version (number_lawful 1 wide1)) in_version_lawful))
     (λ p. refl)
-    (λ from to x s. ap (λ (k : ℕ). let q : Unit {0} × (Unit {0} × (ℕ × (ℕ × (ℕ × Body)))) = (tt, (tt, (k, (x.1.1.1.0, (x.1.1.1.1.0, x.1.1.1.1.1))))) in q) (kind_spelled x.1.1.0 s.2.2.0 to x.1.1.1 s.2.2.2))
+    (λ from to x s. let k = version_spelled x.1.0 s.2.0 to x.1.1 s.2.2 in same_fields x k.0 k.1)
 
 -- ---- what can be written
 
-kind_in : (b : Body) → (ltb (kind_of b) (256 ^ 1) && is_kind (kind_of b)) ≡ true
+version_in : (b : Body) → (ltb (version_of (kind_of b)) (256 ^ 1) && is_version (version_of (kind_of b))) ≡ true
+version_in (body.Join b) = refl
+version_in (body.Roster b) = refl
+version_in (body.Steal b) = refl
+version_in (body.Grant b) = refl
+version_in (body.Refuse b) = refl
+version_in (body.Result b) = refl
+version_in (body.ResultAck b) = refl
+version_in (body.Offer b) = refl
+version_in (body.OfferAck b) = refl
+version_in (body.Leave b) = refl
+version_in (body.Abort b) = refl
+version_in (body.Beat b) = refl
+version_in (body.Piece b) = refl
+
+kind_in : (b : Body) → (ltb (kind_of b) (256 ^ 1) && has_kind (version_of (kind_of b)) (kind_of b)) ≡ true
 kind_in (body.Join b) = refl
 kind_in (body.Roster b) = refl
 kind_in (body.Steal b) = refl
@@ -271,6 +324,7 @@ kind_in (body.OfferAck b) = refl
 kind_in (body.Leave b) = refl
 kind_in (body.Abort b) = refl
 kind_in (body.Beat b) = refl
+kind_in (body.Piece b) = refl
 
 -- an address that suits a kind is one
 in_range : (word : ℕ) → 0 < word → word < 2 ^ 64 → is_address word ≡ true
@@ -319,16 +373,21 @@ packet_fits p whole =
     let word = and_parts (ltb 0 p.to) (ltb p.to (2 ^ 64)) address in
     let to : (ltb p.to (256 ^ 8) && (is_address p.to && suits kind p.to)) ≡ true = and_from (ltb p.to (256 ^ 8)) (is_address p.to && suits kind p.to) word.1 (and_from (is_address p.to) (suits kind p.to) address parts.0) in
     let said : (eqb kind kind && fits_body p.body) ≡ true = and_from (eqb kind kind) (fits_body p.body) (eq-eqb kind kind refl) parts.1 in
-    and_from (ltb kind (256 ^ 1) && is_kind kind) (ltb p.job (256 ^ 8) && ((ltb p.to (256 ^ 8) && (is_address p.to && suits kind p.to)) && (eqb kind kind && fits_body p.body))) (kind_in p.body)
+    let version : ℕ = version_of kind in
+    let rest : Bool = ltb p.job (256 ^ 8) && ((ltb p.to (256 ^ 8) && (is_address p.to && suits kind p.to)) && (eqb kind kind && fits_body p.body)) in
+    and_from (ltb version (256 ^ 1) && is_version version) ((ltb kind (256 ^ 1) && has_kind version kind) && rest) (version_in p.body)
+    (and_from (ltb kind (256 ^ 1) && has_kind version kind) rest (kind_in p.body)
     (and_from (ltb p.job (256 ^ 8)) ((ltb p.to (256 ^ 8) && (is_address p.to && suits kind p.to)) && (eqb kind kind && fits_body p.body)) (lt-ltb p.job (256 ^ 8) (omega arith))
-    (and_from (ltb p.to (256 ^ 8) && (is_address p.to && suits kind p.to)) (eqb kind kind && fits_body p.body) to said))
+    (and_from (ltb p.to (256 ^ 8) && (is_address p.to && suits kind p.to)) (eqb kind kind && fits_body p.body) to said)))
 
 -- what can be written is a packet
 packet_fits_parts : (p : PacketOf) → packet.fits p ≡ true → is_packet p ≡ true
 unfolding packet fields
 packet_fits_parts p f =
     let kind : ℕ = kind_of p.body in
-    let a = and_parts (ltb kind (256 ^ 1) && is_kind kind) (ltb p.job (256 ^ 8) && ((ltb p.to (256 ^ 8) && (is_address p.to && suits kind p.to)) && (eqb kind kind && fits_body p.body))) f in
+    let version : ℕ = version_of kind in
+    let first = and_parts (ltb version (256 ^ 1) && is_version version) ((ltb kind (256 ^ 1) && has_kind version kind) && (ltb p.job (256 ^ 8) && ((ltb p.to (256 ^ 8) && (is_address p.to && suits kind p.to)) && (eqb kind kind && fits_body p.body)))) f in
+    let a = and_parts (ltb kind (256 ^ 1) && has_kind version kind) (ltb p.job (256 ^ 8) && ((ltb p.to (256 ^ 8) && (is_address p.to && suits kind p.to)) && (eqb kind kind && fits_body p.body))) first.1 in
     let b = and_parts (ltb p.job (256 ^ 8)) ((ltb p.to (256 ^ 8) && (is_address p.to && suits kind p.to)) && (eqb kind kind && fits_body p.body)) a.1 in
     let c = and_parts (ltb p.to (256 ^ 8) && (is_address p.to && suits kind p.to)) (eqb kind kind && fits_body p.body) b.1 in
     let to = and_parts (ltb p.to (256 ^ 8)) (is_address p.to && suits kind p.to) c.0 in
@@ -364,38 +423,50 @@ guard_err true d r y e = absurd cc
 guard_err false d r y e = (refl, e)
 
 -- what the reading of all of the bytes answers is the packet in front, and nothing is behind it
-pub read_whole : (bytes : List ℕ) (p : PacketOf) → reading bytes ≡ Ok p → packet.read bytes ≡ Ok (p, [])
-unfolding reading
+pub read_whole : (bytes : List ℕ) (p : PacketOf) → long_reading bytes ≡ Ok p → packet.read bytes ≡ Ok (p, [])
+unfolding long_reading
 read_whole bytes p e =
-    let short = guard_err (ltb 1048576 (length bytes)) fault.TooBig (packet.read bytes >>= λ x. cond (eqb (length x.1) 0) (Ok x.0) (Err fault.Trailing)) p e in
-    let read = bind_ok (packet.read bytes) (λ x. cond (eqb (length x.1) 0) (Ok x.0) (Err fault.Trailing)) p short.1 in
+    let read = bind_ok (packet.read bytes) (λ x. cond (eqb (length x.1) 0) (Ok x.0) (Err fault.Trailing)) p e in
     let ended = test_ok (eqb (length read.0.1) 0) fault.Trailing read.0.0 p read.2 in
     let nothing : read.0.1 ≡ [] = nil_from_length read.0.1 (eqb-true (length read.0.1) 0 ended.0) in
     subst (λ (q : PacketOf). packet.read bytes ≡ Ok (q, [])) ended.1 (subst (λ (to : List ℕ). packet.read bytes ≡ Ok (read.0.0, to)) nothing read.1)
 
 -- the packet in front, where all of the bytes are read
-pub is_whole : (bytes left : List ℕ) (p q : PacketOf) → reading bytes ≡ Ok p → packet.read bytes ≡ Ok (q, left) → reading bytes ≡ Ok q
+pub is_whole : (bytes left : List ℕ) (p q : PacketOf) → long_reading bytes ≡ Ok p → packet.read bytes ≡ Ok (q, left) → long_reading bytes ≡ Ok q
 is_whole bytes left p q e front =
     let same : p ≡ q = ap (λ (x : PacketOf × List ℕ). x.0) (ok_is (p, []) (q, left) (sym (read_whole bytes p e) ∙ front)) in
-    subst (λ (x : PacketOf). reading bytes ≡ Ok x) same e
+    subst (λ (x : PacketOf). long_reading bytes ≡ Ok x) same e
 
 -- the reading of a packet in front has no fault then
-pub no_fault : (bytes : List ℕ) (p : PacketOf) (e : ReadError) → reading bytes ≡ Ok p → Fails e (packet.read bytes) → Fails e (reading bytes)
+pub no_fault : (bytes : List ℕ) (p : PacketOf) (e : ReadError) → long_reading bytes ≡ Ok p → Fails e (packet.read bytes) → Fails e (long_reading bytes)
 no_fault bytes p errors.Memory read fails = tt
 no_fault bytes p (errors.Fault f) read fails =
     let both : (let r : Result (PacketOf × List ℕ) Fault = Ok (p, []) in r) ≡ Err f = sym (read_whole bytes p read) ∙ fails in
     absurd cc
 
 -- a packet with nothing behind it is all of the bytes
-read_to_end : (bytes left : List ℕ) (p : PacketOf) → length bytes ≤ 1048576 → packet.read bytes ≡ Ok (p, left) → nat_eq (length left) 0 ≡ true → reading bytes ≡ Ok p
-unfolding reading
-read_to_end bytes left p short e nothing = rw (le-ltb 1048576 (length bytes) short, e, nothing) refl
+read_to_end : (bytes left : List ℕ) (p : PacketOf) → packet.read bytes ≡ Ok (p, left) → nat_eq (length left) 0 ≡ true → long_reading bytes ≡ Ok p
+unfolding long_reading
+read_to_end bytes left p e nothing = rw (e, nothing) refl
 
 -- and so are bytes that were passed over to their end
-pub passed_whole : (bytes left : List ℕ) → length bytes ≤ 1048576 → end_of (packet.read bytes) ≡ Ok left → nat_eq (length left) 0 ≡ true → (p : PacketOf) × (reading bytes ≡ Ok p)
-passed_whole bytes left short e nothing =
+pub passed_whole : (bytes left : List ℕ) → end_of (packet.read bytes) ≡ Ok left → nat_eq (length left) 0 ≡ true → (p : PacketOf) × (long_reading bytes ≡ Ok p)
+passed_whole bytes left e nothing =
     let x = ended (packet.read bytes) left e in
-    (x.0, read_to_end bytes left x.0 short x.1 nothing)
+    (x.0, read_to_end bytes left x.0 x.1 nothing)
+
+-- where they aren't too many, nothing else is read of them, and else they are refused
+pub reading_short : (bytes : List ℕ) → length bytes ≤ 1048576 → reading bytes ≡ long_reading bytes
+unfolding reading long_reading
+reading_short bytes short = rw (le-ltb 1048576 (length bytes) short) refl
+
+pub reading_long : (bytes : List ℕ) → 1048576 < length bytes → reading bytes ≡ Err fault.TooBig
+unfolding reading
+reading_long bytes long = rw (lt-ltb 1048576 (length bytes) long) refl
+
+-- what is given of them is given of as many as are allowed
+pub gives_short : (bytes : List ℕ) (r : Result PacketOf ReadError) → length bytes ≤ 1048576 → Gives (λ x. x) r (long_reading bytes) → Gives (λ x. x) r (reading bytes)
+gives_short bytes r short e = subst (λ (read : Result PacketOf Fault). Gives (λ x. x) r read) (sym (reading_short bytes short)) e
 
 -- what the reading of all of the bytes answers is spelled so
 pub reading_found : (bytes : List ℕ) (p : PacketOf) → IsBytes bytes → reading bytes ≡ Ok p → Spells bytes p

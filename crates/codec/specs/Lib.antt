@@ -1,5 +1,6 @@
 pub mod Table
 pub mod Heads
+pub mod Pieces
 pub mod Rosters
 pub mod Datagrams
 pub mod Errors

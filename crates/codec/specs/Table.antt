@@ -21,6 +21,7 @@ use Rattle.codec.specs.declared.body.OfferAck.{OfferAck}
 use Rattle.codec.specs.declared.body.Leave.{Leave}
 use Rattle.codec.specs.declared.body.Abort.{Abort}
 use Rattle.codec.specs.declared.body.Beat.{Beat}
+use Rattle.codec.specs.declared.body.Piece.{Piece}
 
 -- a worker wants to be a member
 unfoldable pub join : Format Join
@@ -88,6 +89,14 @@ abort = made field.grant (λ x. record { grant = x }) (λ b. b.grant)
 unfoldable pub beat : Format Beat
 beat = made (followed field.worker (λ _. field.counted)) (λ x. record { from = x.0; version = x.1 }) (λ b. (b.from, b.version))
 
+-- a part of an offer that is too long for one packet
+unfoldable pub piece : Format Piece
+piece =
+    made
+    (followed field.worker (λ _. followed field.grant (λ _. followed field.raised (λ _. followed field.pieces (λ pieces. followed (field.piece_of pieces) (λ number. field.part pieces number))))))
+    (λ x. record { from = x.0; grant = x.1.0; hop = x.1.1.0; pieces = x.1.1.1.0; number = x.1.1.1.1.0; bytes = x.1.1.1.1.1 })
+    (λ b. (b.from, (b.grant, (b.hop, (b.pieces, (b.number, b.bytes))))))
+
 -- the number of a kind
 abbrev pub number_of : Kind → ℕ
 number_of kinds.Join = 1
@@ -102,6 +111,7 @@ number_of kinds.OfferAck = 9
 number_of kinds.Leave = 10
 number_of kinds.Abort = 11
 number_of kinds.Beat = 12
+number_of kinds.Piece = 13
 
 -- the number of the kind of a body
 abbrev pub kind_of : Body → ℕ
@@ -117,6 +127,7 @@ kind_of (body.OfferAck b) = 9
 kind_of (body.Leave b) = 10
 kind_of (body.Abort b) = 11
 kind_of (body.Beat b) = 12
+kind_of (body.Piece b) = 13
 
 -- from these bytes up to those, the fields of the kind are spelled
 abbrev pub SpelledBody : List ℕ → List ℕ → Body → Type 0
@@ -132,6 +143,7 @@ SpelledBody from to (body.OfferAck b) = offer_ack.Spelled from to b
 SpelledBody from to (body.Leave b) = leave.Spelled from to b
 SpelledBody from to (body.Abort b) = abort.Spelled from to b
 SpelledBody from to (body.Beat b) = beat.Spelled from to b
+SpelledBody from to (body.Piece b) = piece.Spelled from to b
 
 -- the bytes of the fields
 abbrev pub write_body : Body → List ℕ
@@ -147,6 +159,7 @@ write_body (body.OfferAck b) = offer_ack.write b
 write_body (body.Leave b) = leave.write b
 write_body (body.Abort b) = abort.write b
 write_body (body.Beat b) = beat.write b
+write_body (body.Piece b) = piece.write b
 
 -- whether the fields can be written
 abbrev pub fits_body : Body → Bool
@@ -162,6 +175,7 @@ fits_body (body.OfferAck b) = offer_ack.fits b
 fits_body (body.Leave b) = leave.fits b
 fits_body (body.Abort b) = abort.fits b
 fits_body (body.Beat b) = beat.fits b
+fits_body (body.Piece b) = piece.fits b
 
 -- whether the body is no offer: such a packet is never too big
 abbrev pub is_short : Body → Bool
@@ -187,7 +201,8 @@ read_body (suc (suc (suc (suc (suc (suc (suc (suc (suc zero))))))))) from = read
 read_body (suc (suc (suc (suc (suc (suc (suc (suc (suc (suc zero)))))))))) from = reads leave body.Leave from
 read_body (suc (suc (suc (suc (suc (suc (suc (suc (suc (suc (suc zero))))))))))) from = reads abort body.Abort from
 read_body (suc (suc (suc (suc (suc (suc (suc (suc (suc (suc (suc (suc zero)))))))))))) from = reads beat body.Beat from
-read_body (suc (suc (suc (suc (suc (suc (suc (suc (suc (suc (suc (suc (suc n))))))))))))) from = Err fault.Kind
+read_body (suc (suc (suc (suc (suc (suc (suc (suc (suc (suc (suc (suc (suc zero))))))))))))) from = reads piece body.Piece from
+read_body (suc (suc (suc (suc (suc (suc (suc (suc (suc (suc (suc (suc (suc (suc n)))))))))))))) from = Err fault.Kind
 
 -- the fields of a kind
 unfoldable pub fields : ℕ → Format Body
@@ -199,7 +214,19 @@ fields kind = record {
 }
 
 abbrev pub is_kind : ℕ → Bool
-is_kind kind = nat_lt 0 kind && nat_lt kind 13
+is_kind kind = nat_lt 0 kind && nat_lt kind 14
+
+-- the version in which a kind is spelled: a Piece in the second, all others in the first
+abbrev pub version_of : ℕ → ℕ
+version_of kind = if nat_lt kind 13 then 1 else 2
+
+-- there are two versions
+abbrev pub is_version : ℕ → Bool
+is_version version = nat_eq version 1 || nat_eq version 2
+
+-- whether it is a kind, and of this version
+abbrev pub has_kind : ℕ → ℕ → Bool
+has_kind version kind = is_kind kind && nat_eq (version_of kind) version
 
 -- the clearinghouse in an epoch
 abbrev pub is_house : ℕ → Bool
@@ -224,15 +251,15 @@ pub record PacketOf : Type 0 where
 abbrev pub is_packet : PacketOf → Bool
 is_packet p = nat_lt p.job (2 ^ 64) && (suits (kind_of p.body) p.to && fits_body p.body)
 
--- 20 bytes stand in front of the fields: 43 4E, the version 1, the kind, the job and whom it goes to
+-- 20 bytes stand in front of the fields: 43 4E, the version, the kind, the job and whom it goes to
 unfoldable pub packet : Format PacketOf
 packet =
     made
-    (followed (constant fault.Magic 2 0x434E) (λ _. followed (constant fault.Version 1 1) (λ _.
-    followed (tested fault.Kind (number 1) is_kind) (λ kind. followed (number 8) (λ _.
+    (followed (constant fault.Magic 2 0x434E) (λ _. followed (tested fault.Version (number 1) is_version) (λ version.
+    followed (tested fault.Kind (number 1) (has_kind version)) (λ kind. followed (number 8) (λ _.
     followed (field.address (suits kind)) (λ _. fields kind))))))
     (λ x. record { job = x.1.1.1.0; to = x.1.1.1.1.0; body = x.1.1.1.1.1 })
-    (λ p. (tt, (tt, (kind_of p.body, (p.job, (p.to, p.body))))))
+    (λ p. (tt, (version_of (kind_of p.body), (kind_of p.body, (p.job, (p.to, p.body))))))
 
 -- the bytes are the packet's fields one after the other, all of them, and however many
 abbrev pub Spelling : List ℕ → PacketOf → Type 0

@@ -97,6 +97,18 @@ pub struct Beat {
     pub version: Count,
 }
 
+/// A part of an offer that is too long for one packet: who leaves, the grant, how often it has moved with this move, into how many
+/// parts the offer's spelling is cut, which of them this is, counted from 0, and its bytes.
+#[derive(Drop)]
+pub struct Piece {
+    pub from: Incarnation,
+    pub grant: GrantId,
+    pub hop: Hop,
+    pub pieces: u16,
+    pub number: u16,
+    pub bytes: Listed<u8>,
+}
+
 /// What a packet says, by its kind.
 #[derive(Drop)]
 pub enum Body {
@@ -112,6 +124,7 @@ pub enum Body {
     Leave(Leave),
     Abort(Abort),
     Beat(Beat),
+    Piece(Piece),
 }
 
 /// The kinds of packets.
@@ -129,4 +142,5 @@ pub enum Kind {
     Leave,
     Abort,
     Beat,
+    Piece,
 }

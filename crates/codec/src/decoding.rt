@@ -1,13 +1,15 @@
 ghost use Rattle.std.specs.Prelude.{◌≡◌, IfOk, Err, Ok};
 ghost use Rattle.packet_fields.specs.declared.fault.ReadError.TheVariants as errors;
-ghost use Rattle.packet_fields.specs.Format.{Gives, Reads, end_of};
+ghost use Rattle.packet_fields.specs.Format.{Gives, Reads, end_of, number, tested};
+ghost use Rattle.packet_fields.specs.declared.fault.Fault.TheVariants as fault;
 ghost use Rattle.codec.specs.Heads.{IsChecked, StandsBefore};
+ghost use Rattle.codec.specs.Pieces.{long_reading};
 ghost use Rattle.codec.specs.Table.{PacketOf, Spells};
 ghost use Rattle.codec.specs.Table as table;
 ghost use Rattle.packet_fields.specs.Fields as field;
 
 use crate::body::{Body, Kind};
-use crate::fields::{read_fields, skip_fields};
+use crate::fields::{FIRST_VERSION, SECOND_VERSION, read_fields, skip_fields};
 use crate::packet::{Packet, suits};
 use ids::Address;
 use packet_fields::{Fault, Input, ReadError};
@@ -18,9 +20,6 @@ pub const MOST_BYTES: usize = 1_048_576;
 
 /// What stands in front of each packet.
 pub const MAGIC: u16 = 0x434E;
-
-/// The version of all twelve kinds.
-pub const VERSION: u8 = 1;
 
 /// What stands in front of a packet's fields.
 #[derive(Clone, Copy)]
@@ -38,6 +37,17 @@ struct Parts {
     body: Body,
 }
 
+/// The kind, which is one of a version.
+fn kind_in(version: u8, input: &mut Input<'_>) -> Result<Kind, Fault>
+    ensures { Reads (λ k. (table.number_of k, input.new)) result
+        ((tested fault.Kind (number 1) (table.has_kind version)).read input.old) }
+{
+    match Kind::of(input.byte()?) {
+        Some(kind) if kind.version() == version => Ok(kind),
+        _ => Err(Fault::Kind),
+    }
+}
+
 /// What stands in front of the fields.
 #[tactic(auto, unfolding(crate::specs::Table::packet))]
 fn head_of(input: &mut Input<'_>) -> Result<Head, Fault>
@@ -47,12 +57,11 @@ fn head_of(input: &mut Input<'_>) -> Result<Head, Fault>
     if input.u16()? != MAGIC {
         return Err(Fault::Magic);
     }
-    if input.byte()? != VERSION {
+    let version = input.byte()?;
+    if version != FIRST_VERSION && version != SECOND_VERSION {
         return Err(Fault::Version);
     }
-    let Some(kind) = Kind::of(input.byte()?) else {
-        return Err(Fault::Kind);
-    };
+    let kind = kind_in(version, input)?;
     let job = input.u64()?;
     let to = address(kind, input)?;
     Ok(Head { kind, job, to })
@@ -87,14 +96,11 @@ fn skip_parts(input: &mut Input<'_>) -> Result<(), Fault>
     skip_fields(head.kind, input)
 }
 
-/// Whether the bytes spell a packet, or the first fault. No memory is taken.
-#[tactic(auto, unfolding(crate::specs::Table::reading))]
+/// Whether the bytes, however many, spell a packet, or the first fault. No memory is taken.
+#[tactic(auto, unfolding(crate::specs::Pieces::long_reading))]
 fn check(alloc: Global, bytes: &[u8]) -> Result<(), Fault>
-    ensures { IsChecked result (table.reading bytes.now) }
+    ensures { IsChecked result (long_reading bytes.now) }
 {
-    if bytes.len() > MOST_BYTES {
-        return Err(Fault::TooBig);
-    }
     let mut input = Input::new(alloc, bytes);
     skip_parts(&mut input)?;
     if !input.is_empty() {
@@ -103,14 +109,25 @@ fn check(alloc: Global, bytes: &[u8]) -> Result<(), Fault>
     Ok(())
 }
 
-/// The packet that the bytes spell.
+/// The packet that the bytes, however many, spell.
 fn whole(alloc: Global, bytes: &[u8]) -> Result<Packet, ReadError>
-    requires { (p : PacketOf) × (table.reading bytes.now ≡ Ok p) }
-    ensures { Gives (λ x. x) result (table.reading bytes.now) }
+    requires { (p : PacketOf) × (long_reading bytes.now ≡ Ok p) }
+    ensures { Gives (λ x. x) result (long_reading bytes.now) }
 {
     let mut input = Input::new(alloc, bytes);
     let Parts { job, to, body } = parts_of(&mut input)?;
     Ok(Packet { job, to, body })
+}
+
+/// The packet that the bytes, however many, spell, or the first fault. The bytes are looked through before any memory is
+/// taken.
+fn read_all(alloc: Global, bytes: &[u8]) -> Result<Packet, ReadError>
+    ensures read { Gives (λ x. x) result (long_reading bytes.now) }
+    // Memory runs out for a packet alone.
+    ensures memory { result ≡ Err errors.Memory → (p : PacketOf) × (long_reading bytes.now ≡ Ok p) }
+{
+    check(alloc, bytes)?;
+    whole(alloc, bytes)
 }
 
 /// The packet that the bytes spell, or the first fault that a reader from the front meets: E30 over 1,048,576 bytes, E31
@@ -127,6 +144,16 @@ pub fn decode(alloc: Global, bytes: &[u8]) -> Result<Packet, ReadError>
     // Memory runs out for a packet alone.
     ensures memory { result ≡ Err errors.Memory → (p : PacketOf) × Spells bytes.now p }
 {
-    check(alloc, bytes)?;
-    whole(alloc, bytes)
+    if bytes.len() > MOST_BYTES {
+        return Err(ReadError::Fault(Fault::TooBig));
+    }
+    read_all(alloc, bytes)
+}
+
+/// The packet that the joined parts of its spelling are, of which there may be any number of bytes: as `decode`, but without
+/// E30.
+pub fn decode_joined(alloc: Global, bytes: &[u8]) -> Result<Packet, ReadError>
+    ensures { Gives (λ x. x) result (long_reading bytes.now) }
+{
+    read_all(alloc, bytes)
 }

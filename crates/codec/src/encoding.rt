@@ -3,7 +3,7 @@ ghost use Rattle.codec.specs.Table.{IsTooBig, Spells};
 ghost use Rattle.codec.specs.Table as table;
 ghost use Rattle.codec.specs.declared.encoding.EncodeError.TheVariants.{TooBig};
 
-use crate::decoding::{MAGIC, MOST_BYTES, VERSION};
+use crate::decoding::{MAGIC, MOST_BYTES};
 use crate::fields::{kind_of, write_fields};
 use crate::packet::Packet;
 use crate::room::room_for;
@@ -53,8 +53,9 @@ fn put(packet: &Packet, out: &mut Vec<u8>) -> Result<(), AllocError>
     ensures fits { OnOk result (IsTrue (table.packet.fits packet.now)) }
 {
     write::u16(out, MAGIC)?;
-    write::byte(out, VERSION)?;
-    write::byte(out, kind_of(packet.body()).number())?;
+    let kind = kind_of(packet.body());
+    write::byte(out, kind.version())?;
+    write::byte(out, kind.number())?;
     write::u64(out, packet.job())?;
     write::u64(out, packet.to().word())?;
     write_fields(packet.body(), out)?;

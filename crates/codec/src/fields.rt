@@ -4,11 +4,17 @@ ghost use Rattle.packet_fields.specs.Format.{Gives, Reads, end_of};
 ghost use Rattle.codec.specs.Table as table;
 
 use crate::body::{
-    Abort, Beat, Body, Grant, Join, Kind, Leave, Offer, OfferAck, Refuse, ResultAck, Roster, Steal,
-    TaskResult,
+    Abort, Beat, Body, Grant, Join, Kind, Leave, Offer, OfferAck, Piece, Refuse, ResultAck, Roster,
+    Steal, TaskResult,
 };
 use packet_fields::{Fault, Input, ReadError, fits, read, skip, write};
 use std::alloc::AllocError;
+
+/// The version in which packets of all kinds but Piece are spelled.
+pub const FIRST_VERSION: u8 = 1;
+
+/// The version in which Pieces are spelled.
+pub const SECOND_VERSION: u8 = 2;
 
 /// Hands the table of kinds to another macro: a kind's number, its variant, its struct, and the fields with their formats
 /// in the order of their bytes. A format may depend on fields before it.
@@ -27,6 +33,7 @@ macro_rules! each_field {
             10 Leave: Leave { from: worker, heir: other_worker(from) }
             11 Abort: Abort { grant: grant }
             12 Beat: Beat { from: worker, version: counted }
+            13 Piece: Piece { from: worker, grant: grant, hop: raised, pieces: pieces, number: piece_of(pieces), bytes: part(pieces, number) }
         }
     };
 }
@@ -114,6 +121,16 @@ impl Kind {
         each_field!(numbered_arms! number)
     }
 
+    /// The version in which a packet of the kind is spelled: 2 for a Piece, else 1.
+    pub fn version(self) -> u8
+        ensures { result ≡ table.version_of (table.number_of self) }
+    {
+        match self {
+            Kind::Piece => SECOND_VERSION,
+            _ => FIRST_VERSION,
+        }
+    }
+
     /// The number of the kind.
     pub fn number(self) -> u8
         ensures { result ≡ table.number_of self }
@@ -130,7 +147,7 @@ pub fn kind_of(body: &Body) -> Kind
 }
 
 /// The fields of a kind.
-#[tactic(auto, unfolding(crate::specs::Table::fields, crate::specs::Table::join, crate::specs::Table::roster, crate::specs::Table::steal, crate::specs::Table::granted, crate::specs::Table::refuse, crate::specs::Table::task_result, crate::specs::Table::result_ack, crate::specs::Table::offer, crate::specs::Table::offer_ack, crate::specs::Table::leave, crate::specs::Table::abort, crate::specs::Table::beat))]
+#[tactic(auto, unfolding(crate::specs::Table::fields, crate::specs::Table::join, crate::specs::Table::roster, crate::specs::Table::steal, crate::specs::Table::granted, crate::specs::Table::refuse, crate::specs::Table::task_result, crate::specs::Table::result_ack, crate::specs::Table::offer, crate::specs::Table::offer_ack, crate::specs::Table::leave, crate::specs::Table::abort, crate::specs::Table::beat, crate::specs::Table::piece))]
 pub fn read_fields(kind: Kind, input: &mut Input<'_>) -> Result<Body, ReadError>
     ensures { Gives (λ x. (x, input.new)) result ((table.fields (table.number_of kind)).read input.old) }
 {
@@ -138,7 +155,7 @@ pub fn read_fields(kind: Kind, input: &mut Input<'_>) -> Result<Body, ReadError>
 }
 
 /// Passes over the fields of a kind, or answers their first fault.
-#[tactic(auto, unfolding(crate::specs::Table::fields, crate::specs::Table::join, crate::specs::Table::roster, crate::specs::Table::steal, crate::specs::Table::granted, crate::specs::Table::refuse, crate::specs::Table::task_result, crate::specs::Table::result_ack, crate::specs::Table::offer, crate::specs::Table::offer_ack, crate::specs::Table::leave, crate::specs::Table::abort, crate::specs::Table::beat))]
+#[tactic(auto, unfolding(crate::specs::Table::fields, crate::specs::Table::join, crate::specs::Table::roster, crate::specs::Table::steal, crate::specs::Table::granted, crate::specs::Table::refuse, crate::specs::Table::task_result, crate::specs::Table::result_ack, crate::specs::Table::offer, crate::specs::Table::offer_ack, crate::specs::Table::leave, crate::specs::Table::abort, crate::specs::Table::beat, crate::specs::Table::piece))]
 pub fn skip_fields(kind: Kind, input: &mut Input<'_>) -> Result<(), Fault>
     ensures { Reads (λ _. input.new) result (end_of ((table.fields (table.number_of kind)).read input.old)) }
 {
@@ -146,7 +163,7 @@ pub fn skip_fields(kind: Kind, input: &mut Input<'_>) -> Result<(), Fault>
 }
 
 /// Adds the fields of a kind to the bytes.
-#[tactic(auto, unfolding(crate::specs::Table::join, crate::specs::Table::roster, crate::specs::Table::steal, crate::specs::Table::granted, crate::specs::Table::refuse, crate::specs::Table::task_result, crate::specs::Table::result_ack, crate::specs::Table::offer, crate::specs::Table::offer_ack, crate::specs::Table::leave, crate::specs::Table::abort, crate::specs::Table::beat))]
+#[tactic(auto, unfolding(crate::specs::Table::join, crate::specs::Table::roster, crate::specs::Table::steal, crate::specs::Table::granted, crate::specs::Table::refuse, crate::specs::Table::task_result, crate::specs::Table::result_ack, crate::specs::Table::offer, crate::specs::Table::offer_ack, crate::specs::Table::leave, crate::specs::Table::abort, crate::specs::Table::beat, crate::specs::Table::piece))]
 pub fn write_fields(body: &Body, out: &mut Vec<u8>) -> Result<(), AllocError>
     ensures { OnOk result (out.new.items ≡ out.old.items ++ table.write_body body.now) }
 {
@@ -155,7 +172,7 @@ pub fn write_fields(body: &Body, out: &mut Vec<u8>) -> Result<(), AllocError>
 }
 
 /// Whether the fields can be written.
-#[tactic(auto, unfolding(crate::specs::Table::join, crate::specs::Table::roster, crate::specs::Table::steal, crate::specs::Table::granted, crate::specs::Table::refuse, crate::specs::Table::task_result, crate::specs::Table::result_ack, crate::specs::Table::offer, crate::specs::Table::offer_ack, crate::specs::Table::leave, crate::specs::Table::abort, crate::specs::Table::beat))]
+#[tactic(auto, unfolding(crate::specs::Table::join, crate::specs::Table::roster, crate::specs::Table::steal, crate::specs::Table::granted, crate::specs::Table::refuse, crate::specs::Table::task_result, crate::specs::Table::result_ack, crate::specs::Table::offer, crate::specs::Table::offer_ack, crate::specs::Table::leave, crate::specs::Table::abort, crate::specs::Table::beat, crate::specs::Table::piece))]
 pub fn fields_fit(body: &Body) -> bool
     ensures { result ≡ table.fits_body body.now }
 {

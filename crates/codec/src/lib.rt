@@ -1,4 +1,4 @@
-//! The packets of version 1: what they hold, how they are read and how they are written.
+//! The packets of versions 1 and 2: what they hold, how they are read and how they are written.
 #![tactic(auto)]
 
 mod body;
@@ -8,15 +8,17 @@ mod encoding;
 mod fields;
 mod laws;
 mod packet;
+mod part;
 mod room;
 
 pub use body::{
-    Abort, Beat, Body, Grant, Join, Leave, Offer, OfferAck, Refuse, ResultAck, Roster, Steal,
-    TaskResult,
+    Abort, Beat, Body, Grant, Join, Leave, Offer, OfferAck, Piece, Refuse, ResultAck, Roster,
+    Steal, TaskResult,
 };
 pub use datagram::{Datagram, alone, send};
-pub use decoding::decode;
+pub use decoding::{decode, decode_joined};
 pub use encoding::{EncodeError, encode, encode_short};
-pub use laws::{one_to_one, rosters_rise};
+pub use laws::{one_to_one, parts_join, rosters_rise};
 pub use packet::Packet;
 pub use packet_fields::{Fault, ReadError};
+pub use part::Part;

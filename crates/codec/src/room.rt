@@ -46,6 +46,7 @@ fn of_fields(body: &Body) -> usize {
         Body::OfferAck(_) => 28,
         Body::Result(_) => 33,
         Body::Roster(roster) => roster.members.len().saturating_mul(17).saturating_add(18),
+        Body::Piece(piece) => piece.bytes.len().saturating_add(36),
         Body::Grant(grant) => of_task(&grant.task).saturating_add(24),
         Body::Offer(offer) => of_task(&offer.task)
             .saturating_add(of_frames(offer.frames.as_slice()))

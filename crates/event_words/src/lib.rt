@@ -17,3 +17,4 @@ pub use fault::NarratorFault;
 pub use narrator::Narrator;
 pub use packet::write_packet;
 pub use stats::{write_counts, write_turns};
+pub use turn::{Ran, ran_in, write_task, write_turn};

@@ -1,7 +1,7 @@
 //! The words of a packet.
 
 use crate::names::{AddressName, GrantName, OutcomeWords, PlaceName, ProgressWords, StatusWords};
-use codec::{Body, Grant, Offer, Packet, Roster};
+use codec::{Body, Grant, Offer, Packet, Piece, Roster};
 use ids::{GrantId, Incarnation, Task};
 use std::io::{self, Write};
 use task_tree::Program;
@@ -40,6 +40,7 @@ fn kind_of(body: &Body) -> &'static str {
         Body::Leave(_) => "Leave",
         Body::Abort(_) => "Abort",
         Body::Beat(_) => "Beat",
+        Body::Piece(_) => "Piece",
     }
 }
 
@@ -52,6 +53,7 @@ fn grant_of(body: &Body) -> Option<GrantId> {
         Body::Offer(offer) => Some(offer.grant),
         Body::OfferAck(ack) => Some(ack.grant),
         Body::Abort(abort) => Some(abort.grant),
+        Body::Piece(piece) => Some(piece.grant),
         Body::Join(_)
         | Body::Roster(_)
         | Body::Steal(_)
@@ -71,6 +73,7 @@ fn sender_of(body: &Body) -> Option<Incarnation> {
         Body::OfferAck(ack) => Some(ack.from),
         Body::Leave(leave) => Some(leave.from),
         Body::Beat(beat) => Some(beat.from),
+        Body::Piece(piece) => Some(piece.from),
         Body::Roster(_) | Body::Grant(_) | Body::Refuse(_) | Body::ResultAck(_) | Body::Abort(_) =>
             None,
     }
@@ -89,6 +92,7 @@ fn write_fields<O: Write>(out: &mut O, program: &Program, body: &Body) -> io::Re
         Body::OfferAck(ack) => write!(out, ": hop {}", ack.hop.count()),
         Body::Leave(leave) => write!(out, ": heir {}", leave.heir.word()),
         Body::Beat(beat) => write!(out, ": roster version {}", beat.version.number()),
+        Body::Piece(piece) => write_piece(out, piece),
     }
 }
 
@@ -151,6 +155,18 @@ fn write_offer<O: Write>(out: &mut O, offer: &Offer) -> io::Result<()> {
         ProgressWords(offer.progress),
         plural_of(frames),
         plural_of(records)
+    )
+}
+
+/// Writes how often the offer of a piece has moved, which of its parts the piece has, counted from 1, and how many bytes this part has.
+fn write_piece<O: Write>(out: &mut O, piece: &Piece) -> io::Result<()> {
+    let (part, count) = (u32::from(piece.number).saturating_add(1), piece.bytes.len());
+    write!(
+        out,
+        ": hop {}, part {part} of {}, {count} byte{}",
+        piece.hop.count(),
+        piece.pieces,
+        plural_of(count)
     )
 }
 

@@ -7,7 +7,7 @@ use task_tree::Program;
 use world::RunCounts;
 
 /// The kinds of packets, by their numbers from 1 on.
-const KINDS: [&str; 12] = [
+const KINDS: [&str; 13] = [
     "Join",
     "Roster",
     "Steal",
@@ -20,6 +20,7 @@ const KINDS: [&str; 12] = [
     "Leave",
     "Abort",
     "Beat",
+    "Piece",
 ];
 
 /// Writes how many turns were taken, how many by each thread that took one, and the level of the deepest place; a line each.

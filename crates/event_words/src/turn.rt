@@ -12,14 +12,14 @@ use world::World;
 
 /// A frame that an event carries out, the place whose node does, and whether it is by the frame's whole value.
 #[derive(Clone, Copy)]
-pub(crate) struct Ran {
-    place: NodePlace,
-    frame: FrameOf,
-    is_whole: bool,
+pub struct Ran {
+    pub place: NodePlace,
+    pub frame: FrameOf,
+    pub is_whole: bool,
 }
 
 /// What an event carries out, if it does.
-pub(crate) fn ran_in(event: &Event) -> Option<Ran> {
+pub fn ran_in(event: &Event) -> Option<Ran> {
     let Event::AtNode(place, event) = event else {
         return None;
     };
@@ -48,8 +48,24 @@ pub(crate) fn write_ran<O: Write>(out: &mut O, ran: &Ran) -> io::Result<()> {
     )
 }
 
-/// Writes the thread and the numbers of a frame that is to run, in the world before that; nothing where it isn't there.
-pub(crate) fn write_task<O: Write>(out: &mut O, world: &World<'_>, ran: &Ran) -> io::Result<()> {
+/// Writes the words of a turn, in the world after it: the event, and behind a colon what it came to, as
+/// `exec 0 H1/1 2: main(1) sends 1 to slot 0 of frame 1`. Before the turn `write_task` has written the task, and the turn put so many values
+/// into slots. No line's end is written.
+pub fn write_turn<O: Write>(
+    out: &mut O,
+    world: &World<'_>,
+    ran: &Ran,
+    task: &[u8],
+    fills: usize,
+) -> io::Result<()> {
+    write_ran(out, ran)?;
+    write!(out, ": ")?;
+    out.write_all(task)?;
+    write_end(out, world, ran, fills)
+}
+
+/// Writes the thread and the numbers of a frame that is to run, as `main(1)`, in the world before that; nothing where it isn't there.
+pub fn write_task<O: Write>(out: &mut O, world: &World<'_>, ran: &Ran) -> io::Result<()> {
     let Some(node) = world.node(ran.place) else {
         return Ok(());
     };

@@ -4,7 +4,7 @@ use crate::place::{end_before, place_at, place_of, word_at, write_bytes, write_q
 use crate::sentences::said_of;
 use kind_check::KindFault;
 use std::io::{self, Write};
-use task_syntax::{Argument, Block, End, Given, Name, Program, Thread, Use};
+use task_syntax::{Argument, Block, End, Expr, Given, Name, Program, Thread, Use};
 
 /// What a name of a body names, by where it stands.
 #[derive(Clone, Copy)]
@@ -78,6 +78,40 @@ fn has_hole_at(uses: &[Use], at: u32) -> bool {
     for each in uses {
         if each.hole.offset == at {
             return true;
+        }
+    }
+    false
+}
+
+/// Whether the name at an offset of a block lacks its `?`: it is a whole argument of `spawn_next`, which has no
+/// such hole, and it is used as one.
+fn lacks_mark(block: &Block, at: u32, name: &[u8]) -> bool {
+    let End::Next(_, _, arguments, uses) = &block.end else {
+        return false;
+    };
+    is_argument_at(arguments.as_slice(), at)
+        && !is_hole(name, arguments.as_slice())
+        && is_used(name, uses.as_slice())
+}
+
+/// Whether an argument is the name at an offset, and no more.
+fn is_argument_at(arguments: &[Argument], at: u32) -> bool {
+    for argument in arguments {
+        if let Argument::Value(Expr::Variable(name)) = argument {
+            if name.offset == at {
+                return true;
+            }
+        }
+    }
+    false
+}
+
+fn is_hole(name: &[u8], arguments: &[Argument]) -> bool {
+    for argument in arguments {
+        if let Argument::Hole(hole) = argument {
+            if hole.text.as_slice() == name {
+                return true;
+            }
         }
     }
     false
@@ -273,20 +307,29 @@ impl<'a> Around<'a> {
         }
     }
 
-    /// Writes what to write for a name that isn't known, where a continuation is wanted.
+    /// Writes what to write for a name that isn't known, where a continuation is wanted or a `?` is forgotten.
     fn write_hint<W: Write>(&self, out: &mut W) -> io::Result<()> {
         match role_at(self.block, self.at) {
-            Role::Number => Ok(()),
+            Role::Number => {
+                if lacks_mark(self.block, self.at, self.name) {
+                    self.write_hole(out)
+                } else {
+                    Ok(())
+                }
+            }
             Role::Own => {
                 write!(out, "hint: the continuation of this thread is ")?;
                 write_quoted(out, self.thread.continuation.text.as_slice())?;
                 writeln!(out)
             }
-            Role::Hole => {
-                write!(out, "hint: write `?")?;
-                write_bytes(out, self.name)?;
-                writeln!(out, "` in `spawn_next` first, so that it is a hole")
-            }
+            Role::Hole => self.write_hole(out),
         }
+    }
+
+    /// Writes how the name becomes a hole.
+    fn write_hole<W: Write>(&self, out: &mut W) -> io::Result<()> {
+        write!(out, "hint: write `?")?;
+        write_bytes(out, self.name)?;
+        writeln!(out, "` in `spawn_next` first, so that it is a hole")
     }
 }

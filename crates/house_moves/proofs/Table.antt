@@ -53,6 +53,7 @@ module _ (job : JobOf) (v : View) (run : Run (tables_meaning job) v) (h : HouseO
   body_shown to (body.Offer b) told = tt
   body_shown to (body.OfferAck b) told = tt
   body_shown to (body.Abort b) told = tt
+  body_shown to (body.Piece b) told = tt
 
   pub packet_shown : (p : PacketOf) → PacketShown v p → HouseAnswerShown job v h (cases.on_packet job p h)
   unfolding cases.on_packet

@@ -17,8 +17,8 @@ module _ {T : Type 0} where
   abbrev pub PartsTake : List (Hand T) → Type 0
   PartsTake views = (seat : ℕ) (v : Hand T) → get_elem? views seat ≡ some v → v.parts ≡ 0 → v.taken ≡ []
 
-  -- The pool may be found empty: `never_empty` is 0 in each view. It is there so that who says that the pool was empty must
-  -- have looked in that very call. For only this rule says that it is 0, and only who finds the pool empty is told: no
+  -- The pool may be found empty: `never_empty` is 0 in each view. It is there so that who just says that the pool was empty
+  -- isn't proved, but by a lesson of its own. For only this rule says that it is 0, and only who finds the pool empty is told: no
   -- invariant of an owner or of a worker says it, and a clause does so only where it says that the pool was empty. Without
   -- it, who doesn't look could make up other views, which have taken all tickets, and these would fit
   abbrev pub MayBeEmpty : List (Hand T) → Type 0

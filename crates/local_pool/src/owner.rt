@@ -53,8 +53,8 @@ impl<T> Owner<T> {
         Ok(())
     }
 
-    /// A ticket of the pool, without waiting and without memory: none more often than it was offered. `None` only where this very
-    /// call found the pool empty. That the ticket is the oldest is shown by tests.
+    /// A ticket of the pool, without waiting and without memory: none more often than it was offered. `None` where the pool
+    /// is found empty. That the ticket is the oldest is shown by tests.
     pub fn take_own(&mut self) -> Option<T>
         ensures pool { (self.new.pool ≡ self.old.pool) × (self.new.workers ≡ self.old.workers)
             × (self.new.room ≡ self.old.room) }

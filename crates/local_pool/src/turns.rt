@@ -82,7 +82,7 @@ impl<D: Stamped> Model for TurnQueue<D> {
 }
 
 impl<D: Stamped> TurnQueue<D> {
-    /// Puts a turn behind all others, which has to have their stamp. It comes back only where this very call found the queue full.
+    /// Puts a turn behind all others, which has to have their stamp. It comes back where the queue is found full.
     pub fn put<R: Wait>(&self, rt: &R, pass: &mut TurnPass<D>, turn: D) -> Result<(), D>
         requires queue { pass.old.queue ≡ self.now.queue }
         requires stamp { pass.old.stamp ≡ Some (D.stamp turn) }
@@ -98,7 +98,7 @@ impl<D: Stamped> TurnQueue<D> {
         Ok(())
     }
 
-    /// Takes the first turn, which has the stamp of all others. `None` only where this very call found the queue empty.
+    /// Takes the first turn, which has the stamp of all others. `None` where the queue is found empty.
     pub fn take<R: Wait>(&self, rt: &R, pass: &mut TurnPass<D>) -> Option<D>
         requires { pass.old.queue ≡ self.now.queue }
         ensures queue { pass.new.queue ≡ pass.old.queue }

@@ -35,7 +35,7 @@ impl<T> Model for BodyWorker<T> {
 
 impl<T> BodyWorker<T> {
     /// A ticket of the pool, without waiting and without memory. The worker tries again where another took the ticket that it saw.
-    /// `None` only where this very call found the pool empty, or where others took 2^64 - 1 tickets meanwhile. That nobody else is
+    /// `None` where the pool is found empty, or where others took 2^64 - 1 tickets meanwhile. That nobody else is
     /// given the ticket is what `LocalPool::close` says, once all are back; that it is the oldest is shown by tests.
     pub fn steal(&mut self) -> Option<T>
         ensures pool { self.new.pool ≡ self.old.pool }

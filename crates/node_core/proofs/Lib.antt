@@ -16,3 +16,4 @@ mod Evaluating
 pub mod WholeValues
 mod Naming
 mod Changing
+mod Assembling

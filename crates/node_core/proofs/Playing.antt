@@ -10,7 +10,7 @@ use Rattle.node_state.specs.Posts.{posts_after}
 use Rattle.node_core.specs.Calls.{ask, depart, exec_ready, resend}
 use Rattle.node_core.specs.Cases.{on_packet}
 use Rattle.node_core.specs.Choosing.{own_candidate}
-use Rattle.node_core.specs.Steps.{StepOf, Answer, Ignored, Refused, Does, quiet, ◌then◌}
+use Rattle.node_core.specs.Steps.{StepOf, Answer, Ignored, Refused, Does, Forgets, quiet, ◌then◌}
 use Rattle.node_core.specs.declared.parts.Victim.{Victim}
 
 -- a packet comes to the node, or it makes a call of its own
@@ -37,6 +37,7 @@ module _ (job : JobOf) where
   step_of n Ignored = quiet n
   step_of n (Refused e) = quiet n
   step_of n (Does s) = s
+  step_of n (Forgets m) = quiet m
 
   -- all that these calls do, one after the other
   abbrev pub play : List Call → List Post → StepOf → StepOf

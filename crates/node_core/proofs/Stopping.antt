@@ -10,6 +10,7 @@ use Rattle.serial_meaning.specs.Job.{JobOf}
 use Rattle.steal_protocol.specs.Requests.{settled}
 use Rattle.subcomputation.specs.Recovering.{recovered}
 use Rattle.subcomputation.specs.Subs.{grants_of_subs}
+use Rattle.node_state.specs.Assemblies.{of_living}
 use Rattle.node_state.specs.Node.{NodeOf}
 use Rattle.node_state.specs.Parts.{PartsOf, with_posts}
 use Rattle.node_state.specs.Posts.{posts_after}
@@ -28,7 +29,7 @@ stops_sent job records stopped is = ap (map (stops job)) is ∙ all_stops job re
 
 -- a node that keeps a roster and recovered by it
 abbrev recovers_to : Roster → Option Status → NodeOf → NodeOf
-recovers_to r victim n = record n { state = Member r; subs = (recovered r.members (grants_of_subs n.subs) n.subs).subs; asker = settled victim n.asker }
+recovers_to r victim n = record n { state = Member r; subs = (recovered r.members (grants_of_subs n.subs) n.subs).subs; asker = settled victim n.asker; assemblies = of_living r.members n.assemblies }
 
 abbrev on : JobOf → PartsOf → NodeOn
 on job p = record { job = job; node = p.node; posts = p.posts }

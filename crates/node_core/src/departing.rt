@@ -174,11 +174,12 @@ impl<'a> Node<'a> {
         requires { IsLeaving self.old.node.state }
         ensures { MeetsBody (body.Offer offer) result self.old self.new }
     {
-        if self.is_above(&offer) {
+        if self.is_above(offer.grant, offer.hop) {
             return Ok(ignored(alloc));
         }
         self.parts.law_nothing_goes();
-        Ok(sends(alloc, self.acknowledged(alloc, &offer)?))
+        let sent = self.acknowledged(alloc, offer.from, offer.grant, offer.hop)?;
+        Ok(sends(alloc, sent))
     }
 
     /// The heir has a subcomputation at the hop with which it was offered, or an awaited thief has its grant: what is left is

@@ -10,6 +10,7 @@ mod named;
 mod node;
 mod offers;
 mod parts;
+mod pieces;
 mod requests;
 mod rosters;
 mod sending;

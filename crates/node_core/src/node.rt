@@ -148,6 +148,7 @@ impl<'a> Node<'a> {
             Leave: ignored, ignored, ignored, ignored;
             Abort: ignored, member_abort, ignored, ignored;
             Beat: ignored, ignored, ignored, ignored;
+            Piece: ignored, member_piece, leaving_piece, ignored;
         }
     }
 

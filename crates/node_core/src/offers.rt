@@ -19,7 +19,7 @@ use crate::parts::Step;
 use crate::sending::{ignored, send_stops, sends};
 use codec::{Datagram, Offer, OfferAck, Packet, alone};
 use departure::accept_offer;
-use ids::Listed;
+use ids::{GrantId, Hop, Incarnation, Listed};
 use node_state::State;
 use recovery::recover_alone;
 use std::alloc::{AllocError, Global};
@@ -34,8 +34,8 @@ impl<'a> Node<'a> {
         requires fits { IsTrue (table.offer.fits offer) }
         ensures { MeetsBody (body.Offer offer) result self.old self.new }
     {
-        let sent = self.acknowledged(alloc, &offer)?;
-        if !self.is_above(&offer) {
+        let sent = self.acknowledged(alloc, offer.from, offer.grant, offer.hop)?;
+        if !self.is_above(offer.grant, offer.hop) {
             self.parts.law_nothing_goes();
             return Ok(sends(alloc, sent));
         }
@@ -90,32 +90,32 @@ impl<'a> Node<'a> {
         let _ = sub.content();
     }
 
-    /// Whether the hop of an Offer is above the greatest one with which its grant was taken.
-    pub(crate) fn is_above(&self, offer: &Offer) -> bool
-        ensures { result ≡ cases.is_above offer.now.hop (hop_in offer.now.grant self.now.node.seen) }
+    /// Whether a hop is above the greatest one with which a grant was taken.
+    pub(crate) fn is_above(&self, grant: GrantId, hop: Hop) -> bool
+        ensures { result ≡ cases.is_above hop (hop_in grant self.now.node.seen) }
     {
-        match self.parts.hop(offer.grant) {
+        match self.parts.hop(grant) {
             None => true,
-            Some(greatest) => greatest.count() < offer.hop.count(),
+            Some(greatest) => greatest.count() < hop.count(),
         }
     }
 
-    /// The OfferAck of an Offer.
+    /// The OfferAck to who offers a grant at a hop.
     pub(crate) fn acknowledged(
         &self,
         alloc: Global,
-        offer: &Offer,
+        from: Incarnation,
+        grant: GrantId,
+        hop: Hop,
     ) -> Result<Listed<Datagram>, AllocError>
-        ensures { IfOk result (λ sent. sent ≡ moves.acknowledges self.now.job offer.now self.now.node ∷ []) }
+        ensures { IfOk result (λ sent. sent
+            ≡ moves.offer_ack self.now.job self.now.node.incarnation from grant hop ∷ []) }
     {
         let ack = OfferAck {
             from: self.parts.incarnation(),
-            grant: offer.grant,
-            hop: offer.hop,
+            grant,
+            hop,
         };
-        alone(
-            alloc,
-            &Packet::offer_ack(self.job.number(), offer.from, ack),
-        )
+        alone(alloc, &Packet::offer_ack(self.job.number(), from, ack))
     }
 }

@@ -4,7 +4,7 @@ ghost use Rattle.serial_meaning.specs.Whole.{AreWholesOf};
 
 use kind_check::Checked;
 use node_core::Work;
-use serial_meaning::Whole;
+use serial_meaning::{ALL_LEVELS, Whole};
 use std::alloc::Global;
 use std::marker::Model;
 use std::snapshot::Snapshot;
@@ -12,7 +12,7 @@ use std::snapshot::Snapshot;
 /// From how many values on older ones are forgotten.
 const MOST_KEPT: usize = 2_048;
 
-/// On how many levels below a task an evaluation keeps values. To do so on all of them takes up to a half longer.
+/// On how many levels below a task an evaluation keeps values at most. To do so on all of them takes up to a half longer.
 pub(crate) const LEVELS: u16 = 7;
 
 /// Values of tasks of one program. Contracts see the program alone.
@@ -92,7 +92,7 @@ pub(crate) fn levels_behind(kept: &[Whole], room: u16, turns: u64) -> u16 {
         }
     }
     if near < turns - turns / 4 {
-        u16::MAX
+        ALL_LEVELS
     } else {
         LEVELS
     }

@@ -2,15 +2,19 @@
 //!
 //! **Actors and turns.** Each place of a node has an actor, and so has the clearinghouse. An actor takes turn after turn, until the outcome is
 //! known or all turns are taken. In a turn a node takes the next packet that is addressed to it, else it commits a turn that came back from a
-//! body worker, else it offers a ready frame to them, else it asks the clearinghouse or a live member for work. A node sends again after 16
-//! turns with nothing done, then after twice as many each time, up to 4,096; and where 100 events were committed since. The clearinghouse
-//! takes its packets, and ticks where 100 events were committed since. One whose node has been declared dead starts another, with a new
-//! word. A node that sent again holds while another actor is behind it, so that none is taken for dead because its thread is slow.
+//! body worker, else it offers a ready frame to them or takes its turn itself, else it asks the clearinghouse or a live member for work. A node
+//! sends again after 16 turns with nothing done, then after twice as many each time, up to 4,096; and where 100 events were committed since.
+//! The clearinghouse takes its packets, and ticks where 100 events were committed since. One whose node has been declared dead starts another,
+//! with a new word. A node that sent again holds while another actor is behind it, so that none is taken for dead because its thread is slow.
 //!
 //! **Body workers.** Each node has as many as the configuration says. A ready frame becomes a ticket, at most two for each worker at once. A
 //! worker steals a ticket of its node without waiting, numbers the body, asks the gate until it lets it go, evaluates it outside any lock, and
 //! gives the turn back by a queue. A frame that is offered stays ready in the node until its turn is committed, and a thief can have it. Then
 //! the turn is stale, and the event refuses it. Before a crash or a departure the node takes its tickets back.
+//!
+//! **Whole tasks.** Where the configuration allows so many turns, a body worker evaluates the task of its ticket whole, in as many turns as
+//! those before it suggest (`Budget`). What it finished below a task that takes more is kept, and frames are carried out by it; the frames of
+//! tasks that are known to be large, and those of threads that spawn nothing, take their turns in the node itself (`does_itself`).
 //!
 //! **Faults** are drawn from one word, for each place by itself: packets that are lost and that come twice (`Fates`), and whom a node asks.
 //! Crash i comes once 50 i events were committed, on the place i modulo the count of nodes; departure i once 50 i + 25 were, on the i-th

@@ -9,6 +9,7 @@ use Rattle.ids.specs.Ordered.{AreInOrder}
 use Rattle.ids.specs.Slots.{numbers_in}
 use Rattle.ids.specs.declared.work.Frame.{Frame}
 use Rattle.ids.proofs.Replacing.{put_is_found}
+use Rattle.codec.specs.Pieces.{PartOf}
 use Rattle.codec.specs.declared.body.Roster.{Roster}
 use Rattle.frames.specs.Frames.{frame_in, missing_in}
 use Rattle.level_deques.specs.declared.posts.Post.{Post}
@@ -29,6 +30,7 @@ use Rattle.subcomputation.specs.Subs.{SubOf, name_of_sub, put_sub, ready_frames,
 use Rattle.subcomputation.specs.Told.{opened_sub, updated_sub}
 use Rattle.subcomputation.specs.declared.sub.ReadiedOf.{ReadiedOf}
 use Rattle.subcomputation.proofs.Others.{put_goes, put_other, without_itself, without_other}
+use Rattle.node_state.specs.Assemblies.{AssemblyOf, assembly_in, name_of_assembly, put_assembly, with_part}
 use Rattle.node_state.specs.Node.{NodeOf, by_state, ended, holding, hop_in, name_of_seen, put_seen, starting}
 use Rattle.node_state.specs.Parts.{AreParts, ArePosts, AreTaken, AsksByState, HasNoNewRecord, HoldsByState, IsFresh, IsJoined, IsLeaving, IsMember, IsNext, MayBeMember, PartsOf, ready_of, same_grant, with_posts}
 use Rattle.node_state.specs.Posts.{is_ready_post, live_subs, posted_all, posts_after, ready_of_sub}
@@ -339,16 +341,35 @@ confirmed_kept w confirmed are = ap (λ posts. record { node = record w.node { c
 pub confirmed_view : (v w : PartsOf) (a b : List Confirmed) → v ≡ w → a ≡ b → AreParts w → with_confirmed v a ≡ with_posts (record w.node { confirmed = b }) [] w.posts
 confirmed_view v w a b same equal are = rw same (rw equal (confirmed_kept w b are))
 
--- a node leaves, or goes on leaving by another roster
+-- parts of Offers came or went
+abbrev with_assemblies : PartsOf → List AssemblyOf → PartsOf
+with_assemblies v assemblies = record { node = record v.node { assemblies = assemblies }; posts = v.posts }
+
+pub assemblies_kept : (w : PartsOf) (assemblies : List AssemblyOf) → AreParts w → AreParts (with_assemblies w assemblies)
+assemblies_kept w assemblies are = record { posts = with_the_same w.node (record w.node { assemblies = assemblies }) w.posts refl are.posts; holds = are.holds; asks = are.asks; taken = are.taken; minted = are.minted }
+
+pub assemblies_view : (v w : PartsOf) (a b : List AssemblyOf) → v ≡ w → a ≡ b → AreParts w → with_assemblies v a ≡ with_posts (record w.node { assemblies = b }) [] w.posts
+assemblies_view v w a b same equal are =
+    rw same (rw equal (ap (record_of (record w.node { assemblies = b })) (sym (none_goes (record w.node { assemblies = b }) w.posts (assemblies_kept w b are).posts))))
+
+-- a part more where an assembly stands puts it in its place
+pub part_put : (y : PartOf) (g : Grant) (a : AssemblyOf) (old new : List AssemblyOf) → assembly_in g old ≡ Some a → new ≡ changed_in name_of_assembly (with_part y) (name_of_grant g) old → new ≡ put_assembly (with_part y a) old
+part_put y g a old new there is = is ∙ ap (changed_of name_of_assembly (with_part y) old) there
+
+-- a node leaves: nothing is posted, and no parts of Offers stay
+abbrev pub left : PartsOf → Roster → ℕ → PartsOf
+left v r heir = record { node = record v.node { state = Leaving r heir; assemblies = [] }; posts = [] }
+
+pub leaving_parts : (w : PartsOf) (r : Roster) (heir : ℕ) → AreParts w → w.node.asker.pending ≡ None → AreParts (left w r heir)
+leaving_parts w r heir are silent =
+    record { posts = with_nothing (left w r heir).node (left_frozen w.node r heir); holds = tt; asks = silent; taken = are.taken; minted = are.minted }
+
+pub leaving_view : (v w : PartsOf) (r : Roster) (heir : ℕ) → v ≡ w → left v r heir ≡ with_posts (record w.node { state = Leaving r heir; assemblies = [] }) [] w.posts
+leaving_view v w r heir same = rw same (ap (record_of (left w r heir).node) (sym (none_of (left w r heir).node w.posts (left_frozen w.node r heir))))
+
+-- it goes on leaving by another roster
 abbrev pub leaver : PartsOf → Roster → ℕ → List Post → PartsOf
 leaver v r heir posts = record { node = record v.node { state = Leaving r heir }; posts = posts }
-
-pub leaving_parts : (w : PartsOf) (r : Roster) (heir : ℕ) → AreParts w → w.node.asker.pending ≡ None → AreParts (leaver w r heir [])
-leaving_parts w r heir are silent =
-    record { posts = with_nothing (record w.node { state = Leaving r heir }) (left_frozen w.node r heir); holds = tt; asks = silent; taken = are.taken; minted = are.minted }
-
-pub leaving_view : (v w : PartsOf) (r : Roster) (heir : ℕ) → v ≡ w → leaver v r heir [] ≡ with_posts (record w.node { state = Leaving r heir }) [] w.posts
-leaving_view v w r heir same = rw same (ap (record_of (record w.node { state = Leaving r heir })) (sym (none_of (record w.node { state = Leaving r heir }) w.posts (left_frozen w.node r heir))))
 
 pub kept_leaving : (w : PartsOf) (r : Roster) (heir : ℕ) → AreParts w → IsLeaving w.node.state → AreParts (leaver w r heir w.posts)
 kept_leaving w r heir are leaving = record {
@@ -366,8 +387,8 @@ kept_leaving_view v w r heir same are leaving =
 pub ended_view : (v w : PartsOf) → v ≡ w → record_of (ended v.node) [] ≡ with_posts (ended w.node) [] w.posts
 ended_view v w same = rw same (ap (record_of (ended w.node)) (sym (ended_parts w.node w.posts).none))
 
-pub ended_fields : (incarnation minted : ℕ) (asker : AskerOf) → AreParts (record_of (record { incarnation = incarnation; state = Ended; subs = []; asker = record asker { pending = None }; minted = minted; replies = []; confirmed = []; seen = [] }) [])
-ended_fields incarnation minted asker = (ended_parts (record { incarnation = incarnation; state = Ended; subs = []; asker = asker; minted = minted; replies = []; confirmed = []; seen = [] }) []).parts
+pub ended_fields : (incarnation minted : ℕ) (asker : AskerOf) → AreParts (record_of (record { incarnation = incarnation; state = Ended; subs = []; asker = record asker { pending = None }; minted = minted; replies = []; confirmed = []; seen = []; assemblies = [] }) [])
+ended_fields incarnation minted asker = (ended_parts (record { incarnation = incarnation; state = Ended; subs = []; asker = asker; minted = minted; replies = []; confirmed = []; seen = []; assemblies = [] }) []).parts
 
 -- what holds of the whole, by how it is seen
 pub by_view : (v w : PartsOf) → v ≡ w → AreParts w → AreParts v

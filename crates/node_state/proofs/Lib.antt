@@ -5,3 +5,4 @@ pub mod Keeping
 pub mod Recovers
 pub mod Accepts
 pub mod Standing
+pub mod Living

@@ -18,6 +18,7 @@ use Rattle.subcomputation.specs.declared.sub.ReadiedOf.{ReadiedOf}
 use Rattle.recovery.specs.Told.{AreWhole, IsLeft, told_of}
 use Rattle.recovery.specs.Told as told
 use Rattle.recovery.proofs.Following.{Follows, found_whole, recovered_follows, recovered_left}
+use Rattle.node_state.specs.Assemblies.{AssemblyOf, of_living}
 use Rattle.node_state.specs.Node.{NodeOf}
 use Rattle.node_state.specs.Parts.{AreParts, ArePosts, IsMember, PartsOf, is_post_at, is_same_post, same_grant, times_posted, with_posts}
 use Rattle.node_state.specs.Posts.{live_subs, post_of, posted_all, posts_after, ready_at, ready_of_sub}
@@ -85,7 +86,7 @@ recovery_of n r = recovered r.members (grants_of_subs n.subs) n.subs
 
 -- the node after it
 abbrev pub recovered_node : NodeOf → Roster → AskerOf → NodeOf
-recovered_node n r asker = record n { state = Member r; subs = (recovery_of n r).subs; asker = asker }
+recovered_node n r asker = record n { state = Member r; subs = (recovery_of n r).subs; asker = asker; assemblies = of_living r.members n.assemblies }
 
 module _ (n : NodeOf) (r : Roster) (asker : AskerOf) (member : IsMember n.state) (whole : AreWhole n.subs) where
   follows : Follows n.subs (recovery_of n r).subs (recovery_of n r).again
@@ -122,13 +123,14 @@ pub recovered_fits : (n : NodeOf) (r : Roster) (p : Program) → AreWhole n.subs
 recovered_fits n r p whole fit g s there = let left = recovered_left r.members n.subs whole g s there in left.fits p (fit g left.was left.there)
 
 -- the whole, seen after a recovery
-abbrev as_recovered : PartsOf → Roster → AskerOf → List SubOf → List Post → PartsOf
-as_recovered v r asker subs posts = record { node = record v.node { state = Member r; subs = subs; asker = asker }; posts = posts }
+abbrev as_recovered : PartsOf → Roster → AskerOf → List SubOf → List AssemblyOf → List Post → PartsOf
+as_recovered v r asker subs assemblies posts = record { node = record v.node { state = Member r; subs = subs; asker = asker; assemblies = assemblies }; posts = posts }
 
 -- and it is the member after a recovery, with its posts
-pub recovered_view : (v w : PartsOf) (r : Roster) (a b : AskerOf) (subs : List SubOf) (again : List ReadiedOf) (posted kept : List Post) → v ≡ w → a ≡ b → subs ≡ (recovery_of w.node r).subs → again ≡ (recovery_of w.node r).again → posted ≡ posted_all again v.posts → kept ≡ filter (λ p. is_some (ready_of_sub p.frame (sub_in p.grant subs))) posted → as_recovered v r a subs kept ≡ with_posts (recovered_node w.node r b) (recovery_of w.node r).again w.posts
-recovered_view v w r a b subs again posted kept same asker_is subs_is again_is posted_is kept_is =
+pub recovered_view : (v w : PartsOf) (r : Roster) (a b : AskerOf) (subs : List SubOf) (living : List AssemblyOf) (again : List ReadiedOf) (posted kept : List Post) → v ≡ w → a ≡ b → subs ≡ (recovery_of w.node r).subs → living ≡ of_living r.members v.node.assemblies → again ≡ (recovery_of w.node r).again → posted ≡ posted_all again v.posts → kept ≡ filter (λ p. is_some (ready_of_sub p.frame (sub_in p.grant subs))) posted → as_recovered v r a subs living kept ≡ with_posts (recovered_node w.node r b) (recovery_of w.node r).again w.posts
+recovered_view v w r a b subs living again posted kept same asker_is subs_is living_is again_is posted_is kept_is =
     let posts : posted ≡ posted_all (recovery_of w.node r).again w.posts = posted_is ∙ ap (λ xs. posted_all xs v.posts) again_is ∙ ap (λ (u : PartsOf). posted_all (recovery_of w.node r).again u.posts) same in
-    let node : record v.node { state = Member r; subs = subs; asker = a } ≡ recovered_node w.node r b = rw same (rw subs_is (rw asker_is refl)) in
+    let left : living ≡ of_living r.members w.node.assemblies = living_is ∙ ap (λ (u : PartsOf). of_living r.members u.node.assemblies) same in
+    let node : record v.node { state = Member r; subs = subs; asker = a; assemblies = living } ≡ recovered_node w.node r b = rw same (rw subs_is (rw asker_is (rw left refl))) in
     ap (λ m. record { node = m; posts = kept }) node
     ∙ posts_view (recovered_node w.node r b) (recovery_of w.node r).again w.posts posted kept tt posts (kept_is ∙ ap (λ xs. filter (λ p. is_some (ready_of_sub p.frame (sub_in p.grant xs))) posted) subs_is)

@@ -1,5 +1,5 @@
 -- What an update leaves ready, and that no other posts go by it than those of which it is told.
-use Rattle.std.proofs.Common.{◌≡◌, ◌<◌, ◌≤◌, ℕ, ℤ, ◌+◌, ◌&&◌, ◌||◌, Bool, true, false, zero, suc, nat_eq, nat_lt, List, [], ◌∷◌, ◌++◌, cond, take, length, get_or, Option, Some, None, IsTrue, is_some, refl, sym, ap, ◌∙◌, ◌⊎◌, inl, inr, arith}
+use Rattle.std.proofs.Common.{◌≡◌, ◌<◌, ◌≤◌, ℕ, ℤ, ◌+◌, ◌&&◌, ◌||◌, Bool, true, false, zero, suc, nat_eq, nat_lt, List, [], ◌∷◌, ◌++◌, cond, take, length, get_or, Option, Some, None, is_some, refl, sym, ap, ◌∙◌, inl, inr, arith}
 use Rattle.std.specs.List.{AllByRecursion, filter, slice_get}
 use Rattle.std.specs.Ordering.{is_eq}
 use Rattle.std.proofs.lemmas.Bool.{and_parts, cases_eq, eq-eqb, eqb-true, ltb-false, ltb-true}
@@ -13,14 +13,14 @@ use Rattle.ids.specs.Slots.{numbers_in}
 use Rattle.ids.specs.declared.work.Frame.{Frame}
 use Rattle.ids.specs.declared.work.Record.{Record}
 use Rattle.ids.proofs.Replacing.{put_is_found}
-use Rattle.frames.specs.Frames.{AreBelow, AreNumbered, fill_of, frame_in, is_empty_of, is_vacant, missing_in, put_frame, with_slot, without_frame}
+use Rattle.frames.specs.Frames.{fill_of, frame_in, is_empty_of, is_vacant, missing_in, with_slot, without_frame}
 use Rattle.level_deques.specs.declared.posts.Post.{Post}
 use Rattle.level_deques.specs.Levels.{IsByLevel}
 use Rattle.level_deques.specs.Posts.{is_post, is_post_of, is_posted, posted, without_post}
 use Rattle.level_deques.proofs.Taking.{no_post, none_of_level}
 use Rattle.sub_rules.specs.Content.{Ready, ready, ready_in}
 use Rattle.sub_rules.specs.Debts.{one_if}
-use Rattle.sub_rules.specs.Readiness.{TellsReady, times_listed}
+use Rattle.sub_rules.specs.Readiness.{TellsReady}
 use Rattle.sub_rules.specs.Updates.{MayUpdate, MayWork, left_by, opened_in, updated, worked}
 use Rattle.sub_rules.specs.declared.change.Readied.{Readied}
 use Rattle.sub_rules.specs.declared.content.Content.{Content}
@@ -38,12 +38,10 @@ use Rattle.subcomputation.specs.declared.sub.ReadiedOf.{ReadiedOf}
 use Rattle.subcomputation.proofs.Others.{put_other, without_itself, without_other}
 use Rattle.node_state.specs.Node.{NodeOf}
 use Rattle.node_state.specs.Parts.{ArePosts, IsMember, is_post_at, is_same_post, ready_of, same_grant, times_posted}
-use Rattle.node_state.specs.Posts.{ReadyFrame, live_subs, post_of, posted_all, ready_at, ready_of_sub}
+use Rattle.node_state.specs.Posts.{ReadyFrame, post_of, posted_all, ready_at, ready_of_sub}
 use Rattle.node_state.specs.Stale.{Covers, stale_by, stale_frame, stale_in, stale_leaver, stale_work, still_ready}
-use Rattle.node_state.specs.declared.parts.Stale.{Stale}
-use Rattle.node_state.specs.declared.parts.Stale.TheVariants.{Nothing, One, Any}
 use Rattle.node_state.proofs.Kept.{all_stay, is_ready_there, is_there, member_holds, same_post}
-use Rattle.node_state.proofs.Posting.{count_all_posted, count_other, count_ready, count_told, differs, grant_itself, readied_of, same_name, same_names}
+use Rattle.node_state.proofs.Posting.{count_all_posted, count_other, count_ready, count_told, differs, readied_of, same_name, same_names}
 
 -- frames
 

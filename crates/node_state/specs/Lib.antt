@@ -1,3 +1,4 @@
+pub mod Assemblies
 pub mod Node
 pub mod Posts
 pub mod Parts

@@ -9,6 +9,7 @@ use Rattle.codec.specs.declared.body.Roster.{Roster}
 use Rattle.steal_protocol.specs.Requests.{AskerOf}
 use Rattle.steal_protocol.specs.declared.replies.Reply.{Reply}
 use Rattle.subcomputation.specs.Subs.{SubOf, put_sub}
+use Rattle.node_state.specs.Assemblies.{AssemblyOf}
 use Rattle.node_state.specs.declared.parts.Confirmed.{Confirmed}
 use Rattle.node_state.specs.declared.parts.Seen.{Seen}
 use Rattle.node_state.specs.declared.parts.State.{State}
@@ -26,6 +27,7 @@ pub record NodeOf : Type 0 where
   pub replies : List Reply
   pub confirmed : List Confirmed
   pub seen : List Seen
+  pub assemblies : List AssemblyOf
 
 -- nothing was asked
 abbrev pub silent : AskerOf
@@ -33,11 +35,11 @@ silent = record { pending = None; asked = 0 }
 
 -- a node that starts
 abbrev pub starting : ℕ → NodeOf
-starting word = record { incarnation = word; state = Joining; subs = []; asker = silent; minted = 0; replies = []; confirmed = []; seen = [] }
+starting word = record { incarnation = word; state = Joining; subs = []; asker = silent; minted = 0; replies = []; confirmed = []; seen = []; assemblies = [] }
 
 -- a node that has ended; its counts stay, which nothing looks at any more
 abbrev pub ended : NodeOf → NodeOf
-ended n = record n { state = Ended; subs = []; asker = record n.asker { pending = None }; replies = []; confirmed = []; seen = [] }
+ended n = record n { state = Ended; subs = []; asker = record n.asker { pending = None }; replies = []; confirmed = []; seen = []; assemblies = [] }
 
 -- by where a node stands
 unfoldable pub by_state : {B : Type 0} → State → (joining : B) → (member : Roster → B) → (leaving : Roster → ℕ → B) → (ended : B) → B

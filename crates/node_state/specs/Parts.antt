@@ -1,5 +1,5 @@
 -- A node and its posts, and what holds of them between its calls.
-use Rattle.std.specs.Prelude.{◌≡◌, ◌+◌, ◌<◌, ◌^◌, ℕ, ◌&&◌, Bool, nat_eq, List, [], Option, None, Some, IsSome, map, sum_by}
+use Rattle.std.specs.Prelude.{◌≡◌, ◌+◌, ◌<◌, ◌^◌, ℕ, ◌&&◌, nat_eq, List, [], Option, None, Some, IsSome, map, sum_by}
 use Rattle.ids.specs.Names.{Grant}
 use Rattle.ids.specs.Place.{level_of}
 use Rattle.ids.specs.declared.work.Record.{Record}

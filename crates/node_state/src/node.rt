@@ -1,15 +1,16 @@
-ghost use Rattle.std.specs.Prelude.{◌≡◌, ◌<◌, ◌+◌, List, OnOk, OnErr, IfOk, IfSome, IsSomeAnd, None, Some, option_copied, is_some, [], refl};
+ghost use Rattle.std.specs.Prelude.{◌≡◌, ◌<◌, ◌+◌, List, OnOk, OnErr, IfOk, IfSome, IsSome, IsSomeAnd, None, Some, option_copied, is_some, [], refl};
 ghost use Rattle.std.specs.List.{filter};
 ghost use Rattle.subcomputation.specs.Subs.{sub_in, host_in, name_of_sub, put_sub, without_sub, ready_frames, IsBegun, SubOf};
 ghost use Rattle.steal_protocol.specs.Requests.{asked, IsAsked, without_request, settled};
 ghost use Rattle.steal_protocol.specs.Replies.{put_reply};
+ghost use Rattle.node_state.specs.Assemblies.{AssemblyOf, assembly_in, begun, of_living, put_assembly, with_part, without_assembly};
 ghost use Rattle.node_state.specs.Node.{starting, ended, is_confirmed, hop_in, holding, name_of_confirmed, put_confirmed, put_seen, name_of_seen};
 ghost use Rattle.level_deques.specs.Levels.{IsByLevel};
 ghost use Rattle.level_deques.specs.declared.posts.Post.{Post};
 ghost use Rattle.node_state.specs.Posts.{post_of, posted_all, posts_after, ready_of_sub};
 ghost use Rattle.node_state.specs.Stale.{Covers, stale_by, stale_in};
 ghost use Rattle.sub_rules.specs.Changes.{readied_in};
-ghost use Rattle.ids.specs.Naming.{name_of_frame, name_of_grant};
+ghost use Rattle.ids.specs.Naming.{name_of_frame, name_of_grant, name_of_member};
 ghost use Rattle.ids.specs.Ordered.{AreInOrder};
 ghost use Rattle.ids.specs.Named.{changed_in};
 ghost use Rattle.subcomputation.specs.Told.{opened_sub, updated_sub};
@@ -20,8 +21,9 @@ ghost use Rattle.recovery.specs.Plans.{IsPlan};
 ghost use Rattle.recovery.specs.Told.{AreWhole, IsWhole};
 ghost use Rattle.task_tree.specs.declared.tree.Program.{Program};
 
-use crate::parts::{Confirmed, LastTurn, Seen, Stale, State};
-use codec::Roster;
+use crate::assemblies::{Assembly, OneMore, forget_all, names_of_dead};
+use crate::parts::{Confirmed, LastTurn, Seen, Stale, State, name_of};
+use codec::{Part, Piece, Roster};
 use ids::{
     Actor, FrameNo, GrantId, Hop, Incarnation, Named, Record, SortedMap, Status, TryItemChange,
     Values,
@@ -33,13 +35,6 @@ use std::marker::Model;
 use steal_protocol::{AskError, Asker, Replies, Reply, Request};
 use sub_rules::{Leaver, Readied, Replacement, Update};
 use subcomputation::{ReadiedOf, Sub};
-
-/// The name under which what a grant names is kept.
-fn name_of(grant: GrantId) -> (u64, u64)
-    ensures { result ≡ name_of_grant grant }
-{
-    (grant.minter().word(), grant.number())
-}
 
 /// A taken grant's name is the grant's.
 impl Named for Seen {
@@ -72,6 +67,7 @@ pub struct Parts {
     replies: Replies,
     confirmed: SortedMap<Confirmed>,
     seen: SortedMap<Seen>,
+    assemblies: SortedMap<Assembly>,
     posts: Posts,
     // How many stolen frames became ready again, and what the last turn was. Contracts see neither.
     redone: u64,
@@ -84,9 +80,9 @@ impl Model for Parts {
 
     ghost Value = { PartsOf };
 
-    ghost view = { λ p. record { node = record { incarnation = p.incarnation; state = p.state; subs = p.subs; asker = p.asker; minted = p.minted; replies = p.replies; confirmed = p.confirmed; seen = p.seen }; posts = p.posts } };
+    ghost view = { λ p. record { node = record { incarnation = p.incarnation; state = p.state; subs = p.subs; asker = p.asker; minted = p.minted; replies = p.replies; confirmed = p.confirmed; seen = p.seen; assemblies = p.assemblies }; posts = p.posts } };
 
-    ghost invariant = { λ p. AreParts (record { node = record { incarnation = p.incarnation; state = p.state; subs = p.subs; asker = p.asker; minted = p.minted; replies = p.replies; confirmed = p.confirmed; seen = p.seen }; posts = p.posts }) };
+    ghost invariant = { λ p. AreParts (record { node = record { incarnation = p.incarnation; state = p.state; subs = p.subs; asker = p.asker; minted = p.minted; replies = p.replies; confirmed = p.confirmed; seen = p.seen; assemblies = p.assemblies }; posts = p.posts }) };
 }
 
 impl Parts {
@@ -104,6 +100,7 @@ impl Parts {
             replies: Replies::new(alloc),
             confirmed: SortedMap::new(alloc),
             seen: SortedMap::new(alloc),
+            assemblies: SortedMap::new(alloc),
             posts: Posts::new(alloc),
             redone: 0,
             turn: LastTurn::none(),
@@ -236,15 +233,16 @@ impl Parts {
         self.asker.settle(victim);
     }
 
-    /// Leaves to an heir, by the roster that it has: all that it holds is frozen.
+    /// Leaves to an heir, by the roster that it has: all that it holds is frozen, and the parts of Offers that came go.
     pub fn leave(&mut self, heir: Incarnation)
         requires member { IsMember self.old.node.state }
         requires silent { self.old.node.asker.pending ≡ None }
         ensures { (r : Roster) → self.old.node.state ≡ Member r
-            → self.new ≡ with_posts (record self.old.node { state = Leaving r heir }) [] self.old.posts }
+            → self.new ≡ with_posts (record self.old.node { state = Leaving r heir; assemblies = [] }) [] self.old.posts }
     {
         if let State::Member(roster) = std::mem::replace(&mut self.state, State::Joining) {
             self.state = State::Leaving(roster, heir);
+            self.assemblies = SortedMap::new(self.alloc);
             self.posts = Posts::new(self.alloc);
         }
     }
@@ -268,6 +266,50 @@ impl Parts {
         Ok(())
     }
 
+    /// The parts of a grant's Offer that have come in Pieces, if any has.
+    pub fn assembly(&self, grant: GrantId) -> Option<&Assembly>
+        ensures { option_copied result ≡ assembly_in grant self.now.node.assemblies }
+    {
+        let assembly = self.assemblies.get(name_of(grant))?;
+        Some(assembly)
+    }
+
+    /// Keeps the first part that comes of an Offer, in the place of what came of another one of its grant; refused only when
+    /// out of memory, which changes nothing.
+    pub fn begin_assembly(&mut self, piece: Piece) -> Result<(), AllocError>
+        ensures ok { OnOk result (self.new
+            ≡ with_posts (record self.old.node { assemblies = put_assembly (begun piece) self.old.node.assemblies })
+            [] self.old.posts) }
+        ensures err { OnErr result (self.new ≡ self.old) }
+    {
+        let begun = Assembly::begin(self.alloc, piece)?;
+        self.assemblies.put(begun)?;
+        Ok(())
+    }
+
+    /// Keeps one part more of the grant's Offer, where it stands; refused only when out of memory, which changes nothing.
+    pub fn add_part(&mut self, grant: GrantId, part: Part) -> Result<(), AllocError>
+        requires { IsSome (assembly_in grant self.old.node.assemblies) }
+        ensures ok { (a : AssemblyOf) → assembly_in grant self.old.node.assemblies ≡ Some a
+            → OnOk result (self.new
+            ≡ with_posts (record self.old.node { assemblies = put_assembly (with_part part a) self.old.node.assemblies })
+            [] self.old.posts) }
+        ensures err { OnErr result (self.new ≡ self.old) }
+    {
+        self.assemblies
+            .try_change(name_of(grant), OneMore { part })?;
+        Ok(())
+    }
+
+    /// The parts of a grant's Offer go.
+    pub fn forget_assembly(&mut self, grant: GrantId)
+        ensures { self.new
+            ≡ with_posts (record self.old.node { assemblies = without_assembly grant self.old.node.assemblies })
+            [] self.old.posts }
+    {
+        self.assemblies.discard(name_of(grant));
+    }
+
     /// The subcomputations, by their grants.
     pub fn held(&self) -> &SortedMap<Sub>
         ensures { result.now ≡ self.now.node.subs }
@@ -276,7 +318,8 @@ impl Parts {
     }
 
     /// Keeps a roster, as a member's, carries out the recovery by it that was planned, and forgets a pending request whose victim
-    /// isn't live by what is said of it; refused only when out of memory, which changes nothing.
+    /// isn't live by what is said of it, and the parts of the Offers of those who are dead by the roster; refused only when out of
+    /// memory, which changes nothing.
     pub fn recover(
         &mut self,
         roster: Roster,
@@ -284,22 +327,27 @@ impl Parts {
         plan: Plan,
     ) -> Result<(), AllocError>
         requires member { IsMember self.old.node.state }
+        requires rising { AreInOrder name_of_member roster.members }
         requires plan { IsPlan roster.members self.old.node.subs plan }
         ensures ok { OnOk result (self.new ≡ with_posts (record self.old.node {
           state = Member roster;
           subs = (recovery_of roster self.old.node).subs;
           asker = settled victim self.old.node.asker;
+          assemblies = of_living roster.members self.old.node.assemblies;
         }) (recovery_of roster self.old.node).again self.old.posts) }
         ensures fits { (p : Program) → EachFits p self.old.node → OnOk result (EachFits p self.new.node) }
         ensures err { OnErr result (self.new ≡ self.old) }
     {
         let posts = posted_again(&self.posts, plan.again())?;
+        let dead = names_of_dead(self.alloc, &roster, &self.assemblies)?;
         let redone = self.redone.saturating_add(plan.again().len() as u64);
+        self.assemblies.law_stand_in_order();
         law_are_whole(&self.subs);
         recovery::law_recoveries_are_told();
         plan.carry_out(&mut self.subs);
         self.state = State::Member(roster);
         self.asker.settle(victim);
+        forget_all(&mut self.assemblies, dead.as_slice());
         self.posts = posts;
         self.redone = redone;
         withdraw_stale(&mut self.posts, &self.subs);
@@ -343,6 +391,7 @@ impl Parts {
         self.replies = Replies::new(self.alloc);
         self.confirmed = SortedMap::new(self.alloc);
         self.seen = SortedMap::new(self.alloc);
+        self.assemblies = SortedMap::new(self.alloc);
         self.posts = Posts::new(self.alloc);
     }
 

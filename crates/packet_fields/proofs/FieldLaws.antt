@@ -1,5 +1,5 @@
 -- Each field keeps the laws of formats: the term of its law is that of its format.
-use Rattle.std.proofs.Common.{◌≡◌, ℕ, zero, suc, ◌^◌, ◌<◌, Bool, true, not, eqb, ltb, List, ◌++◌, reverse, Option, Some, None, Result, Ok, refl, sym, ap, subst, ◌∙◌, arith}
+use Rattle.std.proofs.Common.{◌≡◌, ℕ, zero, suc, ◌^◌, ◌<◌, Bool, true, not, eqb, leb, ltb, List, ◌++◌, reverse, Option, Some, None, Result, Ok, refl, sym, ap, subst, ◌∙◌, arith}
 use Rattle.std.specs.Prelude.{ℤ, pos, negsuc, FitsSigned, ◌&&◌}
 use Rattle.std.specs.Int.{w64, cast_signed, cast_unsigned}
 use Rattle.std.proofs.Math.Facts.{sfits_to_z}
@@ -18,9 +18,9 @@ use Rattle.ids.specs.declared.outcome.Progress.TheVariants.{Active, Finished}
 use Rattle.ids.specs.declared.member.Status.{Status}
 use Rattle.ids.specs.declared.member.Status.TheVariants.{Live, Dead, Left}
 use Rattle.ids.specs.declared.work.Task.{Task}
-use Rattle.packet_fields.specs.Format.{Format, IsBytes, ◌>>=◌, at_most, checked, followed, items, number, plain}
-use Rattle.packet_fields.specs.Fields.{actor, address, allows, below, counted, epoch, frame, frames, goes_to, grant, grant_of_record, heir_in, hop, is_above, is_active, is_behind, is_dead, is_live, is_open, is_too_deep, is_whole, is_word, local_in, member, members, name_of_member, number_of_frame, numbers, other_worker, outcome, outcome_arm, outcome_in, place, progress, progress_arm, raised, records, return_arm, signed, slot, slot_arm, slots, status, status_arm, step, steps, stolen, tag_of_outcome, tag_of_progress, tag_of_return, tag_of_slot, tag_of_status, task, thread, value_in, worker}
-use Rattle.packet_fields.proofs.FormatLaws.{Lawful, bind_ok, checked_lawful, chosen_lawful, followed_lawful, items_lawful, items_length, listed_lawful, made_lawful, never_lawful, nothing_lawful, number_again, number_lawful, ok_is, plain_lawful, plain_length, variant_lawful, wide1, wide2, wide4, wide8}
+use Rattle.packet_fields.specs.Format.{Format, IsBytes, ◌>>=◌, at_most, checked, followed, items, number, plain, raw}
+use Rattle.packet_fields.specs.Fields.{actor, address, allows, allows_part, below, counted, epoch, frame, frames, goes_to, grant, grant_of_record, heir_in, hop, is_above, is_active, is_behind, is_dead, is_live, is_open, is_too_deep, is_whole, is_word, local_in, member, members, most_pieces, name_of_member, number_of_frame, numbers, other_worker, outcome, outcome_arm, outcome_in, part, piece_of, pieces, place, progress, progress_arm, raised, records, return_arm, signed, slot, slot_arm, slots, status, status_arm, step, steps, stolen, tag_of_outcome, tag_of_progress, tag_of_return, tag_of_slot, tag_of_status, task, thread, value_in, worker}
+use Rattle.packet_fields.proofs.FormatLaws.{Lawful, bind_ok, checked_lawful, chosen_lawful, followed_lawful, items_lawful, items_length, listed_lawful, made_lawful, never_lawful, nothing_lawful, number_again, number_lawful, ok_is, plain_lawful, plain_length, raw_lawful, raw_length, variant_lawful, wide1, wide2, wide4, wide8}
 
 -- ---- names and numbers
 
@@ -56,6 +56,17 @@ raised_lawful = checked_lawful (number 4) (λ n. ltb 0 n) (number_lawful 4 wide4
 
 pub below_lawful : (next : ℕ) → Lawful (below next)
 below_lawful next = checked_lawful (number 4) (λ n. ltb n next) (number_lawful 4 wide4)
+
+pub pieces_lawful : Lawful pieces
+unfolding pieces
+pieces_lawful = checked_lawful (number 2) (λ n. leb 2 n && leb n most_pieces) (number_lawful 2 wide2)
+
+pub piece_of_lawful : (pieces : ℕ) → Lawful (piece_of pieces)
+piece_of_lawful pieces = checked_lawful (number 2) (λ n. ltb n pieces) (number_lawful 2 wide2)
+
+pub part_lawful : (pieces number : ℕ) → Lawful (part pieces number)
+unfolding part
+part_lawful pieces number = listed_lawful 4 (allows_part pieces number) raw wide4 raw_lawful raw_length
 
 pub grant_lawful : Lawful grant
 unfolding grant

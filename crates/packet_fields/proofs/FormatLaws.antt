@@ -1,14 +1,16 @@
 -- The laws of the words that put formats together: what is read is spelled so, what is spelled is read, a value has one
 -- spelling, and what can be written is spelled by what is written.
 use Rattle.std.proofs.Common.{◌≡◌, ℕ, zero, suc, ◌+◌, ◌*◌, ◌%◌, ◌^◌, ◌<◌, ◌≤◌, Bool, true, false, cond, eqb, ltb, List, [], ◌∷◌, ◌++◌, length, take, drop, Option, Some, None, Result, Ok, Err, refl, sym, ap, subst, ◌∙◌, append_assoc, arith, inl, inr}
-use Rattle.std.proofs.lemmas.Bool.{and_from, and_parts, eqb-true, le-ltb, lt-ltb, ltb-false, ltb-true, cases_lt}
-use Rattle.std.proofs.lemmas.List.{drop_at, take-append-drop, length-append, length-take, get_or-drop, get_or-take, get_or_past}
+use Rattle.std.specs.List.{list_all}
+use Rattle.std.proofs.Math.Seq.{take-append_seam}
+use Rattle.std.proofs.lemmas.Bool.{and_from, and_parts, eq-eqb, eqb-true, le-ltb, lt-ltb, ltb-false, ltb-true, cases_lt}
+use Rattle.std.proofs.lemmas.List.{drop_at, take-append-drop, length-append, length-take, length-take-le, get_or-drop, get_or-take, get_or_past}
 use Rattle.std.proofs.lemmas.Nat.{be_bytes_2, be_bytes_4, be_bytes_8}
 use Rattle.byteorder.specs.Endian.{big_bytes, big_number}
 use Rattle.byteorder.specs.Numbers.{big_from-lt, big_from-take, big_number-reads_back, length-bytes_high_first}
 use Rattle.packet_fields.specs.declared.fault.Fault.{Fault}
 use Rattle.packet_fields.specs.declared.fault.Fault.TheVariants.{Short, Field}
-use Rattle.packet_fields.specs.Format.{Format, IsBytes, OneSpelling, ◌>>=◌, checked, tagged_arm, cons, constant, followed, is_empty, items, listed, made, never, nothing, number, of_part, plain, tested, variant}
+use Rattle.packet_fields.specs.Format.{Format, IsBytes, OneSpelling, ◌>>=◌, checked, tagged_arm, cons, constant, followed, is_empty, items, listed, made, is_byte, never, nothing, number, of_part, plain, raw, tested, variant}
 
 -- what a format is to keep
 pub record Lawful {X : Type 0} (F : Format X) : Type 0 where
@@ -116,6 +118,40 @@ number_lawful n wide = record {
   writes = λ x to f. (ltb-true x (256 ^ n) f, refl);
   fit = λ from to x s. lt-ltb x (256 ^ n) s.0;
 }
+
+-- ---- bytes as they are
+
+-- bytes, one by one
+pub all_bytes : (x : List ℕ) → IsBytes x → list_all is_byte x ≡ true
+all_bytes [] h = refl
+all_bytes (b ∷ x) h = and_from (ltb b 256) (list_all is_byte x) (lt-ltb b 256 (h 0)) (all_bytes x (λ i. h (suc i)))
+
+pub each_byte : (x : List ℕ) → list_all is_byte x ≡ true → IsBytes x
+each_byte [] e i = omega arith
+each_byte (b ∷ x) e zero = ltb-true b 256 (and_parts (ltb b 256) (list_all is_byte x) e).0
+each_byte (b ∷ x) e (suc i) = each_byte x (and_parts (ltb b 256) (list_all is_byte x) e).1 i
+
+pub raw_again : (n : ℕ) (x rest : List ℕ) → length x ≡ n → (raw n).read (x ++ rest) ≡ Ok (x, rest)
+raw_again n x rest len =
+    let long : ltb (length (x ++ rest)) n ≡ false = le-ltb _ _ (omega (arith, length-append x rest)) in
+    let front : take n (x ++ rest) ≡ x = ap (λ k. take k (x ++ rest)) (sym len) ∙ take-append_seam x rest in
+    rw (long, front, drop_at x rest n len) refl
+
+pub raw_lawful : (n : ℕ) → Lawful (raw n)
+raw_lawful n = record {
+  found = λ from to x bytes e.
+      let g = guard_ok (ltb (length from) n) Short (take n from, drop n from) (x, to) e in
+      let long : n ≤ length from = ltb-false _ _ g.0 in
+      subst (λ (q : List ℕ × List ℕ). ((length q.0 ≡ n) × IsBytes q.0 × (from ≡ q.0 ++ q.1)) × IsBytes q.1) g.1
+      ((length-take-le n from long, IsBytes-take n from bytes, sym (take-append-drop n from)), IsBytes-drop n from bytes);
+  only = λ from to x s. ap (raw n).read s.2 ∙ raw_again n x to s.0;
+  one = λ from to x s. s.2;
+  writes = λ x to f. let h = and_parts (eqb (length x) n) (list_all is_byte x) f in (eqb-true (length x) n h.0, each_byte x h.1, refl);
+  fit = λ from to x s. and_from (eqb (length x) n) (list_all is_byte x) (eq-eqb (length x) n s.0) (all_bytes x s.1);
+}
+
+pub raw_length : (n : ℕ) (from to x : List ℕ) → (raw n).Spelled from to x → length x ≡ n
+raw_length n from to x s = s.0
 
 -- ---- one format after another
 

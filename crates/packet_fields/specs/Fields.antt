@@ -1,5 +1,5 @@
 -- The fields of packets, each as a format.
-use Rattle.std.specs.Prelude.{◌≡◌, ◌++◌, ◌^◌, ◌&&◌, ℕ, zero, suc, ℤ, pos, negsuc, Bool, true, false, not, nat_eq, nat_lt, IsTrue, List, reverse, Option, Some, None, Ok}
+use Rattle.std.specs.Prelude.{◌≡◌, ◌++◌, ◌^◌, ◌+◌, ◌&&◌, ℕ, zero, suc, ℤ, pos, negsuc, Bool, true, false, not, nat_eq, nat_lt, nat_le, if◌then◌else◌, IsTrue, List, reverse, Option, Some, None, Ok}
 use Rattle.std.specs.Int.{w64, cast_signed, cast_unsigned}
 use Rattle.byteorder.specs.Endian.{big_bytes}
 use Rattle.ids.specs.Names.{Grant, grant_before, is_actor, is_address, is_counted, is_epoch, is_worker}
@@ -16,7 +16,7 @@ use Rattle.ids.specs.declared.work.Record.{Record}
 use Rattle.ids.specs.declared.member.Status.{Status}
 use Rattle.ids.specs.declared.member.Status.TheVariants.{Live, Dead, Left}
 use Rattle.ids.specs.declared.work.Task.{Task}
-use Rattle.packet_fields.specs.Format.{Format, ◌>>=◌, at_most, checked, tagged_arm, followed, items, listed, made, never, nothing, number, plain, variant}
+use Rattle.packet_fields.specs.Format.{Format, ◌>>=◌, at_most, checked, tagged_arm, followed, items, listed, made, never, nothing, number, plain, raw, variant}
 
 -- the word of a worker's start
 unfoldable pub worker : Format ℕ
@@ -53,6 +53,30 @@ raised = checked (number 4) (λ n. nat_lt 0 n)
 -- the number of a frame, below the next one
 abbrev pub below : ℕ → Format ℕ
 below next = checked (number 4) (λ n. nat_lt n next)
+
+-- into how many pieces an offer is cut at most
+abbrev pub most_pieces : ℕ
+most_pieces = 16384
+
+-- into how many pieces an offer is cut: at least 2
+unfoldable pub pieces : Format ℕ
+pieces = checked (number 2) (λ n. nat_le 2 n && nat_le n most_pieces)
+
+-- which of so many pieces it is, counted from 0
+abbrev pub piece_of : ℕ → Format ℕ
+piece_of pieces = checked (number 2) (λ n. nat_lt n pieces)
+
+-- how many bytes a part of an offer's spelling has at most
+abbrev pub part_bytes : ℕ
+part_bytes = 65536
+
+-- how many bytes a part may have: the last one 1 at least, each other one as many as it can
+abbrev pub allows_part : ℕ → ℕ → ℕ → Bool
+allows_part pieces number count = if nat_eq (number + 1) pieces then nat_lt 0 count && nat_le count part_bytes else nat_eq count part_bytes
+
+-- a part of an offer's spelling, behind the count of its bytes
+unfoldable pub part : ℕ → ℕ → Format (List ℕ)
+part pieces number = listed 4 (allows_part pieces number) raw
 
 -- the name of a grant: who minted it, then its number
 unfoldable pub grant : Format Grant

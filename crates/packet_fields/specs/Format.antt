@@ -1,6 +1,7 @@
 -- How values stand in bytes. A format gives a kind of value four meanings: which bytes spell a value, how it is read from
 -- the front of bytes, what is written for it, and whether it can be written. Formats are put together by the words below.
-use Rattle.std.specs.Prelude.{◌≡◌, ◌++◌, ◌<◌, ◌^◌, ◌&&◌, ℕ, zero, suc, Bool, true, false, nat_eq, nat_lt, nat_le, if◌then◌else◌, IsTrue, List, [], ◌∷◌, length, drop, get_or, Option, Some, None, Result, Ok, Err}
+use Rattle.std.specs.Prelude.{◌≡◌, ◌++◌, ◌<◌, ◌^◌, ◌&&◌, ℕ, zero, suc, Bool, true, false, nat_eq, nat_lt, nat_le, if◌then◌else◌, IsTrue, List, [], ◌∷◌, length, drop, take, get_or, Option, Some, None, Result, Ok, Err}
+use Rattle.std.specs.List.{list_all}
 use Rattle.byteorder.specs.Endian.{big_bytes, big_number}
 use Rattle.packet_fields.specs.declared.fault.Fault.{Fault}
 use Rattle.packet_fields.specs.declared.fault.Fault.TheVariants.{Short, Field}
@@ -58,6 +59,19 @@ number n = record {
   read = λ from. if nat_lt (length from) n then Err Short else Ok (big_number n from, drop n from);
   write = λ x. big_bytes n x;
   fits = λ x. nat_lt x (256 ^ n);
+}
+
+-- whether a number is a byte
+abbrev pub is_byte : ℕ → Bool
+is_byte b = nat_lt b 256
+
+-- so many bytes, as they are
+abbrev pub raw : ℕ → Format (List ℕ)
+raw n = record {
+  Spelled = λ from to x. (length x ≡ n) × IsBytes x × (from ≡ x ++ to);
+  read = λ from. if nat_lt (length from) n then Err Short else Ok (take n from, drop n from);
+  write = λ x. x;
+  fits = λ x. nat_eq (length x) n && list_all is_byte x;
 }
 
 -- a field that meets a test; else it is a fault, as soon as the field was read

@@ -11,6 +11,15 @@ use ids::{
     Outcome, Place, Progress, Record, Return, Slots, Status, Task,
 };
 
+/// An offer is cut into so many pieces at least.
+pub(crate) const LEAST_PIECES: u16 = 2;
+
+/// And into so many at most.
+pub(crate) const MOST_PIECES: u16 = 16_384;
+
+/// A part of an offer's spelling has so many bytes, the last one at most so many.
+const PART: usize = 65_536;
+
 /// A worker's incarnation: always.
 #[tactic(auto, unfolding(crate::specs::Fields::worker))]
 pub fn worker(incarnation: &Incarnation) -> bool
@@ -70,6 +79,46 @@ pub fn raised(value: &Hop) -> bool
     ensures { result ≡ field.raised.fits value.now }
 {
     value.count() > 0
+}
+
+/// Into how many pieces an offer is cut: 2 to 16,384.
+#[tactic(auto, unfolding(crate::specs::Fields::pieces))]
+pub fn pieces(value: &u16) -> bool
+    ensures { result ≡ field.pieces.fits value.now }
+{
+    *value >= LEAST_PIECES && *value <= MOST_PIECES
+}
+
+/// Which of so many pieces it is, counted from 0.
+pub fn piece_of(pieces: &u16, value: &u16) -> bool
+    ensures { result ≡ (field.piece_of pieces.now).fits value.now }
+{
+    *value < *pieces
+}
+
+/// Whether the part of an offer's spelling with a number, of so many pieces, may have so many bytes.
+pub(crate) fn allows_part(pieces: u16, number: u16, count: usize) -> bool
+    ensures { result ≡ field.allows_part pieces number count }
+{
+    if number as u32 + 1 == pieces as u32 {
+        0 < count && count <= PART
+    } else {
+        count == PART
+    }
+}
+
+/// The part of an offer's spelling with a number, of so many pieces: 65,536 bytes, the last one 1 to so many.
+pub fn part(pieces: &u16, number: &u16, value: &Listed<u8>) -> bool
+    ensures { result ≡ (field.part pieces.now number.now).fits value.now }
+{
+    are_part(*pieces, *number, value.as_slice())
+}
+
+/// The same of its bytes.
+fn are_part(pieces: u16, number: u16, bytes: &[u8]) -> bool
+    ensures { result ≡ (field.part pieces number).fits bytes.now }
+{
+    allows_part(pieces, number, bytes.len())
 }
 
 /// The number of the next frame, at least 1.

@@ -20,6 +20,9 @@ pub fn one_spelling()
     ensures hop { OneSpelling field.hop }
     ensures raised { OneSpelling field.raised }
     ensures below { (next : ℕ) → OneSpelling (field.below next) }
+    ensures pieces { OneSpelling field.pieces }
+    ensures piece_of { (pieces : ℕ) → OneSpelling (field.piece_of pieces) }
+    ensures part { (pieces number : ℕ) → OneSpelling (field.part pieces number) }
     ensures grant { OneSpelling field.grant }
     ensures step { OneSpelling field.step }
     ensures steps { OneSpelling field.steps }

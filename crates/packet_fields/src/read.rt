@@ -4,9 +4,11 @@
 //! once.
 ghost use Rattle.std.specs.Prelude.{◌≡◌, ◌<◌, [], IfOk, Some, None};
 ghost use Rattle.packet_fields.specs.Format.{Gives, Reads, checked, items, number, plain};
+ghost use Rattle.packet_fields.specs.Format as format;
 ghost use Rattle.packet_fields.specs.Fields as field;
 
 use crate::fault::{Fault, ReadError};
+use crate::fits::{LEAST_PIECES, MOST_PIECES, allows_part};
 use crate::input::Input;
 use ids::limits::{MOST_MEMBERS, MOST_NUMBERS, MOST_SLOTS, MOST_STEPS, MOST_THREADS};
 use ids::{
@@ -126,6 +128,63 @@ pub fn below(next: &FrameNo, input: &mut Input<'_>) -> Result<FrameNo, Fault>
         return Err(Fault::Field);
     }
     Ok(FrameNo::of(number))
+}
+
+/// Into how many pieces an offer is cut: 2 to 16,384.
+#[tactic(auto, unfolding(crate::specs::Fields::pieces))]
+pub fn pieces(input: &mut Input<'_>) -> Result<u16, Fault>
+    ensures { Reads (λ x. (x, input.new)) result (field.pieces.read input.old) }
+{
+    let pieces = input.u16()?;
+    if pieces < LEAST_PIECES || pieces > MOST_PIECES {
+        return Err(Fault::Field);
+    }
+    Ok(pieces)
+}
+
+/// Which of so many pieces it is, counted from 0.
+pub fn piece_of(pieces: &u16, input: &mut Input<'_>) -> Result<u16, Fault>
+    ensures { Reads (λ x. (x, input.new)) result ((field.piece_of pieces.now).read input.old) }
+{
+    let number = input.u16()?;
+    if number >= *pieces {
+        return Err(Fault::Field);
+    }
+    Ok(number)
+}
+
+/// How many bytes a part of an offer's spelling has: 65,536, the last one at most so many, and at least 1. It comes before the bytes.
+pub(crate) fn part_count(pieces: &u16, index: &u16, input: &mut Input<'_>) -> Result<u32, Fault>
+    ensures { Reads (λ x. (x, input.new)) result
+        ((checked (number 4) (field.allows_part pieces.now index.now)).read input.old) }
+{
+    let count = input.u32()?;
+    if !allows_part(*pieces, *index, count as usize) {
+        return Err(Fault::Field);
+    }
+    Ok(count)
+}
+
+/// A part of an offer's spelling, behind the count of its bytes.
+#[tactic(auto, unfolding(crate::specs::Fields::part))]
+pub fn part(pieces: &u16, number: &u16, input: &mut Input<'_>) -> Result<Listed<u8>, ReadError>
+    ensures { Gives (λ x. (x, input.new)) result ((field.part pieces.now number.now).read input.old) }
+{
+    let count = part_count(pieces, number, input)?;
+    Ok(raw(count as usize, input)?)
+}
+
+/// So many bytes, as they are.
+fn raw(count: usize, input: &mut Input<'_>) -> Result<Listed<u8>, ReadError>
+    ensures { Gives (λ x. (x, input.new)) result ((format.raw count).read input.old) }
+{
+    if input.len() < count {
+        return Err(ReadError::Fault(Fault::Short));
+    }
+    let mut bytes = Vec::with_capacity(input.alloc(), count)?;
+    bytes.extend_from_slice(input.front(count))?;
+    input.pass(count);
+    Ok(Listed::from_vec(bytes))
 }
 
 /// The name of a grant.

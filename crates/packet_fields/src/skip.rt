@@ -6,10 +6,12 @@ ghost use Rattle.packet_fields.specs.Fields as field;
 
 use crate::fault::Fault;
 use crate::input::Input;
-use crate::read::{count, grant_behind, number_behind, slot, status, steps, worker_behind};
+use crate::read::{
+    count, grant_behind, number_behind, part_count, slot, status, steps, worker_behind,
+};
 pub use crate::read::{
-    actor, below, counted, epoch, goes_to, grant, hop, next_frame, other_worker, outcome, progress,
-    raised, thread, worker,
+    actor, below, counted, epoch, goes_to, grant, hop, next_frame, other_worker, outcome, piece_of,
+    pieces, progress, raised, thread, worker,
 };
 use ids::limits::{MOST_MEMBERS, MOST_NUMBERS, MOST_SLOTS, MOST_STEPS};
 use ids::{FrameNo, GrantId, Incarnation, Progress};
@@ -24,6 +26,19 @@ pub fn place(input: &mut Input<'_>) -> Result<(), Fault>
         return Err(Fault::Field);
     }
     steps(count, input)?;
+    Ok(())
+}
+
+/// A part of an offer's spelling, behind the count of its bytes.
+#[tactic(auto, unfolding(crate::specs::Fields::part))]
+pub fn part(pieces: &u16, number: &u16, input: &mut Input<'_>) -> Result<(), Fault>
+    ensures { Reads (λ _. input.new) result (end_of ((field.part pieces.now number.now).read input.old)) }
+{
+    let count = part_count(pieces, number, input)? as usize;
+    if input.len() < count {
+        return Err(Fault::Short);
+    }
+    input.pass(count);
     Ok(())
 }
 

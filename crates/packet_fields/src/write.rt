@@ -140,6 +140,31 @@ pub fn raised(out: &mut Vec<u8>, value: &Hop) -> Result<(), AllocError>
     u32(out, value.count())
 }
 
+/// Into how many pieces an offer is cut.
+#[tactic(auto, unfolding(crate::specs::Fields::pieces))]
+pub fn pieces(out: &mut Vec<u8>, value: &u16) -> Result<(), AllocError>
+    ensures { OnOk result (out.new.items ≡ out.old.items ++ field.pieces.write value.now) }
+{
+    u16(out, *value)
+}
+
+/// Which of so many pieces it is.
+pub fn piece_of(out: &mut Vec<u8>, value: &u16) -> Result<(), AllocError>
+    ensures { OnOk result ((pieces : ℕ) → out.new.items ≡ out.old.items ++ (field.piece_of pieces).write value.now) }
+{
+    u16(out, *value)
+}
+
+/// A part of an offer's spelling, behind the count of its bytes.
+#[tactic(auto, unfolding(crate::specs::Fields::part), using(std::proofs::Common::append_assoc))]
+pub fn part(out: &mut Vec<u8>, value: &Listed<u8>) -> Result<(), AllocError>
+    ensures { OnOk result ((pieces number : ℕ) → out.new.items
+        ≡ out.old.items ++ (field.part pieces number).write value.now) }
+{
+    low_four(out, value.len())?;
+    out.extend_from_slice(value.as_slice())
+}
+
 /// The number of the next frame.
 #[tactic(auto, unfolding(crate::specs::Fields::raised))]
 pub fn next_frame(out: &mut Vec<u8>, next: &FrameNo) -> Result<(), AllocError>

@@ -1,7 +1,7 @@
 -- A node stays at its job.
 use Rattle.std.proofs.Common.{◌≡◌, Result, Ok, Err, ap}
 use Rattle.node_core.specs.Meeting.{Carries, Meets, NodeOn}
-use Rattle.node_core.specs.Steps.{Answer, Ignored, Refused, Does}
+use Rattle.node_core.specs.Steps.{Answer, Ignored, Refused, Does, Forgets}
 use Rattle.node_core.specs.declared.error.NodeError.{NodeError}
 use Rattle.node_core.specs.declared.error.NodeError.TheVariants as error
 use Rattle.node_core.specs.declared.parts.Step.{Step}
@@ -10,6 +10,7 @@ carried : (a : Answer) (step : Step) (before after : NodeOn) → Carries a step 
 carried Ignored step before after is = ap (λ n. n.job) is.1
 carried (Refused e) step before after is = absurd is
 carried (Does s) step before after is = ap (λ n. n.job) is.1
+carried (Forgets m) step before after is = ap (λ n. n.job) is.1
 
 pub keeps_job : (a : Answer) (r : Result Step NodeError) (before after : NodeOn) → Meets a r before after → after.job ≡ before.job
 keeps_job a (Ok step) before after is = carried a step before after is

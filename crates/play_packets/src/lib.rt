@@ -3,7 +3,8 @@
 //!
 //! A packet in words is its kind, its fields in their order, `to=` and `job=`, as in `Steal from=5 seq=1 to=house:1 job=7`. A place
 //! is its steps joined by dots, `-` for the root, where `STEP*TIMES` is so many of a step; a frame or a member whose number is
-//! `FROM..TO` is one for each number. HEX is pairs of digits, and may have blanks between them. Some bytes are kept:
+//! `FROM..TO` is one for each number. HEX is pairs of digits, and may have blanks between them. The bytes of a Piece are HEX without
+//! blanks, or `HEX*TIMES`, as which several bytes that are all the same are answered. Some bytes are kept:
 //!
 //! - `encode PACKET` answers the bytes of a packet, or their count where they are more than 400, and keeps them; `no packet`, where
 //!   a field is out of its range or order, or the address doesn't suit the kind. It writes the packet in each way that there is,

@@ -42,6 +42,7 @@ pub fn kind_name(body: &Body) -> &'static str {
         Body::Leave(_) => "Leave",
         Body::Abort(_) => "Abort",
         Body::Beat(_) => "Beat",
+        Body::Piece(_) => "Piece",
     }
 }
 

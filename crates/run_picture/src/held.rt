@@ -1,5 +1,6 @@
 //! What the nodes of a place hold, event by event.
 
+use crate::said::Task;
 use crate::shown::{Lost, keep};
 use event_script::{FrameOf, NodePlace};
 use ids::GrantId;
@@ -35,6 +36,8 @@ pub(crate) struct Lane {
     pub(crate) starts: usize,
     /// What the node holds, by rising grant.
     pub(crate) held: Vec<Held>,
+    /// Its ready frames, while turns are told in words.
+    pub(crate) tasks: Vec<Task>,
     /// How many tracks are in use at most.
     pub(crate) tracks: usize,
 }
@@ -47,6 +50,7 @@ impl Lane {
             first: 0,
             starts: 0,
             held: Vec::new(alloc),
+            tasks: Vec::new(alloc),
             tracks: 0,
         }
     }
@@ -66,6 +70,16 @@ impl Lane {
             let grant = held.grant;
             if grant.minter().word() == frame.minter && grant.number() == frame.number {
                 return Some(held.track);
+            }
+        }
+        None
+    }
+
+    /// The words of the thread and the numbers of a frame, if it is one of the ready ones.
+    pub(crate) fn task_of(&self, frame: FrameOf) -> Option<&[u8]> {
+        for task in &self.tasks {
+            if task.frame == frame {
+                return Some(task.words.as_slice());
             }
         }
         None

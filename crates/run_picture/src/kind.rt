@@ -18,6 +18,7 @@ pub(crate) enum Kind {
     Leave,
     Abort,
     Beat,
+    Piece,
 }
 
 /// What packets are about. Those of one family have arrows of one look.
@@ -51,6 +52,7 @@ impl Kind {
             Body::Leave(_) => (Kind::Leave, None),
             Body::Abort(abort) => (Kind::Abort, Some(abort.grant)),
             Body::Beat(_) => (Kind::Beat, None),
+            Body::Piece(piece) => (Kind::Piece, Some(piece.grant)),
         }
     }
 
@@ -69,13 +71,14 @@ impl Kind {
             Kind::Leave => "Leave",
             Kind::Abort => "Abort",
             Kind::Beat => "Beat",
+            Kind::Piece => "Piece",
         }
     }
 
     /// What it is about.
     pub(crate) fn family(self) -> Family {
         match self {
-            Kind::Grant | Kind::Offer => Family::Work,
+            Kind::Grant | Kind::Offer | Kind::Piece => Family::Work,
             Kind::Result => Family::Outcome,
             Kind::Steal | Kind::Refuse => Family::Asking,
             Kind::ResultAck | Kind::OfferAck | Kind::Abort => Family::Answer,

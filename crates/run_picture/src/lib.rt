@@ -23,6 +23,7 @@ mod picture;
 mod px;
 mod record;
 mod rooms;
+mod said;
 mod shown;
 mod style;
 mod texts;

@@ -43,16 +43,19 @@ pub(crate) fn write_marks<O: Write>(
     write_outcome(out, layout, run)
 }
 
-/// Begins what has an event's title, and writes that.
+/// Begins what has an event's title, and writes that: of a turn the words of what it came to.
 pub(crate) fn write_title<O: Write>(
     out: &mut O,
     run: &Recorder,
     event: usize,
     step: &Step,
 ) -> io::Result<()> {
-    let number = event.saturating_add(1);
-    let (words, effect) = (run.words_of(step), EffectText(step.effect));
-    write!(out, "<g><title>event {number}: {words}{effect}</title>")
+    write!(out, "<g><title>event {}: ", event.saturating_add(1))?;
+    match run.said.of(event) {
+        Some(words) => out.write_all(words)?,
+        None => write!(out, "{}{}", run.words_of(step), EffectText(step.effect))?,
+    }
+    write!(out, "</title>")
 }
 
 /// Writes the shape of an event that has a mark.
@@ -90,7 +93,8 @@ fn write_dot<O: Write>(
 }
 
 /// Writes the words of a mark where there is room at it, and then for the next start's at that one. Those of a start are written in any
-/// case: where there is no room at the mark, farther off, with the event's number.
+/// case: where there is no room at the mark, farther off, with the event's number; and where there is none up to the picture's right end, at
+/// the mark, over other words.
 fn write_words<O: Write>(
     out: &mut O,
     layout: &Layout,
@@ -114,7 +118,7 @@ fn write_words<O: Write>(
     let far = Words::FarStart(word, event.saturating_add(1));
     match rooms.take_far(site, from, width_of(&far), layout.width()) {
         Some(x) => write_at(out, layout, site, x, &far),
-        None => Ok(()),
+        None => write_at(out, layout, site, from, words),
     }
 }
 
@@ -123,7 +127,7 @@ fn width_of(words: &Words) -> Px {
     CHAR.times(count_chars(*words))
 }
 
-/// Writes the words of a mark from here on.
+/// Writes the words of a mark from here on, or so that they end with the picture.
 fn write_at<O: Write>(
     out: &mut O,
     layout: &Layout,
@@ -131,7 +135,10 @@ fn write_at<O: Write>(
     x: Px,
     words: &Words,
 ) -> io::Result<()> {
-    let y = layout.mark_words(*site);
+    let (x, y) = (
+        x.at_most(layout.width().minus(width_of(words))),
+        layout.mark_words(*site),
+    );
     writeln!(
         out,
         "<text class=\"mark\" x=\"{x}\" y=\"{y}\">{words}</text>"

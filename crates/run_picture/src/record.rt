@@ -5,10 +5,12 @@ use crate::folds::Folds;
 use crate::held::{Bar, Lane};
 use crate::kind::Kind;
 use crate::mark::mark_of;
+use crate::said::{Said, tasks_of};
 use crate::shown::{Death, Delivery, Life, Lost, Sent, Turn, Worker, keep};
 use crate::texts::EventWords;
 use codec::{Body, Packet, Roster, decode};
 use event_script::{Event, HouseEvent, NodePlace};
+use event_words::ran_in;
 use ids::{Outcome, Status};
 use std::alloc::Global;
 use world::{EventAnswer, Watch, World};
@@ -49,6 +51,7 @@ pub struct Recorder {
     pub(crate) lanes: Vec<Lane>,
     pub(crate) bars: Vec<Bar>,
     pub(crate) turns: Vec<Turn>,
+    pub(crate) said: Said,
     pub(crate) lives: Vec<Life>,
     pub(crate) workers: Vec<Worker>,
     pub(crate) packets: Vec<Sent>,
@@ -83,6 +86,7 @@ impl Recorder {
             lanes: Vec::new(alloc),
             bars: Vec::new(alloc),
             turns: Vec::new(alloc),
+            said: Said::new(alloc),
             lives: Vec::new(alloc),
             workers: Vec::new(alloc),
             packets: Vec::new(alloc),
@@ -115,6 +119,7 @@ impl Recorder {
         }
         let (at, before) = (self.steps.len(), self.tally());
         let step = self.read(event, told, world);
+        self.say_turn(alloc, at, event, told, world)?;
         self.keep_step(alloc, at, &step, world)?;
         self.send(alloc, at, &step, world)?;
         self.commit(at, told);
@@ -126,6 +131,29 @@ impl Recorder {
     /// Whether a task was evaluated whole.
     pub(crate) fn has_wholes(&self) -> bool {
         self.turns.iter().any(|turn| turn.is_of_whole)
+    }
+
+    /// Keeps the words of the turn that an event took, if it took one, and if one of the first ones.
+    fn say_turn(
+        &mut self,
+        alloc: Global,
+        at: usize,
+        event: &Event,
+        told: EventAnswer,
+        world: &World<'_>,
+    ) -> Result<(), Lost> {
+        let (Some(ran), EventAnswer::Did(_, fills)) = (ran_in(event), told) else {
+            return Ok(());
+        };
+        let Some(lane) = self.lanes.get(usize::from(ran.place.index())) else {
+            return Ok(());
+        };
+        match lane.task_of(ran.frame) {
+            Some(task) if !self.said.is_full() => {
+                self.said.say(alloc, at, world, &ran, task, fills)
+            }
+            _ => Ok(()),
+        }
     }
 
     /// How much has changed so far.
@@ -331,7 +359,13 @@ impl Recorder {
         let has_changed = match world.node(*place) {
             None => lane.hold(alloc, at, *place, &[], &mut self.bars)?,
             Some(node) => match node.subs(alloc) {
-                Ok(subs) => lane.hold(alloc, at, *place, subs.as_slice(), &mut self.bars)?,
+                Ok(subs) => {
+                    let subs = subs.as_slice();
+                    if !self.said.is_full() {
+                        lane.tasks = tasks_of(alloc, world, *place, subs)?;
+                    }
+                    lane.hold(alloc, at, *place, subs, &mut self.bars)?
+                }
                 Err(_) => return Err(Lost),
             },
         };

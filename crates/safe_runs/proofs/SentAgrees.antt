@@ -82,6 +82,7 @@ module _ (job : JobOf) (w : WorldOf) (tied : Tied job w) where
   granted_by g u of first s (body.Leave b) is carries shown = absurd carries
   granted_by g u of first s (body.Abort b) is carries shown = absurd carries
   granted_by g u of first s (body.Beat b) is carries shown = absurd carries
+  granted_by g u of first s (body.Piece b) is carries shown = absurd carries
 
   some_granted : (b : TaskResult) (to : ℕ) → result_to b.grant to (outcome_number b.outcome) ∈ v.results → (t : Task) × WasGranted job w.net b.grant t
   some_granted b to told =
@@ -105,6 +106,7 @@ module _ (job : JobOf) (w : WorldOf) (tied : Tied job w) where
   body_agrees (body.Leave b) to right shown = tt
   body_agrees (body.Abort b) to right shown = tt
   body_agrees (body.Beat b) to right shown = tt
+  body_agrees (body.Piece b) to right shown = absurd shown
 
   module _ (right : WorldIsRight job w) where
     held_agrees : (a : ℕ) (g : Grant) → (at : Holder w a g) → ContentAgrees job at.sub.content

@@ -1,5 +1,6 @@
 -- A step of one node, shown by its own moves, is a step of a world that stays shown.
-use Rattle.std.proofs.Common.{◌≡◌, ℕ, true, false, List, [], ⊎_elim, Some, sym, ap, ◌∙◌}
+use Rattle.std.proofs.Common.{◌≡◌, ℕ, true, false, List, [], ◌++◌, ⊎_elim, inl, Some, refl, sym, ap, subst, ◌∙◌}
+use Rattle.std.proofs.lemmas.List.{append-nil}
 use Rattle.serial_meaning.specs.Job.{JobOf}
 use Rattle.node_state.specs.Node.{NodeOf}
 use Rattle.node_state.specs.declared.parts.State.{State as Stage}
@@ -12,13 +13,13 @@ use Rattle.run_tables.specs.Runs.{Run, Leads}
 use Rattle.run_tables.proofs.HomesKept.{homes_reached}
 use Rattle.run_tables.proofs.Lists.{same_or, one_found}
 use Rattle.run_tables.proofs.ValuesKept.{run_reached}
-use Rattle.actor_moves.specs.Beside.{SameAt, SameHouse, KeepsSent}
+use Rattle.actor_moves.specs.Beside.{SameAt, SameHouse, KeepsSent, unmoved}
 use Rattle.actor_moves.proofs.Others.{beside}
 use Rattle.actor_moves.proofs.Sent.{house_all, keeps_all, runs_on, used_all, leads_all}
 use Rattle.node_moves.specs.Shows.{mode_of, NodeShown}
 use Rattle.node_moves.specs.Steps.{StepShown, AnswerShown, shown_fills}
 use Rattle.node_moves.proofs.Beside.{node_beside}
-use Rattle.node_moves.proofs.Told.{packet_kept, all_shown, both_shown, sent_early, sent_late, fills_on}
+use Rattle.node_moves.proofs.Told.{packet_kept, all_shown, both_shown, none_shown, sent_early, sent_late, fills_on}
 use Rattle.world_steps.specs.Answers.{answered, stepped}
 use Rattle.world_steps.specs.World.{Down, HouseAt, IsUp, Up, WorldOf, node_in, put_node}
 use Rattle.house_moves.specs.Shows.{OpenShown}
@@ -128,3 +129,9 @@ module _ (job : JobOf) (base v : View) (w : WorldOf) (run : Run (tables_meaning 
   answered_tied node.Ignored s = record { view = v; run = run; since = since; shown = shown }
   answered_tied (node.Refused e) s = record { view = v; run = run; since = since; shown = shown }
   answered_tied (node.Does step) s = record { view = s.view; run = runs_on run s.way; since = leads_all since s.way; shown = stepped_shown step s }
+  answered_tied (node.Forgets k) s =
+      let quietly : StepShown (tables_meaning job) job.number v n (node.quiet k) = record { view = v; way = unmoved; name = s.1; node = s.0; sent = none_shown v; transfers = λ t m. inl m; fills = refl } in
+      let there : TiedSince job base (stepped a (node.quiet k) w).world = record { view = v; run = run; since = since; shown = stepped_shown (node.quiet k) quietly } in
+      let same_net : (stepped a (node.quiet k) w).world ≡ record w { nodes = put_node a k w.nodes; fills = w.fills ++ [] } = ap (λ net. record w { nodes = put_node a k w.nodes; net = net; fills = w.fills ++ [] }) (append-nil w.net) in
+      let same_fills : record w { nodes = put_node a k w.nodes; fills = w.fills ++ [] } ≡ record w { nodes = put_node a k w.nodes } = ap (λ fills. record w { nodes = put_node a k w.nodes; fills = fills }) (append-nil w.fills) in
+      subst (TiedSince job base) (same_net ∙ same_fills) there

@@ -78,6 +78,7 @@ ended_ignores_body job choice n is (body.OfferAck b) = rw is tt
 ended_ignores_body job choice n is (body.Leave b) = tt
 ended_ignores_body job choice n is (body.Abort b) = rw is tt
 ended_ignores_body job choice n is (body.Beat b) = tt
+ended_ignores_body job choice n is (body.Piece b) = rw is tt
 
 ended_ignores : (job : JobOf) (choice : Option Candidate) (n : NodeOf) → n.state ≡ Ended → (p : PacketOf) → AnswerIsRight job (on_packet job choice p n)
 unfolding on_packet
@@ -116,6 +117,12 @@ module _ (job : JobOf) (w : WorldOf) (ok : IsJob job) (tied : Tied job w) (right
     answered_right node.Ignored k = right
     answered_right (node.Refused e) k = right
     answered_right (node.Does s) k = stepped_right s w.used k
+    answered_right (node.Forgets m) k = record {
+      nodes = λ b n at. ⊎_elim (λ new. rw (new.1) k) (λ old. right.nodes b n old.1) (new_or_old a b m n w.nodes at);
+      house = right.house;
+      net = right.net;
+      fills = right.fills;
+    }
 
   -- what comes to a node
   module _ (a : ℕ) (n : NodeOf) (there : node_in a w.nodes ≡ Some n) where
@@ -136,6 +143,7 @@ module _ (job : JobOf) (w : WorldOf) (ok : IsJob job) (tied : Tied job w) (right
     may_come up (body.Leave b) to r s = tt
     may_come up (body.Abort b) to r s = tt
     may_come up (body.Beat b) to r s = tt
+    may_come up (body.Piece b) to r s = absurd s
 
     hears_right : (choice : Option Candidate) (p : PacketOf) → p ∈ w.net → AnswerIsRight job (on_packet job choice p n)
     hears_right choice p m = by_stage n.state refl

@@ -1,9 +1,9 @@
-//! Every run is safe, agrees with the serial program, and loses nothing.
+//! Every run is safe and agrees with the serial program, and the work of each wanted grant is somewhere, or is cut off.
 //!
 //! For every job and every list of events, from a disk on which a run of the job can begin (`runs_are_safe`): in each world of the run
 //! no slot was filled twice, each value in a slot is the one that the serial program puts there, no grant has two live holders, and a
 //! recorded outcome is the job's meaning; once recorded it stays. Every packet that was sent and all that is held and not frozen agrees
-//! with the serial meaning. And nothing is lost: while the clearinghouse is open and wants an outcome, the work of each wanted grant is
+//! with the serial meaning. And `NothingLost` holds: while the clearinghouse is open and wants an outcome, the work of each wanted grant is
 //! somewhere, or is cut off, and where all of it is held, somebody can go on. That is put together of three things.
 //!
 //! # Each step of the world is a list of moves on tables that show it (`moves`)
@@ -27,7 +27,7 @@
 //! granted follows from the tables to which the world is tied, in which the whole run so far is (`steps_agree`). Where both hold, the
 //! world agrees as a reader of packets and of what is held would say it (`worlds_agree`).
 //!
-//! # Nothing is lost (`loss`)
+//! # Where work is (`loss`)
 //!
 //! In each world of a run in which the clearinghouse is open, the root's grant is out and no outcome is recorded, the work of each
 //! wanted grant is somewhere, or is cut off. A grant is wanted if it is the root's, or if a record of a live subcomputation of a

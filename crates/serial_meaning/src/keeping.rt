@@ -10,11 +10,12 @@ use std::alloc::{AllocError, Global};
 use std::marker::Model;
 use std::snapshot::Snapshot;
 
-/// How many tasks an evaluation had finished, and how many were under way, when a kid began.
+/// How many tasks an evaluation had finished, and how many were under way, when a kid began, and on which level that one is.
 #[derive(Clone, Copy)]
 pub struct Mark {
     finished: usize,
     begun: usize,
+    level: u16,
 }
 
 /// Doubles the last numbers of a stack, those from `start` on: a kid takes the upper ones away, and the lower ones are at hand when it is
@@ -56,6 +57,12 @@ pub fn kid_done(
 /// How many turns a task takes at least that is kept.
 pub const LEAST_KEPT: u64 = 128;
 
+/// After so many kids that took fewer turns an evaluation doesn't look as deep any more.
+const MOST_SMALL: u32 = 64;
+
+/// On so many levels kids are kept where all of them are to be.
+pub const ALL_LEVELS: u16 = u16::MAX;
+
 /// A task that has begun: its thread, how many places can be below its own, and where its numbers stand on the stack.
 #[derive(Clone, Copy)]
 struct Begun {
@@ -75,13 +82,17 @@ pub struct UnderWay {
 }
 
 /// Keeps the tasks of one program that an evaluation finished and that are no part of another one that it finished, and those that it had
-/// begun, down to some level below the task itself. Where there is no memory it keeps less.
+/// begun, down to some level below the task itself. That level rises and sinks with the turns that kids take, so that few are looked at
+/// which are too small to be kept. Where there is no memory it keeps less.
 #[derive(Drop)]
 pub struct Keeper {
     // It has no bytes.
     program: Snapshot<Checked>,
     alloc: Global,
+    // On how many levels kids are kept, at most and now, and how many were too small so far.
+    most_levels: u16,
     levels: u16,
+    small: u32,
     finished: Vec<Whole>,
     begun: Vec<Begun>,
     under_way: Vec<UnderWay>,
@@ -105,14 +116,17 @@ impl Model for Keeper {
 }
 
 impl Keeper {
-    /// Nothing of this program's tasks is kept yet, and kids will be so many levels deep: kids of the task itself are on the first one.
+    /// Nothing of this program's tasks is kept yet, and kids will be on so many levels at most, or on all of them: kids of the task itself are
+    /// on the first one.
     pub fn new(alloc: Global, checked: &Checked, levels: u16) -> Keeper
         ensures { result ≡ checked.now }
     {
         Keeper {
             program: Snapshot::of(checked),
             alloc,
+            most_levels: levels,
             levels,
+            small: 0,
             finished: Vec::new(alloc),
             begun: Vec::new(alloc),
             under_way: Vec::new(alloc),
@@ -126,18 +140,26 @@ impl Keeper {
         (self.finished, self.under_way)
     }
 
-    /// How many levels deep kids are that are kept.
-    pub(crate) fn levels(&self) -> u16 {
-        self.levels
+    /// Whether kids of a task on this level are kept; the task itself is on level 0.
+    pub(crate) fn keeps_below(&self, level: u16) -> bool {
+        level < self.levels
     }
 
-    /// A kid begins: a task of a thread, with so many places below its own, whose numbers stand from `start` to `end` on the stack.
-    pub(crate) fn begins(&mut self, thread: u8, room: u16, start: usize, end: usize) -> Mark
+    /// A kid begins on a level: a task of a thread, with so many places below its own, whose numbers stand from `start` to `end` on the stack.
+    pub(crate) fn begins(
+        &mut self,
+        level: u16,
+        thread: u8,
+        room: u16,
+        start: usize,
+        end: usize,
+    ) -> Mark
         ensures { self.new ≡ self.old }
     {
         let mark = Mark {
             finished: self.finished.len(),
             begun: self.begun.len(),
+            level,
         };
         self.goes_on(thread, room, start, end);
         mark
@@ -173,14 +195,40 @@ impl Keeper {
     {
         self.begun.truncate(mark.begun);
         if turns < LEAST_KEPT {
+            self.is_small_on(mark.level);
             return;
         }
+        self.is_kept_on(mark.level);
         self.finished.truncate(mark.finished);
         if let Ok(numbers) = Numbers::copy_of(self.alloc, numbers) {
             let _ = self
                 .finished
                 .push(Whole::kept(checked, thread, numbers, room, value, turns));
         }
+    }
+
+    /// A kid on a level is too small to be kept. After some of them those on that level aren't looked at, unless all levels are wanted.
+    fn is_small_on(&mut self, level: u16)
+        ensures { self.new ≡ self.old }
+    {
+        if self.most_levels == ALL_LEVELS {
+            return;
+        }
+        if self.small < MOST_SMALL {
+            self.small += 1;
+        } else {
+            self.levels = self.levels.min(level.saturating_sub(1).max(1));
+        }
+    }
+
+    /// A kid on a level is kept, so those on the next one may be too.
+    fn is_kept_on(&mut self, level: u16)
+        ensures { self.new ≡ self.old }
+    {
+        self.levels = self
+            .levels
+            .max(level.saturating_add(1))
+            .min(self.most_levels);
     }
 
     /// The evaluation ends in the midst, with this stack: the numbers of what is under way are taken from there.

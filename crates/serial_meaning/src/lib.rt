@@ -16,7 +16,7 @@ mod whole;
 pub use counting::{CountsTurns, TurnCounts, Uncounted};
 pub use ids::Outcome;
 pub use job::{Job, JobError};
-pub use keeping::{Keeper, UnderWay};
+pub use keeping::{ALL_LEVELS, Keeper, UnderWay};
 pub use laws::{
     equal_programs_mean_alike, full_frame_holds_its_task, join_has_its_successors_value,
     kids_value_fills_its_slot, sent_value_is_the_tasks, successor_agrees,

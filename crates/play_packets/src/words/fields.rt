@@ -20,6 +20,10 @@ pub fn hop(text: &str) -> Option<Hop> {
     Some(Hop::of(word32(text)?))
 }
 
+pub fn word16(text: &str) -> Option<u16> {
+    u16::try_from(word64(text)?).ok()
+}
+
 pub fn frame_number(text: &str) -> Option<FrameNo> {
     Some(FrameNo::of(word32(text)?))
 }

@@ -2,7 +2,7 @@
 
 use crate::words::fields::status;
 use ids::{Incarnation, Listed, Member, Place, Slots};
-use play_words::{Answers, byte, signed64, word64};
+use play_words::{Answers, byte, bytes_of_hex, signed64, word32, word64};
 use std::alloc::Global;
 
 /// Adds a member `WORD:STATUS`, or with `FROM..TO` in the word's place one for each word; none where it is no such text.
@@ -128,4 +128,16 @@ pub fn steps(alloc: Global, text: &str, out: &mut Answers) -> Option<Listed<u8>>
 /// The place that steps lead to.
 pub fn place(alloc: Global, text: &str, out: &mut Answers) -> Option<Place> {
     Place::of(steps(alloc, text, out)?)
+}
+
+/// Bytes in hexadecimal digits, `-` for none; `HEX*TIMES` is these so many times.
+pub fn bytes(alloc: Global, text: &str, out: &mut Answers) -> Option<Listed<u8>> {
+    let (hex, times) = text.split_once('*').unwrap_or((text, "1"));
+    let times = word32(times)?;
+    let spelled = bytes_of_hex(alloc, hex, out)?;
+    let mut bytes = Vec::new(alloc);
+    for _ in 0..times {
+        out.put(bytes.extend_from_slice(&spelled));
+    }
+    Some(Listed::from_vec(bytes))
 }

@@ -1,9 +1,9 @@
 use crate::words::fields;
-use crate::words::lists::members;
+use crate::words::lists::{bytes, members};
 use crate::words::work::{add_frames, add_records, task};
 use codec::{
-    Abort, Beat, Body, Grant, Join, Leave, Offer, OfferAck, Packet, Refuse, ResultAck, Roster,
-    Steal, TaskResult,
+    Abort, Beat, Body, Grant, Join, Leave, Offer, OfferAck, Packet, Piece, Refuse, ResultAck,
+    Roster, Steal, TaskResult,
 };
 use ids::{
     Actor, Address, Frame, FrameNo, GrantId, Hop, Incarnation, Listed, Progress, Record, Task,
@@ -110,6 +110,7 @@ fn body(alloc: Global, words: &mut Words<'_>, out: &mut Answers) -> Option<Body>
         "Roster" => roster(alloc, words, out),
         "Grant" => grant(alloc, words, out),
         "Offer" => offer(alloc, words, out),
+        "Piece" => piece(alloc, words, out),
         kind => short_body(kind, words),
     }
 }
@@ -285,4 +286,21 @@ fn beat(words: &mut Words<'_>) -> Option<Body> {
     let from = fields::worker(words.value("from"))?;
     let version = fields::count(words.value("version"))?;
     Some(Body::Beat(Beat { from, version }))
+}
+
+fn piece(alloc: Global, words: &mut Words<'_>, out: &mut Answers) -> Option<Body> {
+    let from = fields::worker(words.value("from"))?;
+    let grant = fields::grant(words.value("grant"))?;
+    let hop = fields::hop(words.value("hop"))?;
+    let pieces = fields::word16(words.value("pieces"))?;
+    let number = fields::word16(words.value("number"))?;
+    let bytes = bytes(alloc, words.value("bytes"), out)?;
+    Some(Body::Piece(Piece {
+        from,
+        grant,
+        hop,
+        pieces,
+        number,
+        bytes,
+    }))
 }

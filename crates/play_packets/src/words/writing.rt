@@ -1,4 +1,4 @@
-use codec::{Body, Grant, Offer, OfferAck, Packet, Roster, TaskResult};
+use codec::{Body, Grant, Offer, OfferAck, Packet, Piece, Roster, TaskResult};
 use ids::{
     Actor, Address, Frame, GrantId, Incarnation, Member, Outcome, Place, Progress, Record, Return,
     Status, Task,
@@ -60,6 +60,7 @@ fn write_body(out: &mut Answers, body: &Body) {
             write_from(out, "Beat", beat.from);
             write_field(out, " version=", beat.version.number());
         }
+        Body::Piece(piece) => write_piece(out, piece),
     }
 }
 
@@ -80,6 +81,37 @@ fn write_offer_ack(out: &mut Answers, ack: &OfferAck) {
     write_from(out, "OfferAck", ack.from);
     write_granted(out, ack.grant);
     write_field(out, " hop=", u64::from(ack.hop.count()));
+}
+
+fn write_piece(out: &mut Answers, piece: &Piece) {
+    write_from(out, "Piece", piece.from);
+    write_granted(out, piece.grant);
+    write_field(out, " hop=", u64::from(piece.hop.count()));
+    write_field(out, " pieces=", u64::from(piece.pieces));
+    write_field(out, " number=", u64::from(piece.number));
+    out.text(" bytes=");
+    write_bytes(out, piece.bytes.as_slice());
+}
+
+/// The value of bytes that are several and all the same.
+fn repeated(bytes: &[u8]) -> Option<u8> {
+    let first = *bytes.first()?;
+    if bytes.len() > 1 && bytes.iter().all(|byte| *byte == first) {
+        Some(first)
+    } else {
+        None
+    }
+}
+
+/// Writes bytes in hexadecimal digits; several that are all the same as one of them and how many there are.
+fn write_bytes(out: &mut Answers, bytes: &[u8]) {
+    match repeated(bytes) {
+        Some(byte) => {
+            out.hex(&[byte]);
+            write_field(out, "*", bytes.len() as u64);
+        }
+        None => out.hex(bytes),
+    }
 }
 
 fn write_roster(out: &mut Answers, roster: &Roster) {

@@ -8,4 +8,4 @@ use Rattle.codec.proofs.decoding.check.Goals as goal
 pub returns : goal.returns
 returns c =
     let passed = ap (λ (bytes : List ℕ). end_of (packet.read bytes)) (sym c.new-input.ensures) ∙ c.in_ok-skip_parts.ensures in
-    passed_whole c.args.bytes.now c.skip_parts.new.input c.if-bytes-gt-MOST_BYTES.false passed (sym c.if-not-is_empty.ensures)
+    passed_whole c.args.bytes.now c.skip_parts.new.input passed (sym c.if-not-is_empty.ensures)

@@ -2,7 +2,7 @@
 use Rattle.std.proofs.Common.{◌++◌, sym, ap, ◌∙◌}
 use Rattle.codec.specs.declared.body.Body.{Body}
 use Rattle.codec.specs.Table.{write_body}
-use Rattle.codec.proofs.Written.{leave_written, offer_written}
+use Rattle.codec.proofs.Written.{leave_written, offer_written, piece_written}
 use Rattle.codec.proofs.fields.write_fields.Goals as goal
 
 pub returns-in_ok-records-in-Offer : goal.returns-in_ok-records-in-Offer
@@ -27,3 +27,15 @@ returns-in_ok-other_worker-in-Leave c =
     (rw c.in-Leave.is at c.in_ok-worker-in-Leave.ensures)
     (rw c.in-Leave.is at (c.in_ok-other_worker-in-Leave.ensures b.from))
     ∙ ap (λ (x : Body). c.args.out.now.items ++ write_body x) (sym c.in-Leave.is)
+
+pub returns-in_ok-part-in-Piece : goal.returns-in_ok-part-in-Piece
+returns-in_ok-part-in-Piece c =
+    let b = c.in-Piece.field-0 in
+    piece_written b c.args.out.now.items c.worker-in-Piece.new.out.items c.grant-in-Piece.new.out.items c.raised-in-Piece.new.out.items c.pieces.new.out.items c.piece_of.new.out.items c.part.new.out.items
+    (rw c.in-Piece.is at c.in_ok-worker-in-Piece.ensures)
+    (rw c.in-Piece.is at c.in_ok-grant-in-Piece.ensures)
+    (rw c.in-Piece.is at c.in_ok-raised-in-Piece.ensures)
+    (rw c.in-Piece.is at c.in_ok-pieces-in-Piece.ensures)
+    (rw c.in-Piece.is at (c.in_ok-piece_of-in-Piece.ensures b.pieces))
+    (rw c.in-Piece.is at (c.in_ok-part-in-Piece.ensures b.pieces b.number))
+    ∙ ap (λ (x : Body). c.args.out.now.items ++ write_body x) (sym c.in-Piece.is)

@@ -1,4 +1,4 @@
-use Rattle.std.proofs.Common.{ℕ, ◌≡◌, ◌≤◌, ◌<◌, ◌-◌, length, ap, sym, ◌∙◌, arith}
+use Rattle.std.proofs.Common.{ℕ, ◌≤◌, ◌<◌, ◌-◌, length, ap, ◌∙◌, arith}
 use Rattle.level_deques.specs.declared.posts.Post.{Post}
 use Rattle.level_deques.specs.Posts.{without_post}
 use Rattle.node_state.proofs.Standing.{taken_back}

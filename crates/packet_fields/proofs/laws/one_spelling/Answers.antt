@@ -2,7 +2,7 @@
 use Rattle.packet_fields.specs.Fields as field
 use Rattle.packet_fields.specs.Format.{number}
 use Rattle.packet_fields.proofs.FormatLaws.{number_lawful, one_spelling_of, wide1, wide2, wide4, wide8}
-use Rattle.packet_fields.proofs.FieldLaws.{actor_lawful, address_lawful, below_lawful, counted_lawful, epoch_lawful, frame_lawful, frames_lawful, goes_to_lawful, grant_lawful, hop_lawful, member_lawful, members_lawful, numbers_lawful, other_worker_lawful, outcome_lawful, place_lawful, progress_lawful, raised_lawful, records_lawful, signed_lawful, slot_lawful, slots_lawful, status_lawful, step_lawful, steps_lawful, stolen_lawful, task_lawful, thread_lawful, worker_lawful}
+use Rattle.packet_fields.proofs.FieldLaws.{actor_lawful, address_lawful, below_lawful, counted_lawful, epoch_lawful, frame_lawful, frames_lawful, goes_to_lawful, grant_lawful, hop_lawful, member_lawful, members_lawful, numbers_lawful, other_worker_lawful, outcome_lawful, part_lawful, piece_of_lawful, pieces_lawful, place_lawful, progress_lawful, raised_lawful, records_lawful, signed_lawful, slot_lawful, slots_lawful, status_lawful, step_lawful, steps_lawful, stolen_lawful, task_lawful, thread_lawful, worker_lawful}
 use Rattle.packet_fields.proofs.laws.one_spelling.Goals as goal
 
 pub returns-clause-byte : goal.returns-clause-byte
@@ -43,6 +43,15 @@ returns-clause-below c = λ next. one_spelling_of (field.below next) (below_lawf
 
 pub returns-clause-grant : goal.returns-clause-grant
 returns-clause-grant c = one_spelling_of field.grant grant_lawful
+
+pub returns-clause-pieces : goal.returns-clause-pieces
+returns-clause-pieces c = one_spelling_of field.pieces pieces_lawful
+
+pub returns-clause-piece_of : goal.returns-clause-piece_of
+returns-clause-piece_of c = λ pieces. one_spelling_of (field.piece_of pieces) (piece_of_lawful pieces)
+
+pub returns-clause-part : goal.returns-clause-part
+returns-clause-part c = λ pieces number. one_spelling_of (field.part pieces number) (part_lawful pieces number)
 
 pub returns-clause-step : goal.returns-clause-step
 returns-clause-step c = one_spelling_of field.step step_lawful

@@ -1,0 +1,190 @@
+#!/usr/bin/env -S python3 -B
+"""Gives nodes Offers in Pieces, in each order, repeated and mixed with others, and refuses each growth of memory on the way.
+
+Usage: tests/offers_in_pieces.py PROGRAM [SEED] [COUNT], where PROGRAM is `play`.
+
+A node runs a task until what it holds is spelled in more than 65,536 bytes, and offers it. The bytes are cut here, and come to the heir in
+Pieces, in so many orders that dice choose (COUNT, 40 where it isn't said, by the word SEED): with parts that come again, parts of other hops,
+other senders and other counts beside them, and rosters that show a sender dead. What the heir has to answer is said by a model of the rules in
+this file, which knows nothing of the program. In the end the heir holds what it holds by the whole Offer. Then each growth of memory is refused
+in turn that the last two Pieces of an Offer meet: that has to be answered E63, and the same Piece then as ever.
+
+The last line counts; the status is 1 where anything failed.
+"""
+import os
+import random
+import sys
+import tempfile
+from concurrent.futures import ThreadPoolExecutor
+
+import play_all
+from common import Tally
+
+PROGRAM = (
+    "thread main(k, n) { if n < 1 { send_argument(k, 0); } else { spawn_next inc(k, ?x); spawn main(x, n - 1); } } "
+    "thread inc(k, x) { send_argument(k, x + 1); }"
+)
+PART = 65_536
+# So many turns are taken before the node leaves: that many frames wait for a value. The Offer of 346 is the first of two parts.
+JOINS = (346, 700, 1_000)
+MEMBERS = "2..3:live,4:live,5:live"
+GRANT = "house:1/1"
+
+
+def head(joins):
+    """The lines up to the node's departure, and those that start its heir."""
+    return [
+        f"program {PROGRAM}",
+        "input 2000",
+        "job 7",
+        "start 2",
+        f"give 2 Roster epoch=1 version=1 members={MEMBERS} to=2 job=7",
+        "ask 2 house",
+        f"give 2 Grant seq=1 grant={GRANT} thread=0 at=- on=2000 to=2 job=7",
+        "brief",
+        *["run 2"] * joins,
+        "full",
+        "start 3",
+        f"give 3 Roster epoch=1 version=1 members={MEMBERS} to=3 job=7",
+    ]
+
+
+class Heir:
+    """What the rules say of the heir, as far as Pieces of one grant go."""
+
+    def __init__(self, offer):
+        self.offer, self.seen, self.kept, self.version, self.dead = offer, None, None, 1, set()
+
+    def told(self, hop, sender, pieces, number, part):
+        """What is answered to a Piece: a word, or the hop that is acknowledged."""
+        if self.seen is not None and hop <= self.seen:
+            return hop
+        if self.kept is None or hop > self.kept["hop"]:
+            self.kept = {"hop": hop, "from": sender, "pieces": pieces, "parts": {number: part}}
+            return "nothing"
+        of = self.kept
+        if hop < of["hop"] or sender != of["from"] or pieces != of["pieces"] or number in of["parts"]:
+            return "ignored"
+        of["parts"][number] = part
+        if len(of["parts"]) < pieces:
+            return "nothing"
+        self.kept = None
+        joined = b"".join(of["parts"][it] for it in sorted(of["parts"]))
+        if joined != self.offer or (hop, sender) != (1, 2):
+            return "ignored"
+        self.seen = hop
+        return hop
+
+    def shows_dead(self, dead):
+        """A newer roster comes, by which a worker is dead."""
+        self.version += 1
+        self.dead.add(dead)
+        if self.kept and self.kept["from"] in self.dead:
+            self.kept = None
+
+
+def strange(dice, parts):
+    """The fields of a Piece that is none of the Offer's: its hop, its sender, into how many parts it is cut, its number and its part."""
+    hop, sender, pieces = dice.choice(((1, 4, parts), (1, 2, parts + 1), (1, 4, parts + 1), (2, 4, 2), (2, 5, parts)))
+    number = dice.randrange(pieces)
+    return hop, sender, pieces, number, b"\7" * (10 if number == pieces - 1 else PART)
+
+
+def walk(dice, offer):
+    """Lines for the heir, what it has to answer to each, and the heir behind them."""
+    heir, lines, told = Heir(offer), [], []
+
+    def comes(hop, sender, pieces, number, part):
+        lines.append(f"give 3 Piece from={sender} grant={GRANT} hop={hop} pieces={pieces} number={number} bytes={part.hex()} to=3 job=7")
+        told.append((heir.told(hop, sender, pieces, number, part), sender))
+
+    def dies(dead):
+        heir.shows_dead(dead)
+        members = ",".join(f"{it}:{'dead' if it in heir.dead else 'live'}" for it in range(2, 6))
+        lines.append(f"give 3 Roster epoch=1 version={heir.version} members={members} to=3 job=7")
+        told.append(("nothing", dead))
+
+    parts = (len(offer) + PART - 1) // PART
+    often = dice.choice((0, 0, 0, 1, 2))
+    # (each part comes once more in the end, so that mostly the Offer is taken)
+    for number in dice.sample(list(range(parts)) * 2, 2 * parts) + dice.sample(range(parts), parts):
+        for _ in range(dice.randrange(often + 1)):
+            comes(*strange(dice, parts))
+        if often and dice.randrange(3) == 0:
+            dies(dice.choice((4, 5)))
+        comes(1, 2, parts, number, offer[number * PART : (number + 1) * PART])
+    return lines, told, heir
+
+
+def answers(told, sent):
+    """The lines that are wanted, where so many packets were sent before."""
+    wanted = []
+    for what, sender in told:
+        if isinstance(what, int):
+            sent += 1
+            wanted.append(f"> #{sent} OfferAck from=3 grant={GRANT} hop={what} to={sender} job=7")
+        else:
+            wanted.append(f"> {what}")
+    return wanted
+
+
+def main(words):
+    if not 1 <= len(words) <= 3:
+        print(__doc__, file=sys.stderr)
+        return 2
+    program = os.path.realpath(words[0])
+    word = words[1] if len(words) > 1 else "7"
+    count = int(words[2]) if len(words) > 2 else 40
+    tally = Tally()
+    with tempfile.TemporaryDirectory(prefix="offers-in-pieces-") as folder, ThreadPoolExecutor(os.cpu_count()) as pool:
+
+        def file_of(name, lines):
+            path = f"{folder}/{name}"
+            with open(path, "w", encoding="utf-8") as out:
+                out.writelines(f"{it}\n" for it in lines)
+            return path
+
+        # what is offered, how many lines the head answers, and what the heir holds by the whole Offer
+        offers = []
+        for joins in JOINS:
+            before = head(joins)
+            lines = [*before, "depart 2 3", "hex #4", "give 3 #4", "subs 3"]
+            status, printed, fault = play_all.played(program, file_of(f"offer-{joins}", lines))
+            said = [it for it in printed.decode().split("\n") if it.startswith("> ")]
+            offer = bytes.fromhex(said[-3][2:]) if status == 0 else b""
+            tally.tell((status, fault) == (0, b"") and len(offer) > PART, f"the Offer of {joins} frames: {status} {fault!r}, {len(offer)} bytes")
+            offers.append((joins, offer, len(said) - 4, said[-1]))
+        tally.tell(len(offers[0][1]) == 65_666, f"the Offer of 346 frames has {len(offers[0][1])} bytes")
+
+        def one(number):
+            """Whether the lines of a walk are answered as they have to be, and what isn't."""
+            joins, offer, said, held = offers[number % len(offers)]
+            lines, told, heir = walk(random.Random(f"{word} {number}"), offer)
+            status, printed, fault = play_all.played(program, file_of(f"walk-{number}", [*head(joins), *lines, "subs 3"]))
+            got = [it for it in printed.decode().split("\n") if it.startswith("> ")][said:]
+            wanted = answers(told, 3) + [held if heir.seen else "> nothing held"]
+            differs = next((it for it in zip(got, wanted) if it[0] != it[1]), (len(got), len(wanted)))
+            return (status, fault) == (0, b"") and got == wanted, f"walk {number}: {status} {fault!r} {differs}"
+
+        for good, what in pool.map(one, range(count)):
+            tally.tell(good, what)
+
+        heap = play_all.compiled(folder)
+        joins, offer, said, held = offers[0]
+        for order in ((0, 1), (1, 0)):
+            given = [f"give 3 Piece from=2 grant={GRANT} hop=1 pieces=2 number={it} bytes={offer[it * PART:][:PART].hex()} to=3 job=7" for it in order]
+            whole = file_of(f"whole-{order[0]}", head(joins) + given + ["subs 3"])
+            first, last = (int(play_all.played(program, file_of(f"part-{order[0]}-{n}", head(joins) + given[:n]), heap)[2]) for n in (0, 2))
+            status, wanted, fault = play_all.played(program, whole)
+            refused = range(first + 1, last + 1)
+            told = 0
+            for at, (status, printed, fault) in zip(refused, pool.map(lambda it: play_all.played(program, whole, heap, it), refused)):
+                good = (status, fault) in ((0, b""), (3, b"E9\n")) and play_all.is_right(wanted, status, printed, fault)
+                told += printed.count(b"> E63\n")
+                tally.tell(good, f"growth {at - first} of order {order}: {status} {fault!r}")
+            tally.tell(told > 0, f"no growth of order {order} was answered E63")
+    return tally.end()
+
+
+if __name__ == "__main__":
+    sys.exit(main(sys.argv[1:]))
