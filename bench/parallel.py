@@ -76,8 +76,9 @@ def count(told, name):
 
 def row(name, file, inputs):
     """A row: serially, and on nodes."""
-    alone = timed(PROGRAM, "serial", file, "--turns", MANY, "--stats", *inputs)
-    needed = count(alone[2], "turns")
+    # (counting takes a tenth of a serial turn)
+    alone = timed(PROGRAM, "serial", file, "--turns", MANY, *inputs)
+    needed = count(timed(PROGRAM, "serial", file, "--turns", MANY, "--stats", *inputs)[2], "turns")
     print(f"| {name} | `serial` | {alone[0] * 1e3:.0f} | 1.00 | {needed:,} | | |", flush=True)
     for how in (["--bodies", "1"], ["--bodies", "2"], ["--bodies", "3"], ["--bodies", "4"], ["--nodes", "2"], ["--nodes", "3"], ["--nodes", "4"]):
         words = (PROGRAM, "run", file, "--turns", MANY, "--grain", "100000", *how)
