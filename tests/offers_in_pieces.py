@@ -3,16 +3,18 @@
 
 Usage: tests/offers_in_pieces.py PROGRAM [SEED] [COUNT], where PROGRAM is `play`.
 
-A node runs a task until what it holds is spelled in more than 65,536 bytes, and offers it. The bytes are cut here, and come to the heir in
-Pieces, in so many orders that dice choose (COUNT, 40 where it isn't said, by the word SEED): with parts that come again, parts of other hops,
-other senders and other counts beside them, and rosters that show a sender dead. What the heir has to answer is said by a model of the rules in
-this file, which knows nothing of the program. In the end the heir holds what it holds by the whole Offer. Then each growth of memory is refused
-in turn that the last two Pieces of an Offer meet: that has to be answered E63, and the same Piece then as ever.
+A node runs a task until what it holds is spelled in more than 65,536 bytes, and leaves. What it sends has to be all Pieces of one Offer, in
+their order. Their bytes are joined and cut anew here, and come to another node, its heir, in so many orders that dice choose (COUNT, 40
+where it isn't said, by the word SEED): with parts that come again, parts of other hops, other senders and other counts beside them, and
+rosters that show a sender dead. What the heir has to answer is said by a model of the rules in this file, which knows nothing of the
+program. In the end the heir holds what it holds by the Pieces that were sent. Then each growth of memory is refused in turn that the last
+two Pieces of an Offer meet: that has to be answered E63, and the same Piece then as ever.
 
 The last line counts; the status is 1 where anything failed.
 """
 import os
 import random
+import re
 import sys
 import tempfile
 from concurrent.futures import ThreadPoolExecutor
@@ -147,13 +149,19 @@ def main(words):
         # what is offered, how many lines the head answers, and what the heir holds by the whole Offer
         offers = []
         for joins in JOINS:
-            before = head(joins)
-            lines = [*before, "depart 2 3", "hex #4", "give 3 #4", "subs 3"]
-            status, printed, fault = play_all.played(program, file_of(f"offer-{joins}", lines))
+            before = [*head(joins), "depart 2 3"]
+            status, printed, fault = play_all.played(program, file_of(f"offer-{joins}", before))
             said = [it for it in printed.decode().split("\n") if it.startswith("> ")]
-            offer = bytes.fromhex(said[-3][2:]) if status == 0 else b""
-            tally.tell((status, fault) == (0, b"") and len(offer) > PART, f"the Offer of {joins} frames: {status} {fault!r}, {len(offer)} bytes")
-            offers.append((joins, offer, len(said) - 4, said[-1]))
+            sent = [it for it in said if " Piece " in it]
+            parts = [bytes.fromhex(re.search(r" bytes=([0-9a-f]*)", it).group(1)) for it in sent]
+            offer = b"".join(parts)
+            good = (status, fault) == (0, b"") and len(offer) > PART and parts == [offer[it : it + PART] for it in range(0, len(offer), PART)]
+            tally.tell(good, f"the Offer of {joins} frames: {status} {fault!r}, {len(offer)} bytes")
+            lines = [*before, *(f"give 3 {it.split()[1]}" for it in sent), "subs 3"]
+            status, printed, fault = play_all.played(program, file_of(f"taken-{joins}", lines))
+            held = printed.decode().rstrip().split("\n")[-1]
+            tally.tell((status, fault) == (0, b"") and held != "> nothing held", f"the Offer of {joins} frames is not taken: {status} {fault!r}")
+            offers.append((joins, offer, len(said) - len(sent), held))
         tally.tell(len(offers[0][1]) == 65_666, f"the Offer of 346 frames has {len(offers[0][1])} bytes")
 
         def one(number):

@@ -7,10 +7,13 @@ the word replay in front). Then come lines of these forms:
     # COMMENT
     text: BYTES            the file F has these bytes from here on
     text of NAME           the file F has those of examples/NAME
-    script: EVENT|EVENT    the file S has these events, a line each; the word G stands for 2^63 + 1
+    script: EVENT|EVENT    the file S has these events, a line each; the word G stands for 2^63 + 1, and an event that ends with
+                           `FROM..TO by STEP` for one with each of these numbers
     script of NAME         the file S has those of examples/scripts/NAME
     script bytes: BYTES    the file S has these bytes
     line: LINE             what the next row gives begins with this line, behind those of `line:` before it; G as in an event
+    last: LINE             so it does with what stands before the row's own text, behind those of `last:` before it: what is
+                           ahead of them isn't looked at
     told: LINE             the next row tells this line on standard error, behind those of `told:` before it
     WORDS => STATUS TEXT   a row: these words, parted by single blanks, end with this status and give this text
     WORDS => room N        the answer has N bytes: it is written whole where there is room for it, and is a fault of the file else
@@ -55,8 +58,13 @@ def line_of(words):
     return (" ".join(HOUSE if word == "G" else word for word in words.split(" ")) + "\n").encode()
 
 
+def each_of(event):
+    many = re.fullmatch(r"(.*) (\d+)\.\.(\d+) by (\d+)", event)
+    return [f"{many[1]} {number}" for number in range(int(many[2]), int(many[3]) + 1, int(many[4]))] if many else [event]
+
+
 def script_of(events):
-    return b"".join(line_of(it) for it in events.split("|") if it)
+    return b"".join(line_of(each) for it in events.split("|") if it for each in each_of(it))
 
 
 def content_of(path):
@@ -88,9 +96,9 @@ def named(told, files):
     return told
 
 
-def is_answered(name, ran, status, text, files, ahead, told):
-    """Whether a program has ended with a status and told a text, on standard output behind the lines that stand ahead, and told those lines
-    on standard error."""
+def is_answered(name, ran, status, text, files, ahead, last, told):
+    """Whether a program has ended with a status and told a text, on standard output behind the lines that stand ahead, or behind some and
+    those that come last, and told those lines on standard error."""
     if ran.returncode != int(status):
         return False
     if status != "0":
@@ -106,6 +114,8 @@ def is_answered(name, ran, status, text, files, ahead, told):
         return not ran.stderr and not ran.stdout
     four = re.fullmatch(r"(\d+) (\d+) (\d+) (value -?\d+|too deep|none)", text)
     lines = "events {}\npackets {}\nfills {}\noutcome {}\n".format(*four.groups()) if four else text.replace("\\n", "\n") + "\n"
+    if last:
+        return ran.stderr == told and ran.stdout.endswith(b"\n" + last + lines.encode())
     return ran.stderr == told and ran.stdout == ahead + lines.encode()
 
 
@@ -134,7 +144,7 @@ def is_whole(name, program, words, length, folder):
 def play(table, programs, folder):
     """Plays a table, and returns how many rows passed and how many failed."""
     passed = failed = 0
-    ahead = told = b""
+    ahead = last = told = b""
     files = {"F": f"{folder}/text.ck", "S": f"{folder}/events.script", "N": f"{folder}/no folder/no file", "D": folder}
     with open(table, encoding="utf-8") as it:
         lines = it.read().split("\n")
@@ -145,6 +155,9 @@ def play(table, programs, folder):
             continue
         if line.startswith("line: "):
             ahead += line_of(line[6:])
+            continue
+        if line.startswith("last: "):
+            last += line_of(line[6:])
             continue
         if line.startswith("told: "):
             told += line[6:].encode() + b"\n"
@@ -174,7 +187,7 @@ def play(table, programs, folder):
                 well, seen = is_whole(name, program, words, int(row[3]), folder), "it is written otherwise"
             else:
                 ran = asked(program, words)
-                well, seen = is_answered(name, ran, row[2], row[3], files, ahead, told), given(ran)
+                well, seen = is_answered(name, ran, row[2], row[3], files, ahead, last, told), given(ran)
                 # a fault that can't be told is still told by the status
                 if row[2] != "0" and well:
                     with open("/dev/full", "wb") as err:
@@ -182,7 +195,7 @@ def play(table, programs, folder):
             passed, failed = passed + well, failed + (not well)
             if not well:
                 print(f"{os.path.basename(table)}:{number}: {name}: {line}: {seen}", file=sys.stderr)
-        ahead = told = b""
+        ahead = last = told = b""
     return passed, failed
 
 

@@ -5,7 +5,8 @@ usage: bin/wrong_bodies [--base REV] [NAME..]
                                  CRATE/EDIT
        bin/wrong_bodies --state [NAME..]
                                  tells of each crate how many of its edits are tried, stale and not tried, and which
-       bin/wrong_bodies --look   looks whether docs/wrong-bodies.txt has a line for each edit, and no other
+       bin/wrong_bodies --look   looks whether docs/wrong-bodies.txt has a line for each edit, and no other, and whether
+                                 each edit can be applied
        bin/wrong_bodies --write  gives it such lines
        bin/wrong_bodies --of LOG sorts the edits in what `rt must-fail` or `rt ci` wrote, as far as that shows it
 
@@ -346,7 +347,7 @@ def keep(crate, edit, sort, its_sum, why):
 
 
 def look():
-    """Whether the table is one, and has a line for each edit and no other."""
+    """Whether the table is one, and has a line for each edit and no other; and whether each edit can be applied."""
     tally, table = Tally(), kept_table()
     there = {f"{it}/{edit}" for it in os.listdir(CRATES) for edit in edits_of(it)}
     for name in sorted(there | {*table}):
@@ -354,6 +355,10 @@ def look():
         is_told = len(row) in (2, 3) and row[0] in SORTS and re.fullmatch("[0-9a-f]{16}", row[1])
         good = name in there and (is_told or row == (NOT_TRIED,))
         tally.tell(good, f"{name}: {row or 'no line'}; `bin/wrong_bodies --write` gives each edit a line")
+    for crate in sorted(os.listdir(CRATES)):
+        for edit in all_edits(crate):
+            texts, why = edited(edit, f"{CRATES}/{crate}")
+            tally.tell(texts, f"{crate}/{name_of(edit)}: {why}")
     return tally.end()
 
 

@@ -30,9 +30,9 @@ pub fn what_a_node_does_agrees()
         → AnswerIsRight job (calls.whole_ready job most g f n) }
     ensures ask { (job : JobOf) (n : NodeOf) (victim : Victim) → NodeIsRight job n
         → AnswerIsRight job (calls.ask job victim n) }
-    ensures resend { (job : JobOf) (n : NodeOf) → NodeIsRight job n → AnswerIsRight job (calls.resend job n) }
+    ensures resend { (job : JobOf) (n : NodeOf) → NodeIsRight job n → AnswerIsRight job (calls.whole_resend job n) }
     ensures depart { (job : JobOf) (n : NodeOf) (heir : ℕ) → NodeIsRight job n
-        → AnswerIsRight job (calls.depart job heir n) }
+        → AnswerIsRight job (calls.whole_depart job heir n) }
     ensures start { (job : JobOf) (word : ℕ) → StepIsRight job (calls.start job word) }
 {}
 

@@ -1,14 +1,8 @@
 -- All parts of bytes, in their order, are the bytes; and so what is read of the parts of an offer is the offer.
-use Rattle.std.proofs.Common.{◌≡◌, ℕ, zero, suc, ◌+◌, ◌*◌, ◌/◌, ◌<◌, ◌≤◌, Bool, true, eqb, List, [], ◌∷◌, ◌++◌, length, drop, take, Result, Ok, Err, refl, sym, ap, subst, ◌∙◌, arith}
-use Rattle.std.specs.Prelude.{◌&&◌, not}
-use Rattle.std.specs.List.{flat_map}
-use Rattle.std.proofs.lemmas.Bool.{and_parts}
+use Rattle.std.proofs.Common.{◌≡◌, ℕ, zero, suc, ◌+◌, ◌*◌, ◌≤◌, true, List, [], ◌∷◌, ◌++◌, length, drop, take, Ok, refl, sym, ap, subst, ◌∙◌, arith}
 use Rattle.std.proofs.lemmas.List.{append-nil, drop-drop, length-append, nil_from_length, take-append-drop}
-use Rattle.packet_fields.specs.declared.fault.Fault.TheVariants as fault
-use Rattle.packet_fields.specs.Fields.{part_bytes}
-use Rattle.packet_fields.specs.Format.{◌>>=◌}
-use Rattle.codec.specs.Pieces.{AreOf, PartOf, RiseFrom, is_large, joined, long_reading, part_at, parts_of}
-use Rattle.codec.specs.Table.{PacketOf, is_packet, is_short, packet}
+use Rattle.codec.specs.Pieces.{AreOf, PartOf, RiseFrom, joined, long_reading, part_at, parts_of}
+use Rattle.codec.specs.Table.{PacketOf, is_packet, packet}
 use Rattle.codec.proofs.TableLaws.{packet_fits, packet_lawful}
 
 -- no more parts rise between two numbers than stand between them

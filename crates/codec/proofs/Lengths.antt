@@ -299,7 +299,7 @@ six_parts : (a b c d e f : List ℕ) → length (a ++ (b ++ (c ++ (d ++ (e ++ f)
 six_parts a b c d e f = simp length-append
 
 -- a short packet has at most 69,670 bytes
-packet_bytes : (p : PacketOf) → is_packet p ≡ true → is_short p.body ≡ true → length (packet.write p) ≤ 69670
+pub packet_bytes : (p : PacketOf) → is_packet p ≡ true → is_short p.body ≡ true → length (packet.write p) ≤ 69670
 unfolding packet fields
 packet_bytes p whole short =
     let kind : ℕ = kind_of p.body in

@@ -4,4 +4,5 @@ pub mod Written
 pub mod Lengths
 pub mod Rosters
 pub mod Datagrams
+pub mod Parting
 mod Rising

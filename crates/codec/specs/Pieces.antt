@@ -1,7 +1,7 @@
--- What it is to cut an offer into pieces, each with a part of the offer's spelling, and to join parts again. Nobody sends pieces yet: the
--- law `parts_join` alone speaks of what is joined, and no call cuts.
+-- What it is to cut an offer into pieces, each with a part of the offer's spelling, and to join parts again.
 use Rattle.std.specs.Prelude.{◌≡◌, ◌<◌, ◌≤◌, ℕ, zero, suc, ◌+◌, ◌*◌, ◌/◌, ◌&&◌, Bool, not, nat_eq, nat_lt, if◌then◌else◌, List, [], ◌∷◌, length, drop, take, Result, Ok, Err}
 use Rattle.std.specs.List.{flat_map}
+use Rattle.ids.specs.Named.{Name}
 use Rattle.packet_fields.specs.declared.fault.Fault.{Fault}
 use Rattle.packet_fields.specs.declared.fault.Fault.TheVariants as fault
 use Rattle.packet_fields.specs.Format.{◌>>=◌}
@@ -28,10 +28,14 @@ is_large p = not (is_short p.body) && is_packet p && nat_lt part_bytes (length (
 abbrev pub piece_at : Offer → List ℕ → ℕ → Piece
 piece_at o bytes i = record { from = o.from; grant = o.grant; hop = o.hop; pieces = parts_of bytes; number = i; bytes = part_at i bytes }
 
--- so many pieces of the offer that a packet has, from the i-th on, each in a packet of the same job to the same one
+-- piece i of the offer that a packet has, in a packet of the same job to the same one
+abbrev pub packet_of_piece : PacketOf → Offer → ℕ → PacketOf
+packet_of_piece p o i = record { job = p.job; to = p.to; body = body.Piece (piece_at o (packet.write p) i) }
+
+-- so many of these, from the i-th on
 abbrev pub pieces_from : PacketOf → Offer → ℕ → ℕ → List PacketOf
 pieces_from p o i zero = []
-pieces_from p o i (suc n) = record { job = p.job; to = p.to; body = body.Piece (piece_at o (packet.write p) i) } ∷ pieces_from p o (suc i) n
+pieces_from p o i (suc n) = packet_of_piece p o i ∷ pieces_from p o (suc i) n
 
 -- a packet as it goes: a large offer in its pieces, in their order, all else as it is
 abbrev pub cut_body : PacketOf → Body → List PacketOf
@@ -54,6 +58,10 @@ long_reading bytes = packet.read bytes >>= λ x. if nat_eq (length x.1) 0 then O
 pub record PartOf : Type 0 where
   pub number : ℕ
   pub bytes : List ℕ
+
+-- a part's name is its number
+abbrev pub name_of_part : PartOf → Name
+name_of_part y = (y.number, 0)
 
 -- all of their bytes, in their order
 abbrev pub joined : List PartOf → List ℕ

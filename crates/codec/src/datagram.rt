@@ -1,5 +1,5 @@
 ghost use Rattle.std.specs.Prelude.{◌≡◌, ◌++◌, ◌<◌, ◌≤◌, IfOk, IsErrOf, IsTrue, OnErr, OnOk, Ok, [], ◌∷◌, length};
-ghost use Rattle.codec.specs.Table.{IsTooBig, Spells, is_short, reading};
+ghost use Rattle.codec.specs.Table.{IsTooBig, PacketOf, Spells, is_short, reading};
 ghost use Rattle.codec.specs.Table as table;
 ghost use Rattle.codec.specs.declared.encoding.EncodeError.TheVariants.{TooBig};
 
@@ -46,6 +46,14 @@ impl Datagram {
     {
         let bytes = encode_short(alloc, packet)?;
         Ok(Datagram { bytes })
+    }
+
+    /// A packet that was written, in no more bytes than are allowed.
+    pub(crate) fn of_bytes(bytes: Vec<u8>) -> Datagram
+        requires { (p : PacketOf) × Spells bytes.items p }
+        ensures { (p : PacketOf) → Spells bytes.items p → result ≡ p }
+    {
+        Datagram { bytes }
     }
 
     /// The bytes.

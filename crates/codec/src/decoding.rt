@@ -153,7 +153,9 @@ pub fn decode(alloc: Global, bytes: &[u8]) -> Result<Packet, ReadError>
 /// The packet that the joined parts of its spelling are, of which there may be any number of bytes: as `decode`, but without
 /// E30.
 pub fn decode_joined(alloc: Global, bytes: &[u8]) -> Result<Packet, ReadError>
-    ensures { Gives (λ x. x) result (long_reading bytes.now) }
+    ensures read { Gives (λ x. x) result (long_reading bytes.now) }
+    // Memory runs out for a packet alone.
+    ensures memory { result ≡ Err errors.Memory → (p : PacketOf) × (long_reading bytes.now ≡ Ok p) }
 {
     read_all(alloc, bytes)
 }

@@ -6,7 +6,7 @@ ghost use Rattle.codec.specs.declared.encoding.EncodeError.TheVariants.{TooBig};
 use crate::decoding::{MAGIC, MOST_BYTES};
 use crate::fields::{kind_of, write_fields};
 use crate::packet::Packet;
-use crate::room::room_for;
+use crate::room::{room_for, room_of};
 use packet_fields::write;
 use std::alloc::{AllocError, Global};
 use thiserror::Error;
@@ -89,6 +89,15 @@ pub fn encode_short(alloc: Global, packet: &Packet) -> Result<Vec<u8>, AllocErro
     ensures spelled { IfOk result (λ v. Spells v.items packet.now) }
 {
     let mut bytes = Vec::with_capacity(alloc, room_for(packet.body()))?;
+    put(packet, &mut bytes)?;
+    Ok(bytes)
+}
+
+/// The one spelling of a packet, however many bytes it has. Refused only when out of memory.
+pub(crate) fn spelled(alloc: Global, packet: &Packet) -> Result<Vec<u8>, AllocError>
+    ensures { IfOk result (λ v. v.items ≡ table.packet.write packet.now) }
+{
+    let mut bytes = Vec::with_capacity(alloc, room_of(packet.body()))?;
     put(packet, &mut bytes)?;
     Ok(bytes)
 }

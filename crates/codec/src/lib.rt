@@ -2,6 +2,7 @@
 #![tactic(auto)]
 
 mod body;
+mod cutting;
 mod datagram;
 mod decoding;
 mod encoding;
@@ -15,6 +16,7 @@ pub use body::{
     Abort, Beat, Body, Grant, Join, Leave, Offer, OfferAck, Piece, Refuse, ResultAck, Roster,
     Steal, TaskResult,
 };
+pub use cutting::send_cut;
 pub use datagram::{Datagram, alone, send};
 pub use decoding::{decode, decode_joined};
 pub use encoding::{EncodeError, encode, encode_short};

@@ -18,7 +18,9 @@ impl Model for Part {
 
 /// A part's name is its number.
 impl Named for Part {
-    ghost name_of = { λ y. (y.number, 0) };
+    ghost use Rattle.codec.specs.Pieces.{name_of_part};
+
+    ghost name_of = { name_of_part };
 
     fn name(&self) -> (u64, u64) {
         (u64::from(self.number), 0)

@@ -55,10 +55,14 @@ fn of_fields(body: &Body) -> usize {
     }
 }
 
-/// Room for the bytes of a packet that says this: as many or a few more, and no more than a packet may have. Where it has
-/// too many, they don't fit into it.
+/// Room for the bytes of a packet that says this, however many: as many or a few more.
+pub fn room_of(body: &Body) -> usize {
+    of_fields(body).saturating_add(HEAD)
+}
+
+/// The same, and no more than a packet may have. Where it has too many, they don't fit into it.
 pub fn room_for(body: &Body) -> usize
     ensures { result ≤ MOST_BYTES }
 {
-    of_fields(body).saturating_add(HEAD).min(MOST_BYTES)
+    room_of(body).min(MOST_BYTES)
 }

@@ -3,7 +3,7 @@ use Rattle.std.proofs.Common.{◌≡◌, ◌||◌, Bool, true, false, List, [], 
 use Rattle.std.specs.List.{list_any}
 use Rattle.subcomputation.specs.Subs.{SubOf}
 use Rattle.departure.specs.Offers.{offer, is_last_hop, is_too_big}
-use Rattle.departure.specs.Freezing.{AreMovable, offers}
+use Rattle.departure.specs.Freezing.{AreMovable, wholes}
 use Rattle.departure.specs.declared.freezing.Move.{Move}
 
 -- what holds of none of a list holds neither of its first nor of the others
@@ -15,17 +15,17 @@ none_first test x xs none = by_tests (test x) (list_any test xs) none
     by_tests false b is = (refl, is)
 
 -- where none has moved for the last time and no Offer is too big, all can be offered; and the reverse
-pub movable : (m : Move) (subs : List SubOf) → list_any is_last_hop subs ≡ false → list_any is_too_big (offers m subs) ≡ false → AreMovable m subs
+pub movable : (m : Move) (subs : List SubOf) → list_any is_last_hop subs ≡ false → list_any is_too_big (wholes m subs) ≡ false → AreMovable m subs
 movable m [] hops sizes = tt
 movable m (s ∷ subs) hops sizes =
     let hop = none_first is_last_hop s subs hops in
-    let size = none_first is_too_big (offer m.job m.from m.heir s) (offers m subs) sizes in
+    let size = none_first is_too_big (offer m.job m.from m.heir s) (wholes m subs) sizes in
     (record { hop = hop.0; size = size.0 }, movable m subs hop.1 size.1)
 
 pub no_last_hop : (m : Move) (subs : List SubOf) → AreMovable m subs → list_any is_last_hop subs ≡ false
 no_last_hop m [] all = refl
 no_last_hop m (s ∷ subs) all = ap (λ b. b || list_any is_last_hop subs) all.0.hop ∙ no_last_hop m subs all.1
 
-pub none_too_big : (m : Move) (subs : List SubOf) → AreMovable m subs → list_any is_too_big (offers m subs) ≡ false
+pub none_too_big : (m : Move) (subs : List SubOf) → AreMovable m subs → list_any is_too_big (wholes m subs) ≡ false
 none_too_big m [] all = refl
-none_too_big m (s ∷ subs) all = ap (λ b. b || list_any is_too_big (offers m subs)) all.0.size ∙ none_too_big m subs all.1
+none_too_big m (s ∷ subs) all = ap (λ b. b || list_any is_too_big (wholes m subs)) all.0.size ∙ none_too_big m subs all.1

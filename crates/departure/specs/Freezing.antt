@@ -1,9 +1,10 @@
 -- Whether a node may leave, and what it sends then.
-use Rattle.std.specs.Prelude.{◌≡◌, ℕ, ◌||◌, Bool, not, false, nat_eq, if◌then◌else◌, List, Option, None, Some, Result, Ok, Err, ◌⊎◌, map}
+use Rattle.std.specs.Prelude.{◌≡◌, ◌||◌, Bool, not, false, nat_eq, if◌then◌else◌, List, Option, None, Some, Result, Ok, Err, ◌⊎◌, map}
 use Rattle.std.specs.List.{AllByRecursion, list_any}
 use Rattle.ids.specs.Members.{is_live}
 use Rattle.ids.specs.declared.member.Member.{Member}
 use Rattle.task_tree.specs.declared.tree.Program.{Program}
+use Rattle.codec.specs.Pieces.{cut_all}
 use Rattle.codec.specs.Table.{PacketOf}
 use Rattle.subcomputation.specs.Fitting.{Fits}
 use Rattle.subcomputation.specs.Subs.{SubOf}
@@ -12,9 +13,13 @@ use Rattle.departure.specs.declared.freezing.FreezeError.{FreezeError}
 use Rattle.departure.specs.declared.freezing.FreezeError.TheVariants as error
 use Rattle.departure.specs.declared.freezing.Move.{Move}
 
--- the Offers of all that is held, by rising grant
+-- the Offers of all that is held, by rising grant, each whole
+abbrev pub wholes : Move → List SubOf → List PacketOf
+wholes m subs = map (offer m.job m.from m.heir) subs
+
+-- as they go: large ones in their pieces
 abbrev pub offers : Move → List SubOf → List PacketOf
-offers m subs = map (offer m.job m.from m.heir) subs
+offers m subs = cut_all (wholes m subs)
 
 -- the heir isn't another live member
 abbrev pub lacks_heir : Move → List Member → Bool
@@ -26,7 +31,7 @@ refusal m pending members subs =
     if pending then Some error.Pending
     else if lacks_heir m members then Some error.NoHeir
     else if list_any is_last_hop subs then Some error.HopSpent
-    else if list_any is_too_big (offers m subs) then Some error.TooBig
+    else if list_any is_too_big (wholes m subs) then Some error.TooBig
     else None
 
 -- the Offers are made where nothing is in the way. Being out of memory comes behind all refusals but that of too many bytes

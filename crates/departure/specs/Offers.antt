@@ -42,4 +42,4 @@ abbrev pub is_last_hop : SubOf → Bool
 is_last_hop s = not (nat_lt (s.hop + 1) (2 ^ 32))
 
 abbrev pub is_too_big : PacketOf → Bool
-is_too_big p = nat_lt 1048576 (length (spelling.write p))
+is_too_big p = nat_lt 1073741824 (length (spelling.write p))

@@ -1,16 +1,17 @@
 //! Freezing: what a node holds, as Offers to the heir to which it leaves.
-ghost use Rattle.std.specs.Prelude.{◌≡◌, ◌<◌, ◌^◌, true, false, IfOk, IsErrOf, IsTrue, OnOk};
+ghost use Rattle.std.specs.Prelude.{◌≡◌, ◌<◌, ◌^◌, ◌++◌, true, false, IfOk, IsErrOf, IsTrue, OnOk};
 ghost use Rattle.std.specs.List.{AllByRecursion, list_all, list_any};
 ghost use Rattle.ids.specs.Members.{is_live};
 ghost use Rattle.packet_fields.specs.Fields as field;
+ghost use Rattle.codec.specs.Pieces.{cut};
 ghost use Rattle.codec.specs.declared.encoding.EncodeError.TheVariants.{TooBig};
 ghost use Rattle.sub_rules.specs.declared.content.Content as declared;
 ghost use Rattle.subcomputation.specs.Fitting.{Fits};
 ghost use Rattle.departure.specs.Offers.{offer, offer_of, is_last_hop, is_too_big};
-ghost use Rattle.departure.specs.Freezing.{AllFit, AreMovable, Freezes, lacks_heir, offers, refusal};
+ghost use Rattle.departure.specs.Freezing.{AllFit, AreMovable, Freezes, lacks_heir, offers, refusal, wholes};
 ghost use Rattle.departure.specs.Typed.{FrameTyped, IsFew, RecordTyped, SubTyped};
 
-use codec::{Body, Datagram, EncodeError, Offer, Packet};
+use codec::{Body, Datagram, EncodeError, Offer, Packet, send_cut};
 use frames::Frames;
 use ids::{Actor, Address, Frame, Incarnation, Listed, Member, Outcome, Record, SortedMap, Status};
 use kind_check::Checked;
@@ -26,7 +27,7 @@ use victim_records::Records;
 pub enum FreezeError {
     /// E50: a request of the node is pending.
     Pending,
-    /// E51: an Offer has more than 1,048,576 bytes.
+    /// E51: an Offer has more than 1,073,741,824 bytes.
     TooBig,
     /// E52: a subcomputation has moved 2^32 - 1 times.
     HopSpent,
@@ -62,10 +63,10 @@ pub struct Move {
 }
 
 impl Move {
-    /// The Offers of all that is held, by rising grant, each spelled as a packet to the heir. Of the refusals the first of
-    /// these comes: E50 where a request is pending, E53 where the heir isn't another live member, E52 where a subcomputation
-    /// has moved 2^32 - 1 times, E51 where an Offer has more than 1,048,576 bytes. E9 where there is no memory, which may
-    /// come in the place of E51. What is held stays as it is.
+    /// The Offers of all that is held, by rising grant, each as a packet to the heir, or in Pieces where its spelling has more
+    /// than 65,536 bytes. Of the refusals the first of these comes: E50 where a request is pending, E53 where the heir isn't
+    /// another live member, E52 where a subcomputation has moved 2^32 - 1 times, E51 where an Offer has more than
+    /// 1,073,741,824 bytes. E9 where there is no memory, which may come in the place of E51. What is held stays as it is.
     pub fn freeze_all(
         &self,
         alloc: Global,
@@ -119,7 +120,7 @@ impl Move {
         self.heir.word() == self.from.word() || !is_live(members, self.heir)
     }
 
-    /// The Offers, by rising grant, each spelled as a packet; too big where one of them is.
+    /// The Offers, by rising grant, each whole or in its Pieces; too big where one of them is.
     fn spelled(
         &self,
         alloc: Global,
@@ -129,32 +130,34 @@ impl Move {
         requires fits { AllFit checked.now subs.now }
         requires hops { list_any is_last_hop subs.now ≡ false }
         ensures ok { IfOk result (λ sent. sent ≡ offers self.now subs.now) }
-        ensures small { OnOk result (list_any is_too_big (offers self.now subs.now) ≡ false) }
-        ensures big { IsErrOf result TooBig → list_any is_too_big (offers self.now subs.now) ≡ true }
+        ensures small { OnOk result (list_any is_too_big (wholes self.now subs.now) ≡ false) }
+        ensures big { IsErrOf result TooBig → list_any is_too_big (wholes self.now subs.now) ≡ true }
     {
         let mut sent = Listed::with_capacity(alloc, subs.len())?;
         for sub in subs.values() {
-            sent.push(self.spelled_offer(alloc, checked, sub)?)?;
+            self.send_offer(alloc, checked, sub, &mut sent)?;
         }
         Ok(sent)
     }
 
-    /// The Offer of a subcomputation, spelled as a packet.
-    fn spelled_offer(
+    /// Adds the Offer of a subcomputation, whole or in its Pieces, to those that are sent.
+    fn send_offer(
         &self,
         alloc: Global,
         checked: &Checked,
         sub: &Sub,
-    ) -> Result<Datagram, EncodeError>
+        sent: &mut Listed<Datagram>,
+    ) -> Result<(), EncodeError>
         requires fits { Fits checked.now sub.now.content }
         requires hop { is_last_hop sub.now ≡ false }
-        ensures ok { IfOk result (λ d. d ≡ offer self.now.job self.now.from self.now.heir sub.now) }
+        ensures ok { OnOk result (sent.new ≡ sent.old
+            ++ cut (offer self.now.job self.now.from self.now.heir sub.now)) }
         ensures small { OnOk result (is_too_big (offer self.now.job self.now.from self.now.heir sub.now) ≡ false) }
         ensures big { IsErrOf result TooBig
             → is_too_big (offer self.now.job self.now.from self.now.heir sub.now) ≡ true }
     {
         let packet = self.packet(alloc, checked, sub)?;
-        Datagram::of(alloc, &packet)
+        send_cut(alloc, sent, &packet)
     }
 
     /// The packet that offers a subcomputation.

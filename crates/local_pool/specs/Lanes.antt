@@ -22,10 +22,10 @@ module _ {D S : Type 0} where
   PartsKnow mark views = (seat : ℕ) (v : Lane D S) → get_elem? views seat ≡ some v → 0 < v.parts → v.stamp ≡ mark
 
   -- The queue may have any number of turns: `never` is 0 in each view, while n + 1 would stand for a number n of turns that it
-  -- never has. It is there so that who says how many turns there were must have counted just so many in that very call. For
-  -- only this rule says that it is 0, and who finds n turns is told that it isn't n + 1, and no more: no invariant of a pass
-  -- says anything of it. Without it, who finds some turns could make up other views, by which there were more, or none, and
-  -- these would fit
+  -- never has. It is there so that who says how many turns there were has to name a lesson of that very call by which there
+  -- were just so many; of which queue, no clause says. For only this rule says that it is 0, and who finds n turns is told that
+  -- it isn't n + 1, and no more: no invariant of a pass says anything of it. Without it, who finds some turns could make up
+  -- other views, by which there were more, or none, and these would fit
   abbrev pub MayHaveAny : List (Lane D S) → Type 0
   MayHaveAny views = (seat : ℕ) (v : Lane D S) → get_elem? views seat ≡ some v → v.never ≡ 0
 

@@ -2,7 +2,7 @@
 use Rattle.std.proofs.Common.{◌≡◌, ℕ, suc, ◌+◌, Bool, true, false, cond, not, ◌&&◌, nat_eq, nat_lt, List, [], ◌∷◌, ◌++◌, length, Option, Some, None, is_some, Result, Err, Ordering, Less, Equal, Greater, refl, ap, subst, ◌∙◌, arith}
 use Rattle.std.proofs.lemmas.Bool.{eqb-true, lt-ltb}
 use Rattle.ids.specs.Named.{name_cmp}
-use Rattle.codec.specs.Pieces.{PartOf, joined, long_reading}
+use Rattle.codec.specs.Pieces.{PartOf, joined, long_reading, name_of_part}
 use Rattle.codec.specs.declared.body.Body.TheVariants as body
 use Rattle.codec.specs.declared.body.Offer.{Offer}
 use Rattle.codec.specs.declared.body.Piece.{Piece}
@@ -11,7 +11,7 @@ use Rattle.departure.specs.Offers.{offered}
 use Rattle.serial_meaning.specs.Job.{JobOf}
 use Rattle.subcomputation.specs.Fitting.{content_fits}
 use Rattle.subcomputation.specs.Subs.{sub_in}
-use Rattle.node_state.specs.Assemblies.{AssemblyOf, assembly_in, name_of_part, part_in, part_of, put_part, without_assembly}
+use Rattle.node_state.specs.Assemblies.{AssemblyOf, assembly_in, part_in, part_of, put_part, without_assembly}
 use Rattle.node_state.specs.Node.{NodeOf, by_state, hop_in}
 use Rattle.node_state.specs.declared.parts.State.TheVariants.{Member}
 use Rattle.node_core.specs.Cases.{Candidate, belongs, collected, collects, is_above, member_offered, on_body, or_forgets, put_together, said_by}

@@ -34,10 +34,11 @@ use steal_protocol::{Heard, Reply};
 
 impl<'a> Node<'a> {
     /// Leaves to an heir, which is another worker that the roster shows live: what the node holds is frozen and offered to it,
-    /// by rising grant, and where it holds nothing and awaits no thief it says at once that it has left. E60 where the node
-    /// isn't joined or has ended; E61 where it leaves already; E50 where a request is pending; E53 where the heir isn't another
-    /// live member; E52 where a subcomputation has moved 2^32 - 1 times; E51 where an Offer has more than 1,048,576 bytes; E63
-    /// where there is no memory, which may come in the place of E51. A refusal changes nothing.
+    /// by rising grant, in Pieces where an Offer has more than 65,536 bytes, and where it holds nothing and awaits no thief it
+    /// says at once that it has left. E60 where the node isn't joined or has ended; E61 where it leaves already; E50 where a
+    /// request is pending; E53 where the heir isn't another live member; E52 where a subcomputation has moved 2^32 - 1 times;
+    /// E51 where an Offer has more than 1,073,741,824 bytes; E63 where there is no memory, which may come in the place of E51.
+    /// A refusal changes nothing.
     #[tactic(auto, unfolding(crate::specs::Calls::depart, node_state::specs::Node::by_state))]
     pub fn depart(&mut self, alloc: Global, heir: Incarnation) -> Result<Step, NodeError>
         ensures answer { Meets (calls.depart self.old.job heir self.old.node) result self.old self.new }

@@ -21,6 +21,9 @@ use ids::{GrantId, SortedMap};
 use node_state::Assembly;
 use std::alloc::{AllocError, Global};
 
+/// A part of an Offer's spelling has at most so many bytes.
+const PART_BYTES: usize = 65_536;
+
 impl<'a> Node<'a> {
     /// A Piece comes to a member: where its hop is above the greatest one with which its grant was taken its part is kept, and with the last
     /// one the Offer that they spell is taken as one that comes whole; else it is acknowledged again.
@@ -178,12 +181,13 @@ fn part_of(piece: Piece) -> (GrantId, Part)
     (grant, Part { number, bytes })
 }
 
-/// The bytes of the parts that have come and of that of a Piece, which hasn't, in their order.
+/// The bytes of the parts that have come and of that of a Piece, which hasn't, in their order. There is room for all of them at
+/// once: each part has as many as it can but for the last one.
 fn joined_with(alloc: Global, parts: &SortedMap<Part>, piece: &Piece) -> Result<Vec<u8>, AllocError>
     requires { part_in piece.now.number parts.now ≡ None }
     ensures { IfOk result (λ bytes. bytes.items ≡ joined (put_part (part_of piece.now) parts.now)) }
 {
-    let mut bytes = Vec::new(alloc);
+    let mut bytes = Vec::with_capacity(alloc, usize::from(piece.pieces) * PART_BYTES)?;
     let mut is_in = false;
     for part in parts.values() {
         if !is_in && piece.number < part.number {

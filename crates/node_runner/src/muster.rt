@@ -17,11 +17,10 @@ const NAP: u64 = 100;
 const SLEEP: u64 = 10_000;
 
 /// How often it sleeps longer when the threads of a run are made for the first time, half a second in all. Each further time it is twice as
-/// often.
+/// often, up to two minutes in all.
 pub(crate) const PATIENCE: u64 = 50;
 
-/// How often the threads of a run are made at most: behind the last time four minutes went by.
-pub(crate) const ATTEMPTS: u64 = 9;
+pub(crate) const MOST_PATIENCE: u64 = 12_800;
 
 /// Sleeps longer: behind it the system doesn't count threads any more that ended before.
 pub(crate) fn rests<R: Clock>(rt: &R) {

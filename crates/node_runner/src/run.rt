@@ -10,7 +10,7 @@ use crate::crew::{ActorContext, WorkerContext, contexts};
 use crate::error::RunError;
 use crate::gate::Gate;
 use crate::house::run_house;
-use crate::muster::{ATTEMPTS, PATIENCE, musters, rests, threads_of};
+use crate::muster::{MOST_PATIENCE, PATIENCE, musters, rests, threads_of};
 use crate::node::run_node;
 use crate::pace::Pace;
 use crate::probe::can_make;
@@ -39,9 +39,9 @@ pub struct Ran {
 ///
 /// Refused as `TurnsSpent` (E95) where all turns were taken before there was an outcome, as `Memory` (E96) where there is no memory or the
 /// system refuses a thread, and as `Disk` (E97) where the clearinghouse can't go on. Whether the system makes as many threads is tried before
-/// anything else, with threads that do nothing. Where one isn't there half a second later all end and are made anew, and waited for twice as
-/// long: it is refused as `Memory` where one is missing the ninth time, after four minutes. Each loop turn of an actor or a body worker
-/// counts as one, and so does each question to the gate. Where 131,072 turns and more may be taken a thread takes several at once, at most
+/// anything else, with threads that do nothing. Where one isn't there half a second later all end, it is tried again, and they are made anew
+/// and waited for twice as long, up to two minutes each time: threads that are slow are waited for. Each loop turn of an actor or a body
+/// worker counts as one, and so does each question to the gate. Where 131,072 turns and more may be taken a thread takes several at once, at most
 /// 64, and so fewer than one in a hundred may be left to threads that don't begin them.
 pub fn run_job<'a, R: Threads + Wait + Clock + Sync, G: Gate + Sync>(
     rt: &R,
@@ -53,7 +53,7 @@ pub fn run_job<'a, R: Threads + Wait + Clock + Sync, G: Gate + Sync>(
     ensures { IfOk result (IsRanOf job.now) }
 {
     let mut patience = PATIENCE;
-    for _ in 0..ATTEMPTS {
+    for _ in 0..u64::MAX {
         // (this thread is one of them)
         if !can_make(rt, threads_of(config).saturating_sub(1)) {
             return Err(RunError::Memory);
@@ -70,7 +70,7 @@ pub fn run_job<'a, R: Threads + Wait + Clock + Sync, G: Gate + Sync>(
             Some(End::Memory) => return Err(RunError::Memory),
             Some(End::Turns) | None => return Err(RunError::TurnsSpent),
         }
-        patience = patience.saturating_mul(2);
+        patience = patience.saturating_mul(2).min(MOST_PATIENCE);
     }
     Err(RunError::Memory)
 }

@@ -8,7 +8,7 @@ use Rattle.ids.specs.Naming.{name_of_grant}
 use Rattle.ids.specs.declared.member.Member.{Member}
 use Rattle.ids.specs.declared.member.Status.{Status}
 use Rattle.ids.specs.declared.member.Status.TheVariants.{Live, Dead, Left}
-use Rattle.codec.specs.Pieces.{PartOf}
+use Rattle.codec.specs.Pieces.{PartOf, name_of_part}
 use Rattle.codec.specs.declared.body.Piece.{Piece}
 
 -- those of one Offer: its grant, who offers it, its hop, into how many parts it is cut, and those that came, by rising number
@@ -31,10 +31,6 @@ put_assembly a xs = put_in name_of_assembly a xs
 
 abbrev pub without_assembly : Grant → List AssemblyOf → List AssemblyOf
 without_assembly g xs = without_in name_of_assembly (name_of_grant g) xs
-
--- a part's name is its number
-abbrev pub name_of_part : PartOf → Name
-name_of_part y = (y.number, 0)
 
 abbrev pub part_in : ℕ → List PartOf → Option PartOf
 part_in number parts = item_in name_of_part (number, 0) parts

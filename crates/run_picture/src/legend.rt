@@ -24,15 +24,15 @@ const ROWS: &str = "<rect class=\"live\" x=\"14\" y=\"-6\" width=\"30\" height=\
 <path class=\"dead\" d=\"M379.7 24m-1.6 -8h3.2v4h4v3.2h-4v9h-3.2v-9h-4v-3.2h4z\"/><text x=\"391.7\" y=\"28\">dead, by a roster</text>
 <path class=\"done\" d=\"M531.6 24m0 -9l2.6 5.6l6.1 .7l-4.5 4.2l1.2 6l-5.4 -3l-5.4 3l1.2 -6l-4.5 -4.2l6.1 -.7z\"/><text x=\"543.6\" y=\"28\">outcome recorded</text>
 <path class=\"line work\" d=\"M14 48h30\" marker-end=\"url(#work)\"/>
-<text x=\"49\" y=\"52\">Grant, Offer</text>
-<path class=\"line outcome\" d=\"M147.4 48h30\" marker-end=\"url(#outcome)\"/>
-<text x=\"182.4\" y=\"52\">Result</text>
-<path class=\"line asking\" d=\"M240.6 48h30\" marker-end=\"url(#asking)\"/>
-<text x=\"275.6\" y=\"52\">Steal, Refuse</text>
-<path class=\"line answer\" d=\"M380.7 48h30\" marker-end=\"url(#answer)\"/>
-<text x=\"415.7\" y=\"52\">ResultAck, OfferAck, Abort</text>
-<path class=\"line members\" d=\"M607.9 48h30\" marker-end=\"url(#members)\"/>
-<text x=\"642.9\" y=\"52\">Join, Roster, Beat, Leave</text>
+<text x=\"49\" y=\"52\">Grant, Offer, Piece</text>
+<path class=\"line outcome\" d=\"M189.4 48h30\" marker-end=\"url(#outcome)\"/>
+<text x=\"224.4\" y=\"52\">Result</text>
+<path class=\"line asking\" d=\"M282.6 48h30\" marker-end=\"url(#asking)\"/>
+<text x=\"317.6\" y=\"52\">Steal, Refuse</text>
+<path class=\"line answer\" d=\"M422.7 48h30\" marker-end=\"url(#answer)\"/>
+<text x=\"457.7\" y=\"52\">ResultAck, OfferAck, Abort</text>
+<path class=\"line members\" d=\"M649.9 48h30\" marker-end=\"url(#members)\"/>
+<text x=\"684.9\" y=\"52\">Join, Roster, Beat, Leave</text>
 <path class=\"line any again\" d=\"M14 72h30\" marker-end=\"url(#any)\"/>
 <text x=\"49\" y=\"76\">comes again</text>
 <path class=\"line any\" d=\"M160 72h30\" marker-end=\"url(#any-ignored)\"/>
@@ -84,7 +84,7 @@ fn write_note<O: Write>(out: &mut O, layout: &Layout, run: &Recorder) -> io::Res
         )?,
         Arrows::Tasks => write!(
             out,
-            "Of {packets} packets only Grants, Offers and Results are drawn. "
+            "Of {packets} packets only Grants, Offers, Pieces and Results are drawn. "
         )?,
         Arrows::Hidden => write!(out, "The {packets} packets aren't drawn. ")?,
     }

@@ -1,5 +1,5 @@
 -- No slot was filled twice in a world that is tied.
-use Rattle.std.proofs.Common.{◌≡◌, ℕ, suc, zero, List, [], ◌∷◌, inl, inr, Some, slice_get, refl, sym, ap, ◌∙◌}
+use Rattle.std.proofs.Common.{◌≡◌, suc, zero, List, [], ◌∷◌, inl, inr, refl, sym, ap, ◌∙◌}
 use Rattle.serial_meaning.specs.Job.{JobOf}
 use Rattle.node_core.specs.declared.parts.Fill.{Fill}
 use Rattle.run_tables.specs.Tables.{◌∈◌}

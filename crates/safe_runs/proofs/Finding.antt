@@ -1,5 +1,5 @@
 -- Openings find the job's store on the disk.
-use Rattle.std.proofs.Common.{◌≡◌, ℕ, false, List, inl, inr, Some, refl, ap, subst, ◌∙◌}
+use Rattle.std.proofs.Common.{◌≡◌, ℕ, false, List, inl, inr, Some, refl, sym, ap, subst, ◌∙◌}
 use Rattle.disk.specs.File.{bytes_of}
 use Rattle.disk.proofs.Crashes.{crash-leaves-bytes_of}
 use Rattle.checkpoint.specs.Store.{IsRefused, ReadsAsStore}
@@ -7,7 +7,7 @@ use Rattle.checkpoint.specs.declared.record.CheckpointRecord.{CheckpointRecord}
 use Rattle.checkpoint.specs.declared.record.StoreError.{StoreError}
 use Rattle.checkpoint.specs.declared.record.StoreError.TheVariants.{Spent, JobMismatch, Damaged, Device, Version}
 use Rattle.checkpoint.proofs.Opened.{one_kept}
-use Rattle.serial_meaning.specs.Job.{JobOf}
+use Rattle.serial_meaning.specs.Job.{JobOf, IsJob}
 use Rattle.clearinghouse.specs.Errors.{error_of_store}
 use Rattle.clearinghouse.specs.House.{Open, Stopped}
 use Rattle.clearinghouse.specs.declared.error.HouseError.{HouseError}
@@ -17,14 +17,16 @@ use Rattle.event_script.specs.declared.event.Event.TheVariants.{Start, AtNode, C
 use Rattle.event_script.specs.declared.event.HouseEvent.{HouseEvent}
 use Rattle.event_script.specs.declared.event.HouseEvent.TheVariants.{Deliver, Tick, Restart}
 use Rattle.run_tables.specs.Tables.{◌∈◌}
+use Rattle.run_tables.specs.View.{View}
 use Rattle.world_steps.specs.Answers.{WorldAnswer, StepResult, Unfit, Ignored, Refused, Did, House}
 use Rattle.world_steps.specs.Houses.{IsRefusedAs, RestartHalts, Restarts}
 use Rattle.world_steps.specs.Runs.{Entry, Runs, ends, goes}
 use Rattle.world_steps.specs.Steps.{DeviceFails, HouseEnds, HouseHalts, IsCut, Step, stopped_answer}
 use Rattle.world_steps.specs.World.{Down, HouseAt, IsUp, WorldOf}
 use Rattle.safe_runs.specs.Openings.{FindsAt, FindsItsStore, OpeningFinds, finds_none}
-use Rattle.safe_runs.specs.Shown.{Tied, tied_here, tied_of}
-use Rattle.safe_runs.proofs.Events.{step_tied}
+use Rattle.safe_runs.specs.Shown.{DiskShown}
+use Rattle.safe_runs.specs.Sound.{IsSound, sound_here, sound_of}
+use Rattle.safe_runs.proofs.Going.{step_sound}
 
 -- a clearinghouse that is stopped tells why as before
 stopped_finds : (a : WorldAnswer) → FindsItsStore a → FindsItsStore (stopped_answer a)
@@ -34,17 +36,17 @@ stopped_finds (Refused e) f = tt
 stopped_finds (Did sent fills) f = tt
 stopped_finds (House e sent outcome) f = f
 
-module _ (job : JobOf) (w : WorldOf) (tied : Tied job w) where
+module _ (job : JobOf) (v : View) (w : WorldOf) (disk : DiskShown job v w.disk w.house) where
   -- the file reads as what is kept
-  reads : ReadsAsStore (bytes_of w.disk.file) tied.shown.disk.sequence tied.shown.disk.found
-  reads = (tied.shown.disk.keeps.second, tied.shown.disk.keeps.each (bytes_of w.disk.file) (crash-leaves-bytes_of w.disk.file))
+  reads : ReadsAsStore (bytes_of w.disk.file) disk.sequence disk.found
+  reads = (disk.keeps.second, disk.keeps.each (bytes_of w.disk.file) (crash-leaves-bytes_of w.disk.file))
 
   not_refused : (s : StoreError) → IsRefused s (bytes_of w.disk.file) job.number → finds_none (Some (error_of_store s)) ≡ false
   not_refused Version (named, other) = absurd (other reads.1.version)
-  not_refused Damaged (known, none) = absurd (none tied.shown.disk.sequence tied.shown.disk.found reads)
+  not_refused Damaged (known, none) = absurd (none disk.sequence disk.found reads)
   not_refused JobMismatch (n, r, read, other) =
-      let one = one_kept w.disk.file read.0 n tied.shown.disk.sequence r tied.shown.disk.found read.1 tied.shown.disk.keeps in
-      absurd (other (ap (λ (x : CheckpointRecord). x.job) one.1 ∙ tied.shown.disk.own))
+      let one = one_kept w.disk.file read.0 n disk.sequence r disk.found read.1 disk.keeps in
+      absurd (other (ap (λ (x : CheckpointRecord). x.job) one.1 ∙ disk.own))
   not_refused Spent never = absurd never
   not_refused Device never = absurd never
 
@@ -109,9 +111,13 @@ module _ (job : JobOf) (w : WorldOf) (tied : Tied job w) where
   step_finds (Cut c) o (inl cut) = at_cut c o c.event refl cut
   step_finds (Cut c) o (inr fails) = at_cut_fails c o c.event refl fails
 
+-- the disk is that of the world of whole packets
+sound_finds : (job : JobOf) (w : WorldOf) → IsSound job w → (e : Event) (o : StepResult) → Step job e w o → OpeningFinds e o.answer
+sound_finds job w sound e o step = step_finds job sound.tied.view w (subst (λ (x : WorldOf). DiskShown job sound.tied.view x.disk x.house) (sym sound.from.cut) sound.tied.shown.disk) e o step
+
 -- so do those of a run
-pub openings_find : (job : JobOf) (w : WorldOf) (entries : List Entry) (worlds : List WorldOf) → Runs job w entries worlds → Tied job w → (x : Entry) → x ∈ entries → OpeningFinds x.event x.answer
-openings_find job w _ _ (ends) tied x never = absurd never
-openings_find job w _ _ (goes {v = v} {e = e} {entries = entries} {worlds = worlds} step rest) tied x (inl same) = rw same (step_finds job w tied e.event (record { world = v; answer = e.answer }) step)
-openings_find job w _ _ (goes {v = v} {e = e} {entries = entries} {worlds = worlds} step rest) tied x (inr later) =
-    openings_find job v entries worlds rest (tied_of (step_tied job tied.view w (tied_here tied) e.event (record { world = v; answer = e.answer }) step)) x later
+pub openings_find : (job : JobOf) → IsJob job → (w : WorldOf) (entries : List Entry) (worlds : List WorldOf) → Runs job w entries worlds → IsSound job w → (x : Entry) → x ∈ entries → OpeningFinds x.event x.answer
+openings_find job ok w _ _ (ends) sound x never = absurd never
+openings_find job ok w _ _ (goes {v = v} {e = e} {entries = entries} {worlds = worlds} step rest) sound x (inl same) = rw same (sound_finds job w sound e.event (record { world = v; answer = e.answer }) step)
+openings_find job ok w _ _ (goes {v = v} {e = e} {entries = entries} {worlds = worlds} step rest) sound x (inr later) =
+    openings_find job ok v entries worlds rest (sound_of (step_sound job ok sound.tied.view w (sound_here sound) e.event (record { world = v; answer = e.answer }) step)) x later

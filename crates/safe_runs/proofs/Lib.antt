@@ -11,10 +11,13 @@ pub mod Stopping
 pub mod Opening
 pub mod HouseEvents
 pub mod Events
-pub mod Staying
 pub mod Results
 pub mod SentAgrees
 pub mod StepsAgree
+pub mod HousePlain
+pub mod Wholes
+pub mod Going
+pub mod Staying
 pub mod Ready
 pub mod Up
 pub mod SentWork
@@ -23,5 +26,7 @@ pub mod Root
 pub mod Coming
 pub mod Busy
 pub mod Losing
+pub mod CutAgrees
+pub mod CutLoses
 pub mod Finding
 pub mod Sound

@@ -2,7 +2,6 @@
 use Rattle.std.proofs.Common.{◌≡◌, ◌+◌, ℕ, ℤ, List, Option, None, Some, refl, sym, ap, ◌∙◌}
 use Rattle.ids.specs.Names.{Grant}
 use Rattle.ids.specs.declared.outcome.Outcome.{Outcome}
-use Rattle.ids.specs.declared.work.Record.{Record}
 use Rattle.codec.specs.declared.body.TaskResult.{TaskResult}
 use Rattle.recovery.proofs.Orders.{all_there}
 use Rattle.serial_meaning.specs.Job.{JobOf}

@@ -1,12 +1,11 @@
 -- What was sent and what is held agrees, as a reader of packets says it.
-use Rattle.std.proofs.Common.{◌≡◌, ℕ, suc, Option, None, Some, slice_get, refl, ap, ◌∙◌, arith, Ordering, Less, Equal, Greater}
+use Rattle.std.proofs.Common.{◌≡◌, ℕ, suc, Some, slice_get, refl, ap, ◌∙◌, arith}
 use Rattle.ids.specs.Names.{Grant}
 use Rattle.ids.specs.declared.work.Task.{Task}
 use Rattle.codec.specs.Table.{PacketOf}
 use Rattle.codec.specs.declared.body.Body.{Body}
 use Rattle.codec.specs.declared.body.Body.TheVariants as body
 use Rattle.codec.specs.declared.body.Grant.{Grant as GrantBody}
-use Rattle.codec.specs.declared.body.Offer.{Offer}
 use Rattle.codec.specs.declared.body.TaskResult.{TaskResult}
 use Rattle.serial_meaning.specs.Job.{JobOf}
 use Rattle.serial_meaning.specs.Places.{outcome_at}
@@ -26,7 +25,7 @@ use Rattle.node_moves.specs.Shows.{BodyShown, GrantShown, OfferShown}
 use Rattle.node_moves.specs.Steps.{Carries, IsSent}
 use Rattle.house_moves.specs.Steps.{tables_meaning}
 use Rattle.actor_agreement.specs.Values.{BodyIsRight}
-use Rattle.world_steps.specs.Agrees.{Agrees, BodyAgrees, WasGranted}
+use Rattle.world_steps.specs.Agrees.{BodyAgrees, WasGranted}
 use Rattle.world_steps.specs.Safe.{filling_of}
 use Rattle.world_steps.specs.World.{Holder, WorldOf}
 use Rattle.safe_runs.specs.Shown.{Tied}
@@ -109,16 +108,13 @@ module _ (job : JobOf) (w : WorldOf) (tied : Tied job w) where
   body_agrees (body.Piece b) to right shown = absurd shown
 
   module _ (right : WorldIsRight job w) where
-    held_agrees : (a : ℕ) (g : Grant) → (at : Holder w a g) → ContentAgrees job at.sub.content
+    pub held_agrees : (a : ℕ) (g : Grant) → (at : Holder w a g) → ContentAgrees job at.sub.content
     held_agrees a g at =
         let m : MemberHolds at.node g at.sub = member_holds at.node g at.sub at.live in
         ((right.nodes a at.node at.up).subs at.sub (found_among _ at.sub at.node.subs m.held)).agrees
 
-    pub agrees : Agrees job w
-    agrees = record {
-      packets = λ i p e. let m = got w.net i p e in body_agrees p.body p.to (right.net p m) (tied.shown.net p m);
-      held = held_agrees;
-    }
+    pub packet_agrees : (p : PacketOf) → p ∈ w.net → BodyAgrees job w.net p.body
+    packet_agrees p m = body_agrees p.body p.to (right.net p m) (tied.shown.net p m)
 
 pub received : (job : JobOf) (w : WorldOf) → WorldIsRight job w → (i : ℕ) (f : Fill) → slice_get w.fills i ≡ Some f → IsReceived job (filling_of f)
 received job w right i f e = right.fills f (got w.fills i f e)

@@ -24,7 +24,7 @@ use Rattle.safe_runs.proofs.Up.{NodeUp, node_up}
 transfer_body : (t : Transfer) (g : Grant) (b : Body) → t.grant ≡ g → Carries t b → IsTransfer g b
 transfer_body t g (body.Grant b) of c = c.0 ∙ of
 transfer_body t g (body.Offer b) of c = c.0 ∙ of
-transfer_body t g other of c = c
+transfer_body t g other of c = absurd c
 
 pub was_sent : (job : JobOf) (v : View) (w : WorldOf) → Shown job v w → (g : Grant) (i : ℕ) → Came v.transfers g i → WasSent w g i
 was_sent job v w shown g i came =

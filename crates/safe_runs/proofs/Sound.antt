@@ -1,56 +1,61 @@
--- Each world of a run is tied to tables and right by value, and so all that is promised holds of it.
-use Rattle.std.proofs.Common.{◌≡◌, List, ◌∷◌, ◌⊎◌, inl, inr, sym}
+-- Each world of a run is cut from one that is tied to tables and right by value, and so all that is promised holds of it.
+use Rattle.std.proofs.Common.{List, ◌∷◌, inl, inr, sym, subst}
 use Rattle.disk.specs.Device.{Device}
 use Rattle.serial_meaning.specs.Job.{JobOf, IsJob}
 use Rattle.run_tables.specs.Tables.{◌∈◌}
 use Rattle.run_tables.proofs.Among.{got}
-use Rattle.world_steps.specs.Runs.{CanBegin, Entry, Runs, ends, goes}
+use Rattle.world_steps.specs.Agrees.{Agrees}
+use Rattle.world_steps.specs.Lost.{NothingLost}
+use Rattle.world_steps.specs.Runs.{CanBegin, Entry, Runs}
 use Rattle.world_steps.specs.Safe.{SafeWorld}
-use Rattle.world_steps.specs.World.{WorldOf, first_over}
-use Rattle.safe_runs.specs.Shown.{Tied, tied_here, tied_of}
-use Rattle.safe_runs.proofs.Events.{first_tied, step_tied}
-use Rattle.safe_runs.proofs.Filled.{filled_once}
-use Rattle.safe_runs.proofs.Holding.{one_holder}
-use Rattle.safe_runs.proofs.Recorded.{recorded_is_meant}
-use Rattle.safe_runs.proofs.Staying.{runs_stay}
-use Rattle.safe_runs.specs.Right.{WorldIsRight}
-use Rattle.safe_runs.proofs.SentAgrees.{agrees, received}
-use Rattle.safe_runs.proofs.StepsAgree.{first_right, step_right}
+use Rattle.world_steps.specs.World.{Holder, WorldOf, first_over}
 use Rattle.safe_runs.specs.Promises.{AllSafe}
+use Rattle.safe_runs.specs.Right.{WorldIsRight}
+use Rattle.safe_runs.specs.Shown.{Tied}
+use Rattle.safe_runs.specs.Sound.{IsSound, cut_world}
+use Rattle.safe_runs.proofs.CutAgrees.{cut_agrees}
+use Rattle.safe_runs.proofs.CutLoses.{cut_loses}
+use Rattle.safe_runs.proofs.Filled.{filled_once}
+use Rattle.safe_runs.proofs.Going.{first_sound, run_sound}
+use Rattle.safe_runs.proofs.Holding.{one_holder}
 use Rattle.safe_runs.proofs.Losing.{nothing_lost}
+use Rattle.safe_runs.proofs.Recorded.{recorded_is_meant}
+use Rattle.safe_runs.proofs.SentAgrees.{received}
+use Rattle.safe_runs.proofs.Staying.{runs_stay}
 
--- what is kept from world to world
-pub record IsSound (job : JobOf) (w : WorldOf) : Type 0 where
-  pub tied : Tied job w
-  pub right : WorldIsRight job w
+-- what a world of whole packets promises, one that is cut from it does too
+cut_safe : (job : JobOf) (v : WorldOf) → Tied job v → WorldIsRight job v → SafeWorld job (cut_world v)
+cut_safe job v tied right = record {
+  once = filled_once job v tied;
+  values = λ i f e. received job v right i f e;
+  holder = λ g a b p q. (
+      let x : Holder v a g = record { node = p.node; sub = p.sub; up = p.up; live = p.live } in
+      let y : Holder v b g = record { node = q.node; sub = q.sub; up = q.up; live = q.live } in
+      one_holder job v tied g a b x y);
+  outcome = λ o e. recorded_is_meant job v tied o e;
+}
 
-module _ (job : JobOf) (ok : IsJob job) where
-  all_sound : (w : WorldOf) (entries : List Entry) (worlds : List WorldOf) → Runs job w entries worlds → IsSound job w → (v : WorldOf) → v ∈ (w ∷ worlds) → IsSound job v
-  all_sound w entries worlds runs s v (inl same) = rw same s
-  all_sound w _ _ (ends) s v (inr m) = absurd m
-  all_sound w _ _ (goes {v = x} {e = e} {entries = entries} {worlds = worlds} step rest) s v (inr m) =
-      let next : IsSound job x = record { tied = tied_of (step_tied job s.tied.view w (tied_here s.tied) e.event (record { world = x; answer = e.answer }) step); right = step_right job w ok s.tied s.right e.event (record { world = x; answer = e.answer }) step } in
-      all_sound x entries worlds rest next v m
+pub sound_safe : (job : JobOf) (w : WorldOf) → IsSound job w → SafeWorld job w
+sound_safe job w s = subst (SafeWorld job) (sym s.from.cut) (cut_safe job s.whole s.tied s.right)
 
-  module _ (d : Device) (entries : List Entry) (worlds : List WorldOf) (can : CanBegin job d) (runs : Runs job (first_over d) entries worlds) where
-    sound : (v : WorldOf) → v ∈ (first_over d ∷ worlds) → IsSound job v
-    sound v m = all_sound (first_over d) entries worlds runs (record { tied = first_tied job d can; right = first_right job d }) v m
+pub sound_agrees : (job : JobOf) (w : WorldOf) → IsSound job w → Agrees job w
+sound_agrees job w s = subst (Agrees job) (sym s.from.cut) (cut_agrees job s.whole s.tied s.right s.from.kept)
 
-    safe_world : (w : WorldOf) → IsSound job w → SafeWorld job w
-    safe_world w s = record {
-      once = filled_once job w s.tied;
-      values = λ i f e. received job w s.right i f e;
-      holder = λ g a b p q. one_holder job w s.tied g a b p q;
-      outcome = λ o e. recorded_is_meant job w s.tied o e;
-    }
+pub sound_loses : (job : JobOf) (w : WorldOf) → IsSound job w → NothingLost w
+sound_loses job w s = subst NothingLost (sym s.from.cut) (cut_loses s.whole (nothing_lost job s.whole s.tied))
 
-    -- one of its worlds by itself
-    pub each_safe : (w : WorldOf) → w ∈ (first_over d ∷ worlds) → SafeWorld job w
-    each_safe w m = safe_world w (sound w m)
+module _ (job : JobOf) (ok : IsJob job) (d : Device) (entries : List Entry) (worlds : List WorldOf) (can : CanBegin job d) (runs : Runs job (first_over d) entries worlds) where
+  pub sound : (w : WorldOf) → w ∈ (first_over d ∷ worlds) → IsSound job w
+  sound w (inl same) = rw same (first_sound job d can)
+  sound w (inr m) = run_sound job ok d entries worlds w can runs m
 
-    pub all_safe : AllSafe job (first_over d ∷ worlds)
-    all_safe = record {
-      safe = record { each = λ i w e. safe_world w (sound w (got (first_over d ∷ worlds) i w e)); stays = runs_stay job d entries worlds can runs };
-      agree = λ w m. (let s = sound w m in agrees job w s.tied s.right);
-      none_lost = λ w m. nothing_lost job w (sound w m).tied;
-    }
+  -- one of its worlds by itself
+  pub each_safe : (w : WorldOf) → w ∈ (first_over d ∷ worlds) → SafeWorld job w
+  each_safe w m = sound_safe job w (sound w m)
+
+  pub all_safe : AllSafe job (first_over d ∷ worlds)
+  all_safe = record {
+    safe = record { each = λ i w e. each_safe w (got (first_over d ∷ worlds) i w e); stays = runs_stay job ok d entries worlds can runs };
+    agree = λ w m. sound_agrees job w (sound w m);
+    none_lost = λ w m. sound_loses job w (sound w m);
+  }

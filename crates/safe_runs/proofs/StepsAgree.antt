@@ -1,13 +1,10 @@
--- Each step keeps a world right by value, whatever the event.
-use Rattle.std.proofs.Common.{◌≡◌, ℕ, Bool, true, false, cond, not, ◌&&◌, List, [], ◌++◌, ◌⊎◌, inl, inr, ⊎_elim, Option, None, Some, is_some, slice_get, nat_eq, refl}
-use Rattle.ids.specs.Names.{is_worker}
+-- What happens in a world keeps it right by value.
+use Rattle.std.proofs.Common.{◌≡◌, ℕ, Bool, true, false, cond, ◌&&◌, List, [], ◌++◌, inl, inr, ⊎_elim, Option, None, Some, slice_get, nat_eq, refl}
 use Rattle.codec.specs.Table.{PacketOf}
 use Rattle.codec.specs.declared.body.Body.{Body}
 use Rattle.codec.specs.declared.body.Body.TheVariants as body
 use Rattle.disk.specs.Device.{Device}
-use Rattle.disk.specs.File.{settled_file}
 use Rattle.serial_meaning.specs.Job.{JobOf, IsJob}
-use Rattle.agreement.specs.Agreement.{IsReceived}
 use Rattle.clearinghouse.specs.Calls.{begins, next_epoch, passes}
 use Rattle.clearinghouse.specs.Cases as house_cases
 use Rattle.clearinghouse.specs.House.{HouseOf, Open, Stopped}
@@ -20,32 +17,23 @@ use Rattle.node_state.specs.declared.parts.State.TheVariants.{Joining, Member, L
 use Rattle.node_core.specs.Calls as call
 use Rattle.node_core.specs.Cases.{Candidate, on_body, on_packet}
 use Rattle.node_core.specs.Steps as node
-use Rattle.node_core.specs.declared.parts.Fill.{Fill}
 use Rattle.event_script.specs.declared.event.Cut.{Cut as CutOf}
-use Rattle.event_script.specs.declared.event.Event.{Event}
-use Rattle.event_script.specs.declared.event.Event.TheVariants.{Start, AtNode, Crash, AtHouse, HouseCrash, Cut}
 use Rattle.event_script.specs.declared.event.HouseEvent.{HouseEvent}
 use Rattle.event_script.specs.declared.event.HouseEvent.TheVariants as at_house
-use Rattle.event_script.specs.declared.event.NodeEvent.{NodeEvent}
-use Rattle.event_script.specs.declared.event.NodeEvent.TheVariants.{Deliver, Exec, Whole, Ask, Resend, Depart}
 use Rattle.run_tables.specs.Tables.{◌∈◌}
 use Rattle.run_tables.specs.View.{Works}
 use Rattle.run_tables.proofs.Lists.{either}
-use Rattle.run_tables.proofs.Among.{got}
 use Rattle.node_moves.specs.Shows.{mode_of, BodyShown}
-use Rattle.actor_agreement.specs.Values.{AllRight, AnswerIsRight, BodyIsRight, HouseAnswerIsRight, HouseStepIsRight, BodyMayCome, NodeIsRight, RepliesAreRight, StepIsRight}
-use Rattle.actor_agreement.proofs.Changing.{exec_ready_right, whole_ready_right}
+use Rattle.actor_agreement.specs.Values.{AllRight, AnswerIsRight, BodyIsRight, HouseAnswerIsRight, BodyMayCome, NodeIsRight, RepliesAreRight, StepIsRight}
 use Rattle.actor_agreement.proofs.House.{passes_right}
 use Rattle.actor_agreement.proofs.House.{packet_right as house_packet_right}
-use Rattle.actor_agreement.proofs.Leaving.{depart_right, resend_right}
 use Rattle.actor_agreement.proofs.Sent.{both_sent, none_sent}
-use Rattle.actor_agreement.proofs.Table.{ask_right, packet_right, start_right}
-use Rattle.world_steps.specs.Answers.{StepResult, Unfit, answered, house_same, same, stepped, with_some}
+use Rattle.actor_agreement.proofs.Table.{packet_right, start_right}
+use Rattle.world_steps.specs.Answers.{StepResult, Unfit, answered, house_same, same, stepped}
 use Rattle.world_steps.specs.Houses.{Ends, Halts, RestartHalts, Restarts, silence}
-use Rattle.world_steps.specs.Nodes.{at_node, can_start, grant_of, starts, victim_of}
-use Rattle.world_steps.specs.Safe.{filling_of}
-use Rattle.world_steps.specs.Steps.{HouseEnds, HouseHalts, IsCut, Step, ThenCut, ThenStopped, house_crash, settled_by}
-use Rattle.world_steps.specs.World.{Down, HouseAt, IsUp, WorldOf, first_over, is_used, node_in, with_used, without_node}
+use Rattle.world_steps.specs.Nodes.{can_start, starts}
+use Rattle.world_steps.specs.Steps.{HouseEnds, HouseHalts, ThenCut, ThenStopped, house_crash, settled_by}
+use Rattle.world_steps.specs.World.{Down, HouseAt, IsUp, WorldOf, first_over, node_in, with_used, without_node}
 use Rattle.safe_runs.specs.Shown.{Tied}
 use Rattle.safe_runs.proofs.Places.{left_there, new_or_old}
 use Rattle.safe_runs.specs.Right.{HouseIsRight, WorldIsRight}
@@ -97,12 +85,6 @@ module _ (job : JobOf) (w : WorldOf) (ok : IsJob job) (tied : Tied job w) (right
   stops_right : (d : Device) → WorldIsRight job (record w { house = IsUp (Stopped by.Device); disk = d; net = w.net ++ [] })
   stops_right d = housed job w right (IsUp (Stopped by.Device)) d [] tt (none_sent job)
 
-  -- with what is there, or nothing happens
-  with_there : {A : Type 0} (o : Option A) (f : A → StepResult) → ((a : A) → o ≡ Some a → WorldIsRight job (f a).world) → WorldIsRight job (with_some o w f).world
-  unfolding with_some
-  with_there None f all = right
-  with_there (Some a) f all = all a refl
-
   module _ (a : ℕ) where
     -- a step of the node there
     stepped_right : (s : node.StepOf) (used : List ℕ) → StepIsRight job s → WorldIsRight job (stepped a s (record w { used = used })).world
@@ -113,7 +95,7 @@ module _ (job : JobOf) (w : WorldOf) (ok : IsJob job) (tied : Tied job w) (right
       fills = λ f m. ⊎_elim (λ old. right.fills f old) (λ new. k.fills f new) (either w.fills s.fills f m);
     }
 
-    answered_right : (ans : node.Answer) → AnswerIsRight job ans → WorldIsRight job (answered a ans w).world
+    pub answered_right : (ans : node.Answer) → AnswerIsRight job ans → WorldIsRight job (answered a ans w).world
     answered_right node.Ignored k = right
     answered_right (node.Refused e) k = right
     answered_right (node.Does s) k = stepped_right s w.used k
@@ -145,7 +127,7 @@ module _ (job : JobOf) (w : WorldOf) (ok : IsJob job) (tied : Tied job w) (right
     may_come up (body.Beat b) to r s = tt
     may_come up (body.Piece b) to r s = absurd s
 
-    hears_right : (choice : Option Candidate) (p : PacketOf) → p ∈ w.net → AnswerIsRight job (on_packet job choice p n)
+    pub hears_right : (choice : Option Candidate) (p : PacketOf) → p ∈ w.net → AnswerIsRight job (on_packet job choice p n)
     hears_right choice p m = by_stage n.state refl
       where
         works : Works (mode_of n.state) → AnswerIsRight job (on_packet job choice p n)
@@ -157,22 +139,14 @@ module _ (job : JobOf) (w : WorldOf) (ok : IsJob job) (tied : Tied job w) (right
         by_stage (Leaving r heir) is = works (rw is tt)
         by_stage Ended is = ended_ignores job choice n is p
 
-    at_node_right : (choice : Option Candidate) (e : NodeEvent) → WorldIsRight job (at_node job choice a e n w).world
-    at_node_right choice (Deliver i) = with_there (slice_get w.net i) (λ p. answered a (on_packet job choice p n) w) (λ p e. answered_right a (on_packet job choice p n) (hears_right choice p (got w.net i p e)))
-    at_node_right choice (Exec f) = answered_right a (call.exec_ready job (grant_of f) f.frame n) (exec_ready_right job n own ok (grant_of f) f.frame)
-    at_node_right choice (Whole f most) = answered_right a (call.whole_ready job most (grant_of f) f.frame n) (whole_ready_right job n own ok most (grant_of f) f.frame)
-    at_node_right choice (Ask v) = answered_right a (call.ask job (victim_of v) n) (ask_right job n own (victim_of v))
-    at_node_right choice Resend = answered_right a (call.resend job n) (resend_right job n own)
-    at_node_right choice (Depart heir) = answered_right a (call.depart job heir n) (depart_right job n own heir)
-
-  starts_right : (a word : ℕ) → WorldIsRight job (starts job a word w).world
+  pub starts_right : (a word : ℕ) → WorldIsRight job (starts job a word w).world
   starts_right a word = by_word (can_start a word w)
     where
       by_word : (b : Bool) → WorldIsRight job (cond b (stepped a (call.start job word) (with_used word w)) (same Unfit w)).world
       by_word true = stepped_right a (call.start job word) (with_used word w).used (start_right job word)
       by_word false = right
 
-  crashes_right : (a : ℕ) → WorldIsRight job (record w { nodes = without_node a w.nodes })
+  pub crashes_right : (a : ℕ) → WorldIsRight job (record w { nodes = without_node a w.nodes })
   crashes_right a = record {
     nodes = λ b n at. right.nodes b n (left_there a b n w.nodes at).1;
     house = right.house;
@@ -217,7 +191,7 @@ module _ (job : JobOf) (w : WorldOf) (ok : IsJob job) (tied : Tied job w) (right
   restart_halts_right : (k : ℕ) (bytes : List ℕ) (o : StepResult) → RestartHalts job k bytes w o → WorldIsRight job o.world
   restart_halts_right k bytes o (calls, why, within, e) = rw e (stops_right _)
 
-  house_ends : (e : HouseEvent) (x : HouseAt) → w.house ≡ x → (o : StepResult) → HouseEnds job e x w o → WorldIsRight job o.world
+  pub house_ends : (e : HouseEvent) (x : HouseAt) → w.house ≡ x → (o : StepResult) → HouseEnds job e x w o → WorldIsRight job o.world
   house_ends e (IsUp (Open h)) is o ends = open_ends e h is o ends
   house_ends (at_house.Deliver i) (IsUp (Stopped s)) is o ends = rw ends right
   house_ends (at_house.Tick now) (IsUp (Stopped s)) is o ends = rw ends right
@@ -226,7 +200,7 @@ module _ (job : JobOf) (w : WorldOf) (ok : IsJob job) (tied : Tied job w) (right
   house_ends (at_house.Tick now) Down is o ends = rw ends right
   house_ends at_house.Restart Down is o ends = restarts_right o ends
 
-  house_halts : (e : HouseEvent) (x : HouseAt) (k : ℕ) (bytes : List ℕ) (o : StepResult) → HouseHalts job e x k bytes w o → WorldIsRight job o.world
+  pub house_halts : (e : HouseEvent) (x : HouseAt) (k : ℕ) (bytes : List ℕ) (o : StepResult) → HouseHalts job e x k bytes w o → WorldIsRight job o.world
   house_halts e (IsUp (Open h)) k bytes o halts = open_halts e h k bytes o halts
   house_halts (at_house.Deliver i) (IsUp (Stopped s)) k bytes o halts = absurd halts
   house_halts (at_house.Tick now) (IsUp (Stopped s)) k bytes o halts = absurd halts
@@ -235,32 +209,13 @@ module _ (job : JobOf) (w : WorldOf) (ok : IsJob job) (tied : Tied job w) (right
   house_halts (at_house.Tick now) Down k bytes o halts = absurd halts
   house_halts at_house.Restart Down k bytes o halts = restart_halts_right k bytes o halts
 
-  falls_right : (x : HouseAt) → WorldIsRight job (house_crash x w).world
+  pub falls_right : (x : HouseAt) → WorldIsRight job (house_crash x w).world
   falls_right Down = right
   falls_right (IsUp state) = shut job w right Down _ tt
 
   -- a Cut
-  stopped_right : (e : HouseEvent) (k : ℕ) (bytes : List ℕ) (o : StepResult) → ThenStopped (HouseHalts job e w.house k bytes w) o → WorldIsRight job o.world
+  pub stopped_right : (e : HouseEvent) (k : ℕ) (bytes : List ℕ) (o : StepResult) → ThenStopped (HouseHalts job e w.house k bytes w) o → WorldIsRight job o.world
   stopped_right e k bytes o (before, halts, is) = rw is (shut job before.world (house_halts e w.house k bytes before halts) (IsUp (Stopped by.Device)) before.world.disk tt)
 
-  ended_right : (c : CutOf) (o : StepResult) → ThenCut c.bytes (HouseEnds job c.event w.house w) o → WorldIsRight job o.world
+  pub ended_right : (c : CutOf) (o : StepResult) → ThenCut c.bytes (HouseEnds job c.event w.house w) o → WorldIsRight job o.world
   ended_right c o (before, done, is) = rw is (shut job before.world (house_ends c.event w.house refl before done) (IsUp (Stopped by.Device)) (settled_by c.bytes before.world.disk) tt)
-
-  cut_right : (c : CutOf) (o : StepResult) → IsCut job c w o → WorldIsRight job o.world
-  cut_right c o (inl (none, is)) = rw is right
-  cut_right c o (inr (can, applies, inl (n, makes, few, cut))) = ended_right c o cut
-  cut_right c o (inr (can, applies, inr halts)) = stopped_right c.event c.calls c.bytes o halts
-
-  pub step_right : (e : Event) (o : StepResult) → Step job e w o → WorldIsRight job o.world
-  step_right (Start a word) o (inl e) = rw e (starts_right a word)
-  step_right (AtNode a e) o (inl x) = rw (x.2) (with_there (node_in a w.nodes) (λ n. at_node job x.0 a e n w) (λ n there. at_node_right a n there x.0 e))
-  step_right (Crash a) o (inl e) = rw e (with_there (node_in a w.nodes) _ (λ n there. crashes_right a))
-  step_right (AtHouse e) o (inl done) = house_ends e w.house refl o done
-  step_right HouseCrash o (inl e) = rw e (falls_right w.house)
-  step_right (Cut c) o (inl cut) = cut_right c o cut
-  step_right (AtHouse e) o (inr (k, bytes, cause, halts)) = house_halts e w.house k bytes o halts
-  step_right (Cut c) o (inr (can, restart, some, halts)) = stopped_right c.event 0 c.bytes o halts
-  step_right HouseCrash o (inr x) = absurd x
-  step_right (Start a word) o (inr x) = absurd x
-  step_right (AtNode a e) o (inr x) = absurd x
-  step_right (Crash a) o (inr x) = absurd x

@@ -10,10 +10,12 @@
 //!
 //! A world is *tied* (specs/Shown) where there are tables that come of a run of right moves and show it: each node that is up by
 //! the rows of its name, the open clearinghouse by those of its own, each packet that was sent, each value that was put into a
-//! slot, and the record that the disk keeps whatever a crash leaves. A first world is tied, and each step leads from a tied world to
-//! a tied one, whatever the event (`steps_are_moves`). So what is true of tables after every list of moves is true of the worlds of
-//! every run: no grant has two live holders, no slot was filled twice, and a recorded outcome is the job's meaning
-//! (`tied_worlds_are_safe`, `worlds_of_runs_are_safe`).
+//! slot, and the record that the disk keeps whatever a crash leaves. Large Offers go in Pieces, of which tables know nothing. So a
+//! world is *sound* (specs/Sound) where it is cut from a world of whole packets that is tied, with one Offer for each grant and hop,
+//! and that agrees with the serial meaning. A first world is sound, and each step leads from a sound world to a sound one, whatever
+//! the event (`steps_are_moves`, proofs/Wholes). So what is true of tables after every list of moves is true of the worlds of every
+//! run: no grant has two live holders, no slot was filled twice, and a recorded outcome is the job's meaning
+//! (`sound_worlds_are_safe`, `worlds_of_runs_are_safe`).
 //!
 //! What a node does is said by `node_moves`, what the clearinghouse does by `house_moves`; here stand the places of nodes, starts and
 //! crashes, the disk over commits, openings, Cuts and crashes (proofs/Disks, Stopping, Opening), and how one actor's moves leave the
@@ -22,10 +24,10 @@
 //!
 //! # Each world agrees with the serial meaning (`agrees`)
 //!
-//! What its packets give away, what is held and not frozen, what Results tell, and each value that was put into a slot. By value
-//! (specs/Right) each step of one actor keeps that, as `actor_agreement` says; that a Result tells the outcome of the task that was
-//! granted follows from the tables to which the world is tied, in which the whole run so far is (`steps_agree`). Where both hold, the
-//! world agrees as a reader of packets and of what is held would say it (`worlds_agree`).
+//! What its packets give away, what is held and not frozen, the parts of Offers that are kept, what Results tell, and each value that
+//! was put into a slot. By value (specs/Right) each step of one actor keeps that, as `actor_agreement` says; that a Result tells the
+//! outcome of the task that was granted follows from the tables to which the world is tied, in which the whole run so far is
+//! (proofs/StepsAgree). So a sound world agrees as a reader of packets and of what is held would say it (`worlds_agree`).
 //!
 //! # Where work is (`loss`)
 //!
@@ -42,7 +44,7 @@ mod loss;
 mod moves;
 mod runs;
 
-pub use agrees::{steps_agree, worlds_agree};
+pub use agrees::worlds_agree;
 pub use loss::nothing_is_lost;
-pub use moves::{steps_are_moves, tied_worlds_are_safe, worlds_of_runs_are_safe};
+pub use moves::{sound_worlds_are_safe, steps_are_moves, worlds_of_runs_are_safe};
 pub use runs::{openings_find_their_store, runs_are_safe};

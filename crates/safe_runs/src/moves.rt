@@ -2,7 +2,7 @@ ghost use Rattle.std.specs.Prelude.{◌≡◌, ℕ, List, ◌∷◌, Some};
 ghost use Rattle.ids.specs.Names.{Grant};
 ghost use Rattle.ids.specs.declared.outcome.Outcome.{Outcome};
 ghost use Rattle.disk.specs.Device.{Device};
-ghost use Rattle.serial_meaning.specs.Job.{JobOf, meaning_of};
+ghost use Rattle.serial_meaning.specs.Job.{JobOf, IsJob, meaning_of};
 ghost use Rattle.event_script.specs.declared.event.Event.{Event};
 ghost use Rattle.run_tables.specs.Tables.{◌∈◌};
 ghost use Rattle.world_steps.specs.Answers.{StepResult};
@@ -10,29 +10,32 @@ ghost use Rattle.world_steps.specs.Runs.{CanBegin, Entry, Runs};
 ghost use Rattle.world_steps.specs.Safe.{FilledOnce, Stays};
 ghost use Rattle.world_steps.specs.Steps.{Step};
 ghost use Rattle.world_steps.specs.World.{Holder, WorldOf, first_over, recorded};
-ghost use Rattle.safe_runs.specs.Shown.{Tied, TiedSince};
+ghost use Rattle.safe_runs.specs.Sound.{IsSound, SoundSince};
 
-/// The first world over a disk on which a run of a job can begin is one that tables show; and each step, of whatever event, leads
-/// from such a world to such a world: the tables after it come of those before by moves that may be made. So each world of a run is
-/// one. Does nothing.
+/// The first world over a disk on which a run of a job can begin is sound: it is cut from a world of whole packets that tables show.
+/// Each step, of whatever event, leads from such a world to such a world: the tables after it come of those before by moves that may
+/// be made. So each world of a run is one. Does nothing.
 pub fn steps_are_moves()
-    ensures first { (job : JobOf) (d : Device) → CanBegin job d → Tied job (first_over d) }
-    ensures step { (job : JobOf) (w : WorldOf) (e : Event) (o : StepResult) → (tied : Tied job w)
-        → Step job e w o → TiedSince job tied.view o.world }
+    ensures first { (job : JobOf) (d : Device) → CanBegin job d → IsSound job (first_over d) }
+    ensures step { (job : JobOf) (w : WorldOf) (e : Event) (o : StepResult) → (sound : IsSound job w)
+        → IsJob job
+        → Step job e w o
+        → SoundSince job sound.tied.view o.world }
     ensures runs { (job : JobOf) (d : Device) (entries : List Entry) (worlds : List WorldOf) (v : WorldOf)
+        → IsJob job
         → CanBegin job d
         → Runs job (first_over d) entries worlds
         → v ∈ worlds
-        → Tied job v }
+        → IsSound job v }
 {}
 
-/// In a world that tables show, no grant has two live holders, no slot was filled twice, and a recorded outcome is the job's
-/// meaning. Does nothing.
-pub fn tied_worlds_are_safe()
-    ensures holder { (job : JobOf) (w : WorldOf) (g : Grant) (a b : ℕ) → Tied job w → Holder w a g
+/// In a sound world no grant has two live holders, no slot was filled twice, and a recorded outcome is the job's meaning. Does
+/// nothing.
+pub fn sound_worlds_are_safe()
+    ensures holder { (job : JobOf) (w : WorldOf) (g : Grant) (a b : ℕ) → IsSound job w → Holder w a g
         → Holder w b g → a ≡ b }
-    ensures once { (job : JobOf) (w : WorldOf) → Tied job w → FilledOnce w.fills }
-    ensures outcome { (job : JobOf) (w : WorldOf) (o : Outcome) → Tied job w → recorded w ≡ Some o
+    ensures once { (job : JobOf) (w : WorldOf) → IsSound job w → FilledOnce w.fills }
+    ensures outcome { (job : JobOf) (w : WorldOf) (o : Outcome) → IsSound job w → recorded w ≡ Some o
         → o ≡ meaning_of job }
 {}
 
@@ -42,6 +45,7 @@ pub fn tied_worlds_are_safe()
 pub fn worlds_of_runs_are_safe()
     ensures holder { (job : JobOf) (d : Device) (entries : List Entry) (worlds : List WorldOf) (v : WorldOf)
         (g : Grant) (a b : ℕ)
+        → IsJob job
         → CanBegin job d
         → Runs job (first_over d) entries worlds
         → v ∈ worlds
@@ -49,18 +53,21 @@ pub fn worlds_of_runs_are_safe()
         → Holder v b g
         → a ≡ b }
     ensures once { (job : JobOf) (d : Device) (entries : List Entry) (worlds : List WorldOf) (v : WorldOf)
+        → IsJob job
         → CanBegin job d
         → Runs job (first_over d) entries worlds
         → v ∈ worlds
         → FilledOnce v.fills }
     ensures outcome { (job : JobOf) (d : Device) (entries : List Entry) (worlds : List WorldOf) (v : WorldOf)
         (o : Outcome)
+        → IsJob job
         → CanBegin job d
         → Runs job (first_over d) entries worlds
         → v ∈ worlds
         → recorded v ≡ Some o
         → o ≡ meaning_of job }
     ensures stays { (job : JobOf) (d : Device) (entries : List Entry) (worlds : List WorldOf)
+        → IsJob job
         → CanBegin job d
         → Runs job (first_over d) entries worlds
         → Stays (first_over d ∷ worlds) }

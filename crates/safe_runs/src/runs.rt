@@ -22,6 +22,7 @@ pub fn runs_are_safe()
 /// or a store of another version (E73). So it is of a Cut of an opening. Does nothing.
 pub fn openings_find_their_store()
     ensures { (job : JobOf) (d : Device) (entries : List Entry) (worlds : List WorldOf) (x : Entry)
+        → IsJob job
         → CanBegin job d
         → Runs job (first_over d) entries worlds
         → x ∈ entries

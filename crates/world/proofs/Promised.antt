@@ -6,8 +6,8 @@ use Rattle.event_script.specs.declared.event.Event.TheVariants.{Start, AtNode, C
 use Rattle.serial_meaning.specs.Job.{JobOf, IsJob}
 use Rattle.clearinghouse.specs.House.{Stopped}
 use Rattle.run_tables.specs.Tables.{◌∈◌}
-use Rattle.safe_runs.proofs.Events.{first_tied}
 use Rattle.safe_runs.proofs.Finding.{openings_find}
+use Rattle.safe_runs.proofs.Going.{first_sound}
 use Rattle.safe_runs.proofs.Sound.{all_safe, each_safe}
 use Rattle.world_steps.specs.Answers.{StepResult}
 use Rattle.world_steps.specs.Calls.{LacksMemoryBehind, WorldOn}
@@ -76,5 +76,5 @@ module _ (job : JobOf) where
           run = run;
           safe = all_safe job ok run.disk run.entries run.worlds can run.runs;
           last = end_safe events done stopped last v (each_safe job ok run.disk run.entries run.worlds can run.runs last (last_there (first_over run.disk) run.worlds)) run.ends;
-          openings = openings_find job (first_over run.disk) run.entries run.worlds run.runs (first_tied job run.disk can);
+          openings = openings_find job ok (first_over run.disk) run.entries run.worlds run.runs (first_sound job run.disk can);
         }

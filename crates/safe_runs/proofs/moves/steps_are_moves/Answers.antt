@@ -1,12 +1,12 @@
-use Rattle.safe_runs.specs.Shown.{tied_here}
-use Rattle.safe_runs.proofs.Events.{first_tied, run_tied, step_tied}
+use Rattle.safe_runs.specs.Sound.{sound_here}
+use Rattle.safe_runs.proofs.Going.{first_sound, run_sound, step_sound}
 use Rattle.safe_runs.proofs.moves.steps_are_moves.Goals as goal
 
 pub returns-clause-first : goal.returns-clause-first
-returns-clause-first c = λ job d can. first_tied job d can
+returns-clause-first c = λ job d can. first_sound job d can
 
 pub returns-clause-step : goal.returns-clause-step
-returns-clause-step c = λ job w e o tied step. step_tied job tied.view w (tied_here tied) e o step
+returns-clause-step c = λ job w e o sound ok step. step_sound job ok sound.tied.view w (sound_here sound) e o step
 
 pub returns-clause-runs : goal.returns-clause-runs
-returns-clause-runs c = λ job d entries worlds v can runs m. run_tied job d entries worlds v can runs m
+returns-clause-runs c = λ job d entries worlds v ok can runs m. run_sound job ok d entries worlds v can runs m

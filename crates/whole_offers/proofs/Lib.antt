@@ -1,0 +1,10 @@
+pub mod Cutting
+pub mod Gathering
+pub mod Rows
+pub mod Calls
+pub mod OneOffer
+pub mod Shown
+pub mod Right
+pub mod Steps
+pub mod Wires
+pub mod Uncut
