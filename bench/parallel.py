@@ -111,11 +111,17 @@ def openmp(folder):
 
 
 def crashed():
-    """How much later the answer comes where one of four nodes crashes after 50 events, and where each crashes twice."""
+    """How much later the answer comes where one of four nodes crashes or leaves, soon or in the midst, and where each crashes twice."""
     words = (PROGRAM, "run", f"{EXAMPLES}/fib.ck", "--turns", MANY, "--grain", "100000", "--nodes", "4")
     print("\n| FIB 36 on 4 nodes | ms |\n|---|---|")
-    for name, count in ("no fault", "0"), ("one crashes after 50 events", "1"), ("each crashes twice, one every 50 events", "8"):
-        print(f"| {name} | {timed(*words, '--crash', count, '36')[0] * 1e3:.0f} |", flush=True)
+    stats = subprocess.run((*words, "--stats", "36"), capture_output=True, text=True).stderr
+    # (some two events come for each that carries out a frame)
+    midst = "--after", str(count(stats, "turns") + count(stats, "tasks evaluated whole"))
+    for name, *faults in (
+        ("no fault",), ("one crashes after 50 events", "--crash", "1"), ("each crashes twice, one every 50 events", "--crash", "8"),
+        ("one crashes in the midst", "--crash", "1", *midst), ("one leaves in the midst", "--depart", "1", *midst),
+    ):
+        print(f"| {name} | {timed(*words, *faults, '36')[0] * 1e3:.0f} |", flush=True)
 
 
 print("| job | how | ms | times as fast as `serial` | turns, or evaluated for each needed | events that carry out frames | processors busy |")

@@ -40,8 +40,18 @@ COMB = (
     "thread sum(k,x,y){send_argument(k,x+y);}"
     "thread fib(k,n){if n<2{send_argument(k,n);}else{spawn_next sum(k,?x,?y);spawn fib(x,n-1);spawn fib(y,n-2);}}"
 )
+# A chain of which each level has six kids beside, which wait while a node takes its newest frame first.
+BROAD = (
+    "thread main(k,n){if n<1{send_argument(k,1);}else{spawn_next sum(k,?a,?b,?c,?d,?e,?f,?g);"
+    "spawn one(a);spawn one(b);spawn one(c);spawn one(d);spawn one(e);spawn one(f);spawn main(g,n-1);}}"
+    "thread one(k){send_argument(k,1);}"
+    "thread sum(k,a,b,c,d,e,f,g){send_argument(k,a+b+c+d+e+f+g);}"
+)
 # So many turns: a run that takes more ends with E95.
 TURNS = "100000000"
+# So many where a node may leave to one that is leaving itself. Then what it held is done again once it is taken for dead, behind 500 events, and
+# idle nodes make few: such a run, one in some hundred, is made again.
+FEWER_TURNS = "20000000"
 # So many bytes of stack.
 STACK = 512 * 1024
 # A library by which one of the threads that a program makes, told by its number, begins so many seconds late, or is
@@ -149,10 +159,14 @@ def faulty(folder, bodies):
     tell(5 * vain <= 2 * leave + 10, f"{bodies} bodies: {vain} of {leave} nodes that leave do so to one that has crashed")
 
 
-def traced(folder, name, value, *words):
-    """The lines of the trace of a run that has a value, and replays to it; none where it doesn't."""
+def traced(folder, name, value, *words, turns=TURNS, tries=1):
+    """The lines of the trace of a run that has a value, and replays to it; none where it doesn't. It is made so often at most where its turns
+    don't suffice."""
     trace = f"{folder}/{name}"
-    status, out, err = called(PROGRAM, "run", FIB, "--turns", TURNS, "--trace", trace, *words)
+    for _ in range(tries):
+        status, out, err = called(PROGRAM, "run", FIB, "--turns", turns, "--trace", trace, *words)
+        if err != "cilknow: E95\n":
+            break
     good = (status, out) == (0, f"value {value}\n")
     tell(good, f"{name}: {status} {out}{err}")
     if not good:
@@ -226,7 +240,8 @@ def departures(folder):
     for word in range(1, 9):
         log = f"{folder}/log {word}"
         lines = traced(
-            folder, f"departures {word}", 144, "--nodes", "4", "--depart", "3", "--faults", str(word), "--log", log, "12")
+            folder, f"departures {word}", 144, "--nodes", "4", "--depart", "3", "--faults", str(word), "--log", log, "12", turns=FEWER_TURNS,
+            tries=4)
         with open(log) as it:
             logged = it.read().splitlines()
         asked = [line for line in lines if line.split()[0] in ("start", "crash", "depart")]
@@ -234,6 +249,33 @@ def departures(folder):
         tell(sum("depart" in line for line in logged) <= 3, f"departures {word}: {logged}")
         refused += len(asked) - len(logged)
     tell(refused > 0, "departures: none was refused")
+
+
+def in_pieces(folder):
+    """A node that leaves in the midst of a run with more than goes in one packet, under loss and repeats: its Offer goes in Pieces, of which
+    some are lost and some come twice or behind later ones, and is accepted. Who holds that much depends on the threads' times, so it is run
+    until three did, at most 40 times."""
+    file = f"{folder}/broad.ck"
+    with open(file, "w") as out:
+        out.write(BROAD)
+    accepted = 0
+    for word in range(1, 41):
+        if accepted >= 3:
+            break
+        trace = f"{folder}/in pieces {word}"
+        status, out, err = called(
+            PROGRAM, "run", file, "--nodes", "2", "--lose", "5", "--repeat", "5", "--depart", "1", "--after", "700", "--faults", str(word), "--turns",
+            TURNS, "--trace", trace, "250")
+        tell((status, out) == (0, "value 1501\n"), f"in pieces {word}: {status} {out}{err}")
+        _, told, _ = called(PROGRAM, "replay", file, trace, "--packets", "250")
+        tell(told.endswith("\noutcome value 1501\n"), f"in pieces {word}: the trace has another outcome")
+        left = re.search(r"^\d+  depart \d+ \d+: .*?Piece (\S+) from (\d+) to (\d+): hop (\d+), part 1 of (\d+), 65536 bytes", told, re.M)
+        if left:
+            grant, sender, heir, hop, parts = left.groups()
+            whole = [f"Piece {grant} from {sender} to {heir}: hop {hop}, part {part} of {parts}," in left.string for part in range(1, int(parts) + 1)]
+            tell(len(whole) >= 2 and all(whole), f"in pieces {word}: not all {parts} Pieces are sent")
+            accepted += bool(re.search(rf"OfferAck {grant} from {heir} to {sender}: hop {hop}$", told, re.M))
+    tell(accepted >= 3, f"in pieces: {accepted} Offers are accepted")
 
 
 def crashes(folder):
@@ -417,7 +459,7 @@ def rows():
 def refused():
     """Words that disagree, and turns that don't suffice."""
     for words in (("--nodes", "0"), ("--nodes", "65"), ("--bodies", "9"), ("--bodies", "0"), ("--bodies", "x"), ("--nodes", "4", "--depart", "4"),
-                  ("--depart", "1"), ("--lose", "-1"), ("--faults", "x")):
+                  ("--depart", "1"), ("--lose", "-1"), ("--faults", "x"), ("--after", "-1")):
         tell(called(PROGRAM, "run", FIB, *words, "5") == (2, "", "cilknow: usage\n"), f"{' '.join(words)}: no fault of usage")
     tell(called(PROGRAM, "run", FIB, "--nodes", "2", "--turns", "100", "20") == (3, "", "cilknow: E95\n"), "100 turns suffice")
     for option in ("--trace", "--log"):
@@ -435,6 +477,7 @@ with tempfile.TemporaryDirectory() as folder:
     in_flight(folder)
     crashes(folder)
     departures(folder)
+    in_pieces(folder)
     shares(folder)
     wholes(folder)
     kept_values(folder)

@@ -225,6 +225,12 @@ fn with_fault_words<'a>(alloc: Global, command: Command<'a>) -> Result<Command<'
             "depart",
             "0",
             "So many nodes leave, fewer than there are",
+        ))?
+        .arg(number_word(
+            alloc,
+            "after",
+            "0",
+            "So many events come before the crashes and departures",
         ))
 }
 
@@ -340,6 +346,7 @@ fn faults_of(matches: &ArgMatches<'_>) -> Option<Faults> {
         word: matches.get_one("faults")?,
         lose: matches.get_one("lose")?,
         repeat: matches.get_one("repeat")?,
+        after: matches.get_one("after")?,
         crashes: matches.get_one("crash")?,
         departures: matches.get_one("depart")?,
     })

@@ -12,6 +12,8 @@ pub struct Faults {
     pub lose: u64,
     /// One packet in so many comes twice; none for 0.
     pub repeat: u64,
+    /// How many events are committed before those are counted after which crashes and departures come.
+    pub after: u64,
     /// How many crashes of nodes come, one after each 50 events.
     pub crashes: u64,
     /// How many nodes leave, the first one 25 events after the first crash, and one after each 50 events.
@@ -25,6 +27,7 @@ impl Faults {
             word: 0,
             lose: 0,
             repeat: 0,
+            after: 0,
             crashes: 0,
             departures: 0,
         }

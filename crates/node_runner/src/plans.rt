@@ -8,10 +8,12 @@ const CRASH: u64 = 50;
 const DEPARTURE: u64 = 25;
 
 /// The crashes and the departure that are planned for a place. Crash i of the run falls on the place i modulo the count of nodes, once 50 i
-/// events were committed; departure i on the place that many before the last one's end, once 50 i + 25 were.
+/// events were committed beyond those that come before all faults; departure i on the place that many before the last one's end, once
+/// 50 i + 25 were.
 #[derive(Clone, Copy)]
 pub(crate) struct Plans {
     nodes: u64,
+    after: u64,
     crashes: u64,
     crash: u64,
     departure: Option<u64>,
@@ -26,10 +28,16 @@ impl Plans {
         let departure = nodes.saturating_sub(place);
         Plans {
             nodes,
+            after: faults.after,
             crashes: faults.crashes,
             crash: if place == 0 { nodes } else { place },
             departure: if departure <= faults.departures {
-                Some(departure.saturating_mul(CRASH).saturating_add(DEPARTURE))
+                Some(
+                    departure
+                        .saturating_mul(CRASH)
+                        .saturating_add(DEPARTURE)
+                        .saturating_add(faults.after),
+                )
             } else {
                 None
             },
@@ -39,7 +47,8 @@ impl Plans {
 
     /// Whether the next crash is due, after so many events; it is over then.
     pub(crate) fn crashes(&mut self, events: u64) -> bool {
-        if self.crash > self.crashes || events < self.crash.saturating_mul(CRASH) {
+        let due = self.crash.saturating_mul(CRASH).saturating_add(self.after);
+        if self.crash > self.crashes || events < due {
             return false;
         }
         self.crash = self.crash.saturating_add(self.nodes);
