@@ -8,7 +8,8 @@ their order. Their bytes are joined and cut anew here, and come to another node,
 where it isn't said, by the word SEED): with parts that come again, parts of other hops, other senders and other counts beside them, and
 rosters that show a sender dead. What the heir has to answer is said by a model of the rules in this file, which knows nothing of the
 program. In the end the heir holds what it holds by the Pieces that were sent. Then each growth of memory is refused in turn that the last
-two Pieces of an Offer meet: that has to be answered E63, and the same Piece then as ever.
+two Pieces of an Offer meet: that has to be answered E63, and the same Piece then as ever. And one Offer has more than 100,000 frames: of its
+Pieces, as they were sent and sent again, one in five is lost and one in five comes twice, in an order that the dice choose.
 
 The last line counts; the status is 1 where anything failed.
 """
@@ -20,7 +21,7 @@ import tempfile
 from concurrent.futures import ThreadPoolExecutor
 
 import play_all
-from common import Tally
+from common import Tally, module_in
 
 PROGRAM = (
     "thread main(k, n) { if n < 1 { send_argument(k, 0); } else { spawn_next inc(k, ?x); spawn main(x, n - 1); } } "
@@ -31,6 +32,9 @@ PART = 65_536
 JOINS = (346, 700, 1_000)
 MEMBERS = "2..3:live,4:live,5:live"
 GRANT = "house:1/1"
+# So many turns leave more than 100,000 frames: eight more each.
+MANY_TURNS = 12_600
+MANY_GRANT = "4/1"
 
 
 def head(joins):
@@ -49,6 +53,35 @@ def head(joins):
         "start 3",
         f"give 3 Roster epoch=1 version=1 members={MEMBERS} to=3 job=7",
     ]
+
+
+def many_given(dice, sent):
+    """Of the packets that were sent, those that come, in their order: one in five is lost, and one in five comes twice."""
+    fates = [dice.choice((0, 1, 1, 1, 2)) for _ in sent]
+    given = [number for number, fate in zip(range(len(sent)), fates) for _ in range(fate)]
+    return dice.sample(given, len(given))
+
+
+def many_frames(dice, played):
+    """Whether an Offer of more than 100,000 frames is taken once, as it is where its Pieces come in order; and what is wrong with it."""
+    bench = module_in("bench", "pieces")
+    leaves = [*bench.BEGUN, *bench.built(1, MANY_TURNS, 10), "full", "depart 2 3", "resend 2", "start 3"]
+    leaves.append(f"give 3 Roster epoch=1 version=1 {bench.MEMBERS} to=3 job=7")
+    said = [it for it in played("many", leaves) if it.startswith("> #")]
+    sent = [it for it in said if " Piece " in it]
+    half = len(sent) // 2
+    parts = [bytes.fromhex(re.search(r" bytes=([0-9a-f]*)", it).group(1)) for it in sent[:half]]
+    names = [it.split()[1] for it in sent]
+    if half < 2 or len(sent) != 2 * half:
+        return False, f"{len(sent)} Pieces"
+    whole = played("many-in-order", [*leaves, *(f"give 3 {it}" for it in names[:half]), "subs 3"])
+    frames = sum(1 + numbers.count(",") for numbers in re.findall(r" (?:ready|waiting)=([0-9,]+)", whole[-1]))
+    heir, given = Heir(b"".join(parts)), [*many_given(dice, parts), *(half + it for it in many_given(dice, parts)), *range(half)]
+    told = [(heir.told(1, 2, half, it % half, parts[it % half]), 2) for it in given]
+    got = played("many-given", [*leaves, *(f"give 3 {names[it]}" for it in given), "subs 3"])
+    wanted = answers(told, len(said), MANY_GRANT) + whole[-1:]
+    differs = next(((a[:80], b[:80]) for a, b in zip(got[-len(wanted) :], wanted) if a != b), None)
+    return differs is None and frames > 100_000, f"{frames} frames, {differs}"
 
 
 class Heir:
@@ -118,13 +151,13 @@ def walk(dice, offer):
     return lines, told, heir
 
 
-def answers(told, sent):
+def answers(told, sent, grant=GRANT):
     """The lines that are wanted, where so many packets were sent before."""
     wanted = []
     for what, sender in told:
         if isinstance(what, int):
             sent += 1
-            wanted.append(f"> #{sent} OfferAck from=3 grant={GRANT} hop={what} to={sender} job=7")
+            wanted.append(f"> #{sent} OfferAck from=3 grant={grant} hop={what} to={sender} job=7")
         else:
             wanted.append(f"> {what}")
     return wanted
@@ -177,6 +210,13 @@ def main(words):
         for good, what in pool.map(one, range(count)):
             tally.tell(good, what)
 
+        def played(name, lines):
+            """What is answered to these lines."""
+            status, printed, fault = play_all.played(program, file_of(name, lines))
+            tally.tell((status, fault) == (0, b""), f"{name}: {status} {fault!r}")
+            return [it for it in printed.decode().split("\n") if it.startswith("> ")]
+
+        tally.tell(*many_frames(random.Random(word), played))
         heap = play_all.compiled(folder)
         joins, offer, said, held = offers[0]
         for order in ((0, 1), (1, 0)):

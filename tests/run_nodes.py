@@ -49,9 +49,6 @@ BROAD = (
 )
 # So many turns: a run that takes more ends with E95.
 TURNS = "100000000"
-# So many where a node may leave to one that is leaving itself. Then what it held is done again once it is taken for dead, behind 500 events, and
-# idle nodes make few: such a run, one in some hundred, is made again.
-FEWER_TURNS = "20000000"
 # So many bytes of stack.
 STACK = 512 * 1024
 # A library by which one of the threads that a program makes, told by its number, begins so many seconds late, or is
@@ -159,14 +156,10 @@ def faulty(folder, bodies):
     tell(5 * vain <= 2 * leave + 10, f"{bodies} bodies: {vain} of {leave} nodes that leave do so to one that has crashed")
 
 
-def traced(folder, name, value, *words, turns=TURNS, tries=1):
-    """The lines of the trace of a run that has a value, and replays to it; none where it doesn't. It is made so often at most where its turns
-    don't suffice."""
+def traced(folder, name, value, *words):
+    """The lines of the trace of a run that has a value, and replays to it; none where it doesn't."""
     trace = f"{folder}/{name}"
-    for _ in range(tries):
-        status, out, err = called(PROGRAM, "run", FIB, "--turns", turns, "--trace", trace, *words)
-        if err != "cilknow: E95\n":
-            break
+    status, out, err = called(PROGRAM, "run", FIB, "--turns", TURNS, "--trace", trace, *words)
     good = (status, out) == (0, f"value {value}\n")
     tell(good, f"{name}: {status} {out}{err}")
     if not good:
@@ -234,21 +227,34 @@ def carried_out(trace, job):
     return [f"[INFO  cilknow] {line}" for line in re.findall(r"^\d+  ((?:start|crash|depart) [^:]*): sends ", out, re.M)]
 
 
+def leaves_to_leaver(logged):
+    """Whether in a log a node leaves to one that leaves or has left."""
+    up, gone = {}, set()
+    for event, place, *words in (line.split("] ")[1].split() for line in logged):
+        if event == "start":
+            up[place] = words[0]
+        elif event == "depart":
+            gone.add(up[place])
+            if words[0] in gone:
+                return True
+    return False
+
+
 def departures(folder):
-    """Nodes that leave, some of them not at once: each departure is logged once, and none that was refused."""
-    refused = 0
-    for word in range(1, 9):
+    """Nodes that leave, some of them not at once: each departure is logged once, and none that was refused; and none leaves to one that leaves
+    or has left, whose work would wait until it is taken for dead."""
+    refused = left = 0
+    for word in range(1, 21):
         log = f"{folder}/log {word}"
-        lines = traced(
-            folder, f"departures {word}", 144, "--nodes", "4", "--depart", "3", "--faults", str(word), "--log", log, "12", turns=FEWER_TURNS,
-            tries=4)
+        lines = traced(folder, f"departures {word}", 144, "--nodes", "4", "--depart", "3", "--faults", str(word), "--log", log, "12")
         with open(log) as it:
             logged = it.read().splitlines()
         asked = [line for line in lines if line.split()[0] in ("start", "crash", "depart")]
         tell(logged == carried_out(f"{folder}/departures {word}", "12"), f"departures {word}: the log has {logged}")
-        tell(sum("depart" in line for line in logged) <= 3, f"departures {word}: {logged}")
-        refused += len(asked) - len(logged)
-    tell(refused > 0, "departures: none was refused")
+        leaves = sum("depart" in line for line in logged)
+        tell(leaves <= 3 and not leaves_to_leaver(logged), f"departures {word}: {logged}")
+        refused, left = refused + len(asked) - len(logged), left + leaves
+    tell(refused > 0 and left > 40, f"departures: {left} nodes left, {refused} events were refused")
 
 
 def in_pieces(folder):

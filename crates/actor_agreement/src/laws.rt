@@ -13,7 +13,7 @@ ghost use Rattle.actor_agreement.specs.Values.{AnswerIsRight, HouseAnswerIsRight
 
 /// A node that agrees does so after each packet that agrees, of whatever kind and wherever it stands, where nothing that it holds has a
 /// record of the next grant that it mints; and after its own calls; and so does what it sends and puts into slots, and a node that
-/// starts. Does nothing.
+/// starts. A departure and a Resend stand here as they would be if each Offer went whole, however long its bytes are. Does nothing.
 pub fn what_a_node_does_agrees()
     ensures packets { (job : JobOf) (n : NodeOf) (choice : Option Candidate) (p : PacketOf)
         → NodeIsRight job n

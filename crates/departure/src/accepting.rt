@@ -1,4 +1,4 @@
-ghost use Rattle.std.specs.Prelude.{◌≡◌, ◌<◌, ◌&&◌, ◌||◌, ◌++◌, not, nat_eq, IfOk, IfSome, IsTrue, MatchBool, MatchOption, OnOk, is_some, map};
+ghost use Rattle.std.specs.Prelude.{◌≡◌, ◌<◌, ◌&&◌, ◌||◌, ◌++◌, not, nat_eq, IfOk, IsPermutation, IfSome, IsTrue, MatchBool, MatchOption, OnOk, is_some, map};
 ghost use Rattle.std.specs.List.{list_all};
 ghost use Rattle.ids.specs.Named.{item_in};
 ghost use Rattle.ids.specs.Naming.{name_of_frame, name_of_grant, name_of_record};
@@ -33,8 +33,8 @@ use victim_records::Records;
 /// these have numbers or slots. Unless it is finished, it also has to fit together and be foreign: no two of its frames and
 /// records have one number; each value that is awaited, that of the whole and one for each empty slot, is owed once, by a
 /// frame or a record, and nothing else is owed; and no grant of its records was minted at this node, nor does a
-/// subcomputation here have a record of it. With n frames, records and slots in it and in the records here, that takes time
-/// n log n.
+/// subcomputation here have a record of it. With n frames, records and slots in it, that takes time n log n; the grants of the
+/// records here are put in order once more.
 pub fn accept_offer(
     alloc: Global,
     checked: &Checked,
@@ -236,10 +236,21 @@ fn add_empty(awaited: &mut Listed<Mark>, frame: &Frame) -> Result<(), AllocError
 fn are_same(alloc: Global, left: &[Mark], right: &[Mark]) -> Result<bool, AllocError>
     ensures { IfOk result (λ same. same ≡ fitting.same_once links.same_name left.now right.now) }
 {
-    match kept(alloc, left)? {
-        Some(mut rest) => Ok(take_each(&mut rest, right) && rest.len() == 0),
+    let left = sorted(alloc, left)?;
+    let right = sorted(alloc, right)?;
+    match kept(alloc, left.as_slice())? {
+        Some(mut rest) => Ok(take_each(&mut rest, right.as_slice()) && rest.len() == 0),
         None => Ok(false),
     }
+}
+
+/// These names, rising: so they are put behind the others, and taken from the end of what is left, where no other has to move.
+fn sorted(alloc: Global, names: &[Mark]) -> Result<Vec<Mark>, AllocError>
+    ensures { IfOk result (λ sorted. IsPermutation names.now sorted.items) }
+{
+    let mut sorted: Vec<Mark> = names.iter().copied().collect(alloc)?;
+    sorted.sort_unstable_by_key(|mark| mark.name);
+    Ok(sorted)
 }
 
 /// These names in a map; none where one of them stands there twice.
@@ -256,8 +267,7 @@ fn kept(alloc: Global, names: &[Mark]) -> Result<Option<SortedMap<Mark>>, AllocE
     Ok(Some(kept))
 }
 
-/// Takes names away, from the last one on, up to the first that isn't there any more; whether all of them were there. Names that
-/// rise, as those of frames and records do, are taken from the end of what is left, where no other has to move.
+/// Takes names away, from the last one on, up to the first that isn't there any more; whether all of them were there.
 fn take_each(rest: &mut SortedMap<Mark>, names: &[Mark]) -> bool
     ensures { MatchBool result (links.AreTaken names.now rest.old rest.new) (links.HasMore names.now rest.old) }
 {

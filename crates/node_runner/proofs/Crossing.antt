@@ -40,6 +40,8 @@ use Rattle.serial_meaning.specs.contracts.whole.Whole as Whole
 use Rattle.serial_meaning.specs.contracts.keeping.UnderWay as UnderWay
 use Rattle.node_runner.specs.contracts.turn.Finished as Finished
 use Rattle.node_runner.specs.contracts.kept.KeptValues as KeptValues
+use Rattle.node_runner.specs.contracts.large.LargeTasks as LargeTasks
+use Rattle.node_runner.specs.contracts.leavers.Leavers as Leavers
 use Rattle.node_runner.specs.contracts.line.Line as Line
 use Rattle.node_runner.specs.contracts.pace.Pace as Pace
 use Rattle.node_runner.specs.contracts.shared.Shared as Shared
@@ -54,6 +56,9 @@ board = search (sendable, once.the_sync, outcome.the_sync, outcome.the_send, cro
 pub pace : IsSync Pace.the_row
 pace = search (sendable, crosses) depth 25
 
+pub leavers : IsSync Leavers.the_row
+leavers = search (sendable, crosses) depth 25
+
 pub shared : (s a : NamedLft) (G : RattleType) → IsSync G → IsSync (Shared.the_row s a G)
 shared s a G y = recorded_sync (Shared.the_field s a G).row _ _ (Shared.the_type s a G).to_one (struct_sync (shape (Shared.the_type s a G)) (
   search (sendable, chronicle) depth 12,
@@ -66,10 +71,13 @@ shared s a G y = recorded_sync (Shared.the_field s a G).row _ _ (Shared.the_type
         (
           search (sendable, pace) depth 12,
           (
-            search (sendable, config.the_sync) depth 12,
+            search (sendable, leavers) depth 12,
             (
-              search (sendable, y) depth 12,
-              tt,
+              search (sendable, config.the_sync) depth 12,
+              (
+                search (sendable, y) depth 12,
+                tt,
+              ),
             ),
           ),
         ),
@@ -128,6 +136,9 @@ kept = search (sendable, wholes, crosses) depth 25
 home_field : IsSend (Home.the_field).row
 home_field = struct_send (shape Home.the_type) (line_field, (search (sendable, kept) depth 12, tt))
 
+large_field : IsSend (LargeTasks.the_field).row
+large_field = struct_send (shape LargeTasks.the_type) (search (sendable, under_ways) depth 12, (search (sendable, crosses) depth 12, (search (sendable, crosses) depth 12, tt)))
+
 own : IsSend (Owner.the_row Ticket.the_row)
 own = search (sendable, owner.the_send, ticket) depth 25
 
@@ -149,7 +160,7 @@ desk_field = struct_send (shape Desk.the_type) (
         (
           search (sendable, budget.the_send) depth 12,
           (
-            search (sendable, under_ways) depth 12,
+            large_field,
             (
               search sendable depth 12,
               (

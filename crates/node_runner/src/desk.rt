@@ -6,6 +6,7 @@ ghost use Rattle.node_runner.specs.Turns.{IsFoundOf};
 use crate::bells::Bells;
 use crate::budget::Budget;
 use crate::kept::{KeptValues, LEVELS};
+use crate::large::LargeTasks;
 use crate::line::Line;
 use crate::turn::{Evaluated, Found};
 use chronicle::frame_of;
@@ -13,15 +14,12 @@ use event_script::FrameOf;
 use kind_check::{BlockCode, Checked, EndCode, Leaf};
 use local_pool::Owner;
 use node_core::Work;
-use serial_meaning::{UnderWay, Whole};
+use serial_meaning::Whole;
 use std::alloc::{AllocError, Global};
 use std::sync::{Arc, Wait};
 
 /// How many tickets of a node are out at most for each of its body workers.
 const TICKETS: usize = 2;
-
-/// From how many tasks on that are known to be large older ones are forgotten.
-const MOST_LARGE: usize = 4_096;
 
 /// After how many evaluations in a row that came to their end the next ones keep values on few levels.
 const MOST_ENDED: u64 = 64;
@@ -59,8 +57,7 @@ pub(crate) struct Desk {
     bells: Arc<Bells, Global>,
     workers: usize,
     budget: Budget,
-    // Tasks that were under way where an evaluation didn't come to its end.
-    large: Vec<UnderWay>,
+    large: LargeTasks,
     // On how many levels the next evaluation keeps values, and how many of the last ones came to their end in a row.
     levels: u16,
     ended: u64,
@@ -89,7 +86,7 @@ impl Desk {
             bells,
             workers,
             budget: Budget::new(grain),
-            large: Vec::new(alloc),
+            large: LargeTasks::new(alloc)?,
             levels: LEVELS,
             ended: 0,
             next: 0,
@@ -153,15 +150,11 @@ impl Desk {
         self.budget.is_some() && only_sends(checked.body(work.thread))
     }
 
-    /// Whether a ready frame's task is known to be large. It isn't any more then.
+    /// Whether a ready frame's task is known to be large, which it isn't any more then, or isn't tried, as its thread's tasks are.
     pub(crate) fn was_large(&mut self, work: &Work) -> bool
         ensures { self.new.home ≡ self.old.home }
     {
-        let Some(index) = self.large.iter().position(|task| is_same(task, work)) else {
-            return false;
-        };
-        let _ = self.large.swap_remove(index);
-        true
+        self.large.takes(work) || self.large.passes_over(work.thread)
     }
 
     /// The value of a ready frame's task, where an evaluation kept it. It isn't kept any more then.
@@ -176,30 +169,30 @@ impl Desk {
         Some(whole)
     }
 
-    /// A task was evaluated to its end in so many turns. Where those before it were too, the next ones keep few values.
-    fn ends(&mut self, turns: u64)
+    /// A task was evaluated to its end. Where those before it were too, the next ones keep few values.
+    fn ends(&mut self, whole: &Whole)
         ensures { self.new.home ≡ self.old.home }
     {
-        self.budget.ends(turns);
+        self.budget.ends(whole.turns());
+        self.large.ends(whole.thread());
         self.ended = self.ended.saturating_add(1);
         if self.ended >= MOST_ENDED {
             self.levels = LEVELS;
         }
     }
 
-    /// Tasks were under way where an evaluation didn't come to its end: they are known to be large, as far as there is memory. Those that follow
-    /// keep values on so many levels.
-    fn learns(&mut self, mut large: Vec<UnderWay>, levels: u16)
+    /// A task of a thread was tried in so many turns, and not evaluated to its end. Those that follow keep values on so many levels. Where none
+    /// may be evaluated whole it wasn't tried.
+    fn fails(&mut self, thread: u8, turns: u64, levels: u16)
         ensures { self.new.home ≡ self.old.home }
     {
-        if !large.is_empty() {
-            self.levels = levels;
-            self.ended = 0;
+        if turns == 0 {
+            return;
         }
-        if self.large.len() >= MOST_LARGE {
-            self.large.clear();
-        }
-        let _ = self.large.append(&mut large);
+        self.budget.fails(turns);
+        self.large.fails(thread);
+        self.levels = levels;
+        self.ended = 0;
     }
 
     /// A ticket is out. Whether there was memory.
@@ -227,16 +220,16 @@ impl Desk {
             frame,
             found,
             kept,
-            under_way,
+            large,
             levels,
             vain,
         } = self.home.line.take(rt, checked)?;
         self.removes(ticket);
         match &found {
-            Found::Whole(whole) => self.ends(whole.turns()),
-            Found::Turn(_) => self.budget.fails(vain),
+            Found::Whole(whole) => self.ends(whole),
+            Found::Turn(turn) => self.fails(turn.thread(), vain, levels),
         }
-        self.learns(under_way, levels);
+        self.large.learns(large);
         self.home.kept.add(kept);
         Some(Returned { frame, found })
     }
@@ -261,7 +254,7 @@ impl Desk {
         self.takes_back();
         self.tickets.clear();
         self.frames.clear();
-        self.large.clear();
+        self.large.forgets();
         self.budget.forgets();
         self.home.kept.clear();
     }
@@ -278,13 +271,6 @@ impl Desk {
             let _ = self.frames.swap_remove(index);
         }
     }
-}
-
-/// Whether a task that was under way is a ready frame's.
-fn is_same(task: &UnderWay, work: &Work) -> bool {
-    task.thread == work.thread
-        && task.room == work.room
-        && task.numbers.as_slice() == work.numbers.as_slice()
 }
 
 /// Whether a body gives a number however it ends.

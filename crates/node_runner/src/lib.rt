@@ -3,7 +3,7 @@
 //! **Actors and turns.** Each place of a node has an actor, and so has the clearinghouse. An actor takes turn after turn, until the outcome is
 //! known or all turns are taken. In a turn a node takes the next packet that is addressed to it, else it commits a turn that came back from a
 //! body worker, else it offers a ready frame to them or takes its turn itself, else it asks the clearinghouse or a live member for work. A node
-//! sends again after 16 turns with nothing done, then after twice as many each time, up to 4,096; and where 100 events were committed since.
+//! sends again after 16 turns with nothing done, then after twice as many each time, up to 512; and where 100 events were committed since.
 //! The clearinghouse takes its packets, and ticks where 100 events were committed since. One whose node has been declared dead starts another,
 //! with a new word. A node that sent again holds while another actor is behind it, so that none is taken for dead because its thread is slow.
 //!
@@ -18,7 +18,7 @@
 //!
 //! **Faults** are drawn from one word, for each place by itself: packets that are lost and that come twice (`Fates`), and whom a node asks.
 //! Crash i comes once 50 i events were committed, on the place i modulo the count of nodes; departure i once 50 i + 25 were, on the i-th
-//! place from the end.
+//! place from the end. It leaves to one that doesn't leave itself, and waits while another node leaves to it (`Leavers`).
 //!
 //! **A store** keeps a job's outcome over runs: `run_stored` answers the one that is kept there; else it runs the job, and keeps its outcome
 //! before it answers it.
@@ -43,6 +43,8 @@ mod gate;
 mod house;
 mod inbox;
 mod kept;
+mod large;
+mod leavers;
 mod line;
 mod members;
 mod muster;

@@ -1,3 +1,4 @@
+use crate::leavers::Leavers;
 use codec::{Body, ReadError, decode};
 use event_script::Asked;
 use ids::{Member, Status};
@@ -75,12 +76,12 @@ impl Members {
         }
     }
 
-    /// To whom a node of a start word may leave: of the other live members the one that it asked last, as that one was there a while ago; else
-    /// the one that started last, as those that crashed started before.
-    pub(crate) fn heir(&self, word: u64) -> Option<u64> {
+    /// To whom a node of a start word may leave: of the other live members that don't leave themselves the one that it asked last, as that one
+    /// was there a while ago; else the one that started last, as those that crashed started before.
+    pub(crate) fn heir(&self, word: u64, leavers: &Leavers) -> Option<u64> {
         let mut heir = None;
         for member in &self.listed {
-            if is_other(member, word) {
+            if is_other(member, word) && !leavers.leaves(member.incarnation.word()) {
                 heir = Some(member.incarnation.word());
                 if heir == self.asked {
                     break;

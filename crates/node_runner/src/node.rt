@@ -29,7 +29,7 @@ use world_steps::EventAnswer;
 /// After how many turns in a row with nothing done a node sends again, at first and at most.
 const PATIENCE: u64 = 16;
 
-const MOST_PATIENCE: u64 = 4096;
+const MOST_PATIENCE: u64 = 512;
 
 /// How many events may be committed until a node sends again.
 const SILENCE: u64 = 100;
@@ -310,8 +310,8 @@ fn does<'a, R: Wait, G: Gate + Sync>(
     Some(committed.told)
 }
 
-/// The node leaves to another live member, if there is one and it may. It takes its tickets back before, and offers them again
-/// where it may not leave. Whether there was memory.
+/// The node leaves to another live member, if there is one that doesn't leave itself, none leaves to this one, and it may. It takes its
+/// tickets back before, and offers them again where it may not leave. Whether there was memory.
 fn departs<'a, R: Wait, G: Gate + Sync>(
     rt: &R,
     shared: &Shared<'_, 'a, G>,
@@ -323,9 +323,12 @@ fn departs<'a, R: Wait, G: Gate + Sync>(
     ensures seat { IsSeatIn shared.entry.now.chronicle.now seat.new }
     ensures home { desk.new.home ≡ desk.old.home }
 {
-    let Some(heir) = node.members.heir(node.word) else {
+    let Some(heir) = node.members.heir(node.word, shared.leavers) else {
         return true;
     };
+    if !shared.leavers.begins(node.index(), node.word, heir) {
+        return true;
+    }
     desk.takes_back();
     node.may_be_ready = true;
     node.next = None;
@@ -334,7 +337,10 @@ fn departs<'a, R: Wait, G: Gate + Sync>(
             node.leaves = true;
             true
         }
-        Some(_) => true,
+        Some(_) => {
+            shared.leavers.stays(node.index());
+            true
+        }
         None => false,
     }
 }
@@ -365,6 +371,7 @@ fn sends_again<'a, R: Wait, G: Gate + Sync>(
     (node.rested, node.patience) = (rested, patience);
     match told {
         EventAnswer::Refused(NodeError::NotJoined) if node.leaves => {
+            shared.leavers.ends(node.index());
             node.is_over = true;
             true
         }

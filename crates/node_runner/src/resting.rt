@@ -9,7 +9,7 @@ pub(crate) const YIELDS: u64 = 32;
 const IDLE_YIELDS: u64 = 4;
 
 /// After how many turns each an actor sleeps from then on. The others cost less than going to sleep, and waiting for many turns isn't to take
-/// long: a node sends again, and so events pass, after as many as 4,096.
+/// long: a node sends again, and so events pass, after as many as 512.
 const AWAKE: u64 = 32;
 
 /// How long an actor sleeps in a turn then in a run of few nodes, in microseconds.

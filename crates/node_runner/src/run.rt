@@ -10,6 +10,7 @@ use crate::crew::{ActorContext, WorkerContext, contexts};
 use crate::error::RunError;
 use crate::gate::Gate;
 use crate::house::run_house;
+use crate::leavers::Leavers;
 use crate::muster::{MOST_PATIENCE, PATIENCE, musters, rests, threads_of};
 use crate::node::run_node;
 use crate::pace::Pace;
@@ -107,6 +108,9 @@ fn traced<'a, R: Threads + Wait + Clock + Sync, G: Gate + Sync>(
     let Ok(pace) = Pace::new(alloc, config) else {
         return Err(RunError::Memory);
     };
+    let Ok(leavers) = Leavers::new(alloc, config) else {
+        return Err(RunError::Memory);
+    };
     let board = Board::new(alloc, job);
     let shared = Shared {
         chronicle: &chronicle,
@@ -114,6 +118,7 @@ fn traced<'a, R: Threads + Wait + Clock + Sync, G: Gate + Sync>(
         board: &board,
         counts,
         pace: &pace,
+        leavers: &leavers,
         config,
         gate,
     };

@@ -7,6 +7,7 @@ ghost use Rattle.chronicle.specs.Seats.{IsSeatIn};
 use crate::config::RunConfig;
 use crate::counts::{Counts, End};
 use crate::gate::Gate;
+use crate::leavers::Leavers;
 use crate::pace::Pace;
 use board::Board;
 use body_eval::Done;
@@ -25,6 +26,7 @@ pub(crate) struct Shared<'s, 'a, G: Gate + Sync> {
     pub(crate) board: &'s Board,
     pub(crate) counts: &'s Counts,
     pub(crate) pace: &'s Pace,
+    pub(crate) leavers: &'s Leavers,
     pub(crate) config: &'s RunConfig,
     pub(crate) gate: &'s G,
 }

@@ -18,7 +18,7 @@ pub(crate) enum Found {
 }
 
 /// What a body worker evaluated: the number of the ticket, its frame, and what was found; and where its task wasn't evaluated to its end, what
-/// was kept of tasks below it, which ones were under way, on how many levels the next evaluation should keep values, and how many turns were
+/// was kept of tasks below it, which ones are known to be large, on how many levels the next evaluation should keep values, and how many turns were
 /// tried in vain.
 #[derive(Drop)]
 pub(crate) struct Evaluated {
@@ -26,7 +26,7 @@ pub(crate) struct Evaluated {
     pub(crate) frame: FrameOf,
     pub(crate) found: Found,
     pub(crate) kept: Vec<Whole>,
-    pub(crate) under_way: Vec<UnderWay>,
+    pub(crate) large: Vec<UnderWay>,
     pub(crate) levels: u16,
     pub(crate) vain: u64,
 }

@@ -9,6 +9,7 @@ use crate::crew::WorkerContext;
 use crate::desk::Ticket;
 use crate::gate::Gate;
 use crate::kept::{LEVELS, levels_behind};
+use crate::large::large_of;
 use crate::line::Line;
 use crate::muster::musters;
 use crate::resting::{YIELDS, rest};
@@ -165,14 +166,15 @@ fn evaluates(
                 frame,
                 found: Found::Whole(whole),
                 kept: Vec::new(alloc),
-                under_way: Vec::new(alloc),
+                large: Vec::new(alloc),
                 levels: LEVELS,
                 vain: 0,
             })
         }
         Err((numbers, _)) => {
-            let (kept, under_way) = keeper.into_parts();
+            let (kept, mut large) = keeper.into_parts();
             let levels = levels_behind(kept.as_slice(), room, most);
+            large_of(&mut large, kept.as_slice(), most);
             counts.wastes(most);
             let turn = Done::on(alloc, checked, thread, numbers).ok()?;
             Some(Evaluated {
@@ -180,7 +182,7 @@ fn evaluates(
                 frame,
                 found: Found::Turn(turn),
                 kept,
-                under_way,
+                large,
                 levels,
                 vain: most,
             })
