@@ -20,3 +20,7 @@ err_both (Err e) f p q = f p q
 pub ok_told : {T E P : Type 0} (r : Result T E) → IsOk r → OnOk r P → P
 ok_told (Ok x) is p = p
 ok_told (Err e) is p = let no : ⊥ = cc in absurd no
+
+pub err_three : {T E P Q S R : Type 0} (r : Result T E) → (P → Q → S → R) → OnErr r P → OnErr r Q → OnErr r S → OnErr r R
+err_three (Ok v) f p q s = tt
+err_three (Err e) f p q s = f p q s

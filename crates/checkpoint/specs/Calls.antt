@@ -2,7 +2,7 @@
 use Rattle.std.specs.Prelude.{◌≡◌, ◌+◌, ◌<◌, ◌⊎◌, ℕ, suc, IsTrue, List, [], ◌∷◌, length, take, Option, None, IsSome}
 use Rattle.disk.specs.declared.cells.Cell.{Cell}
 use Rattle.disk.specs.Crash.{Shrinks, Follows, Torn, Shortened}
-use Rattle.disk.specs.Device.{Device, Failed, passed}
+use Rattle.disk.specs.Device.{Device, Failed, Settles, SettlesEither, passed}
 use Rattle.disk.specs.File.{CrashLeaves, synced, written_file}
 
 pub data DeviceCall : Type 0 where
@@ -37,9 +37,17 @@ Lacks (Write at bytes) file = length file < at + length bytes
 Lacks (Cut len) file = length file < len
 Lacks Sync file = ⊥
 
+-- to what a call that failed settles a file: as it was, or as the call was to make it
+abbrev pub SettledBy : DeviceCall → (old new : List Cell) → Type 0
+SettledBy (Read most) old new = Settles old new
+SettledBy (Write at bytes) old new = SettlesEither old (written_file old at bytes) new
+SettledBy (Cut len) old new = SettlesEither old (take len old) new
+SettledBy Sync old new = Settles old new
+
 -- a call that failed; on a device that can be cut only where that was planned, or it lacked something
 pub record Fails (call : DeviceCall) (plan : Option (List ℕ)) (old new : Device) : Type 0 where
   pub failed : Failed old new plan
+  pub settled : SettledBy call old.file new.file
   pub torn : Tears call (CrashLeaves old.file) (CrashLeaves new.file)
   pub cause : IsTrue old.can_cut → IsSome plan ⊎ Lacks call old.file
 

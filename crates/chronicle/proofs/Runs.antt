@@ -8,12 +8,13 @@ use Rattle.run_tables.specs.Tables.{◌∈◌}
 use Rattle.world_steps.specs.declared.parts.EventAnswer.{EventAnswer}
 use Rattle.world_steps.specs.Answers.{StepResult}
 use Rattle.world_steps.specs.Calls.{WorldOn, told_of}
-use Rattle.world_steps.specs.Runs.{IsFormattedFor, Runs, ends, goes, last_of}
+use Rattle.world_steps.specs.First.{IsFirst}
+use Rattle.world_steps.specs.Runs.{Runs, ends, goes, last_of}
 use Rattle.world_steps.specs.Runs.{Entry as RunEntry}
 use Rattle.world_steps.specs.Safe.{SafeWorld}
 use Rattle.world_steps.specs.Steps.{Step}
 use Rattle.world_steps.specs.World.{WorldOf, first_over}
-use Rattle.world_steps.proofs.Meeting.{can_begin}
+use Rattle.world_steps.proofs.Meeting.{first_can}
 use Rattle.safe_runs.proofs.Sound.{all_safe, each_safe}
 use Rattle.chronicle.specs.declared.kept.Entry.{Entry}
 use Rattle.chronicle.specs.History.{IsHistory, IsSafeHistory, entry, outcome_told, told_entry}
@@ -52,7 +53,7 @@ grown : (job : JobOf) (entries : List Entry) (h : IsHistory job entries) (event 
 grown job entries h event told o step is = record {
   history = record {
     disk = h.disk;
-    formatted = h.formatted;
+    first = h.first;
     steps = h.steps ++ run_entry event o ∷ [];
     worlds = h.worlds ++ o.world ∷ [];
     runs = longer job (first_over h.disk) h.steps h.worlds event o h.runs step;
@@ -62,17 +63,17 @@ grown job entries h event told o step is = record {
 }
 
 -- what is kept at first reaches the first world
-abbrev pub Begins : JobOf → WorldOn → Type 0
-Begins job on = (d : Device) × IsFormattedFor job d × (on ≡ record { job = job; world = first_over d; is_placed = true })
+abbrev pub Begins : JobOf → Device → WorldOn → Type 0
+Begins job d on = IsFirst job d × (on ≡ record { job = job; world = first_over d; is_placed = true })
 
-pub begins : (job : JobOf) (entries : List Entry) (on : WorldOn) → IsJob job → Begins job on → entries ≡ [] → Reaches on.job entries on.world false
-begins job entries on ok is none =
+pub begins : (job : JobOf) (d : Device) (entries : List Entry) (on : WorldOn) → IsJob job → Begins job d on → entries ≡ [] → Reaches on.job entries on.world false
+begins job d entries on ok is none =
     subst (λ es. Reaches on.job es on.world false) (sym none)
-    (subst (λ (w : WorldOn). Reaches w.job [] w.world false) (sym is.2)
-    (record { own = ok; history = record { disk = is.0; formatted = is.1; steps = []; worlds = []; runs = ends; told = refl }; here = refl }))
+    (subst (λ (w : WorldOn). Reaches w.job [] w.world false) (sym is.1)
+    (record { own = ok; history = record { disk = d; first = is.0; steps = []; worlds = []; runs = ends; told = refl }; here = refl }))
 
-pub begun_world : (job : JobOf) (on : WorldOn) → Begins job on → (d : Device) × IsFormattedFor job d × (on.world ≡ first_over d)
-begun_world job on is = (is.0, is.1, ap (λ (w : WorldOn). w.world) is.2)
+pub begun_world : (job : JobOf) (d : Device) (on : WorldOn) → Begins job d on → IsFirst job d × (on.world ≡ first_over d)
+begun_world job d on is = (is.0, ap (λ (w : WorldOn). w.world) is.1)
 
 -- an event found no memory
 pub lacks_memory : (job : JobOf) (entries more : List Entry) (world left : WorldOf) → more ≡ entries → (left ≡ world) ⊎ OutOfMemoryBy job world left → Reaches job entries world false → Reaches job more left true
@@ -96,7 +97,7 @@ goes_on job entries more world next event told same stepped reached =
 
 -- each world of a history is safe
 worlds_safe : (job : JobOf) (entries : List Entry) (ok : IsJob job) (h : IsHistory job entries) (w : WorldOf) → w ∈ (first_over h.disk ∷ h.worlds) → SafeWorld job w
-worlds_safe job entries ok h w m = each_safe job ok h.disk h.steps h.worlds (can_begin job h.disk h.formatted) h.runs w m
+worlds_safe job entries ok h w m = each_safe job ok h.disk h.steps h.worlds (first_can job h.disk h.first) h.runs w m
 
 -- what is told then is the job's meaning
 pub tells_meaning : (job : JobOf) (entries : List Entry) (world next : WorldOf) (event : Event) (told : EventAnswer) → Stepped job event told world next → Reaches job entries world false
@@ -110,4 +111,4 @@ tells_meaning job entries world next event told stepped reached x is =
 
 -- a history that reaches a world is a safe one
 pub safe_history : (job : JobOf) (entries : List Entry) → IsJob job → IsHistory job entries → IsSafeHistory job entries
-safe_history job entries ok h = record { history = h; safe = all_safe job ok h.disk h.steps h.worlds (can_begin job h.disk h.formatted) h.runs }
+safe_history job entries ok h = record { history = h; safe = all_safe job ok h.disk h.steps h.worlds (first_can job h.disk h.first) h.runs }

@@ -35,7 +35,7 @@ entries_in-claims_of (s ∷ ss) a = ap (λ l. (if s.actor == a then s.entries el
 abbrev Bare : Type 0
 Bare = SeatOf Entry (Snapshot JobOf)
 
-map-snoc : (bare : List Bare) (s : Bare) → map seat_of (bare ++ s ∷ []) ≡ map seat_of bare ++ seat_of s ∷ []
+pub map-snoc : (bare : List Bare) (s : Bare) → map seat_of (bare ++ s ∷ []) ≡ map seat_of bare ++ seat_of s ∷ []
 map-snoc [] s = refl
 map-snoc (b ∷ bs) s = ap (λ l. seat_of b ∷ l) (map-snoc bs s)
 

@@ -8,7 +8,8 @@ use Rattle.event_script.specs.declared.event.Event.TheVariants.{Start, AtNode, C
 use Rattle.world_steps.specs.declared.parts.EventAnswer.{EventAnswer}
 use Rattle.world_steps.specs.declared.parts.EventAnswer.TheVariants as told
 use Rattle.world_steps.specs.Calls.{told_of}
-use Rattle.world_steps.specs.Runs.{IsFormattedFor, Runs}
+use Rattle.world_steps.specs.First.{IsFirst}
+use Rattle.world_steps.specs.Runs.{Runs}
 use Rattle.world_steps.specs.Runs.{Entry as RunEntry}
 use Rattle.world_steps.specs.World.{WorldOf, first_over}
 use Rattle.safe_runs.specs.Promises.{AllSafe}
@@ -50,11 +51,11 @@ first_outcome (e ∷ es) = or_later (outcome_told e.told) (first_outcome es)
 abbrev pub told_entry : RunEntry → Entry
 told_entry e = entry e.event (told_of e.answer)
 
--- a list of entries is a history of a job: a run over a disk that was formatted for it has these events, and its answers are told so.
--- So no outcome stands on the disk when it begins
+-- a list of entries is a history of a job: a run over a disk with which one begins has these events, and its answers are told so. So no
+-- outcome stands on the disk when it begins
 pub record IsHistory (job : JobOf) (entries : List Entry) : Type 0 where
   pub disk : Device
-  pub formatted : IsFormattedFor job disk
+  pub first : IsFirst job disk
   pub steps : List RunEntry
   pub worlds : List WorldOf
   pub runs : Runs job (first_over disk) steps worlds

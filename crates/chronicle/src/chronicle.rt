@@ -20,6 +20,7 @@ use crate::seat::ActorSeat;
 use crate::sent::Sent;
 use crate::trace::Trace;
 use body_eval::Done;
+use disk::{MemDisk, SteadyDisk};
 use event_script::{Event, FrameOf, HouseEvent, NodeEvent, NodePlace};
 use ids::{FrameNo, GrantId};
 use kind_check::Checked;
@@ -31,7 +32,7 @@ use std::marker::Model;
 use std::snapshot::Snapshot;
 use std::sync::Wait;
 use turn_lock::{LockSeat, TurnLock};
-use world_steps::NoMemory;
+use world_steps::{FirstDisk, NoMemory};
 
 /// The number of the kind Roster, which stands behind the first three bytes of a packet.
 const ROSTER: u8 = 2;
@@ -85,13 +86,13 @@ struct Wanted<'f> {
 /// A world under a lock, with the history that led to it. Threads share it by reference, each with the seats of its actors. Contracts see
 /// which chronicle it is, how many actors have a seat, and the job.
 #[derive(Drop)]
-pub struct Chronicle<'a> {
+pub struct Chronicle<'a, D: SteadyDisk + Drop = MemDisk> {
     job: &'a Job,
-    lock: TurnLock<Kept<'a>>,
+    lock: TurnLock<Kept<'a, D>>,
     sent: Sent,
 }
 
-impl<'a> Model for Chronicle<'a> {
+impl<'a, D: SteadyDisk + Drop> Model for Chronicle<'a, D> {
     ghost use Rattle.std.specs.Prelude.{◌≡◌};
     ghost use Rattle.std.specs.Coded.{codes as known};
     ghost use Rattle.task_tree.specs.contracts.tree.Expr as expr;
@@ -108,21 +109,22 @@ impl<'a> Model for Chronicle<'a> {
     ghost invariant = { λ c. c.lock.fixed.value ≡ c.job.now };
 }
 
-impl<'a> Chronicle<'a> {
-    /// A chronicle of a job's first world, with no history, and a seat for each actor: those of the nodes 0 to `nodes - 1` by rising
+impl<'a, D: SteadyDisk + Drop> Chronicle<'a, D> {
+    /// A chronicle of a job's first world over the disk with which its run begins, with no history, and a seat for each actor: those of the nodes 0 to `nodes - 1` by rising
     /// place, and the clearinghouse's last. Refused only when out of memory (E9).
     #[tactic(auto, using(crate::proofs::Seats::all_blank, crate::proofs::Seats::in_order))]
     pub fn new(
         alloc: Global,
-        job: &'a Job,
+        first: FirstDisk<'a, D>,
         nodes: u8,
-    ) -> Result<(Chronicle<'a>, Vec<ActorSeat<'a>>), NoMemory>
+    ) -> Result<(Chronicle<'a, D>, Vec<ActorSeat<'a, D>>), NoMemory>
         requires { (0 < nodes) × (nodes ≤ 64) }
-        ensures chronicle { IfOk result (λ r. (r.0.job ≡ job.now) × (r.0.actors ≡ nodes + 1)) }
+        ensures chronicle { IfOk result (λ r. (r.0.job ≡ first.entry.job) × (r.0.actors ≡ nodes + 1)) }
         ensures seats { IfOk result (λ r. All (IsBlankSeatIn r.0) r.1.items) }
         ensures order { IfOk result (λ r. map (λ s. s.actor) r.1.items ≡ range_with_len 1 nodes ++ 0 ∷ []) }
     {
-        let kept = Kept::new(alloc, job)?;
+        let job = first.job();
+        let kept = Kept::new(alloc, first)?;
         let actors = usize::from(nodes) + 1;
         let (lock, bare) = TurnLock::new(alloc, kept, actors, Snapshot::of(job))?;
         let seats = by_place(alloc, bare)?;
@@ -136,7 +138,7 @@ impl<'a> Chronicle<'a> {
     pub fn commit<R: Wait>(
         &self,
         rt: &R,
-        seat: &mut ActorSeat<'a>,
+        seat: &mut ActorSeat<'a, D>,
         event: Event,
     ) -> Result<Committed, NoMemory>
         requires seat { IsSeatIn self.now seat.old }
@@ -160,7 +162,7 @@ impl<'a> Chronicle<'a> {
         &self,
         rt: &R,
         alloc: Global,
-        seat: &mut ActorSeat<'a>,
+        seat: &mut ActorSeat<'a, D>,
         event: Event,
         turn: &Done,
         place: NodePlace,
@@ -193,7 +195,7 @@ impl<'a> Chronicle<'a> {
         &self,
         rt: &R,
         alloc: Global,
-        seat: &mut ActorSeat<'a>,
+        seat: &mut ActorSeat<'a, D>,
         event: Event,
         whole: &Whole,
         place: NodePlace,
@@ -227,7 +229,7 @@ impl<'a> Chronicle<'a> {
         &self,
         rt: &R,
         alloc: Global,
-        seat: &mut ActorSeat<'a>,
+        seat: &mut ActorSeat<'a, D>,
         from: u64,
         receiver: Receiver,
         place: Option<NodePlace>,
@@ -255,7 +257,7 @@ impl<'a> Chronicle<'a> {
     fn enter<R: Wait>(
         &self,
         rt: &R,
-        seat: &mut ActorSeat<'a>,
+        seat: &mut ActorSeat<'a, D>,
         event: Event,
         turn: Option<&Done>,
         whole: Option<&Whole>,
@@ -293,7 +295,7 @@ impl<'a> Chronicle<'a> {
         &self,
         rt: &R,
         alloc: Global,
-        seat: &mut ActorSeat<'a>,
+        seat: &mut ActorSeat<'a, D>,
         place: NodePlace,
         besides: &[FrameOf],
     ) -> Option<Work>
@@ -317,7 +319,7 @@ impl<'a> Chronicle<'a> {
     pub fn packet_for<R: Wait>(
         &self,
         rt: &R,
-        seat: &mut ActorSeat<'a>,
+        seat: &mut ActorSeat<'a, D>,
         from: u64,
         receiver: Receiver,
     ) -> Result<u64, u64>
@@ -349,12 +351,12 @@ impl<'a> Chronicle<'a> {
         self.sent.to(receiver)
     }
 
-    /// Ends the chronicle, once all seats are back. What was committed is a safe history of the job, which has of each actor just what
-    /// its seat has, in the same order, and nothing else. None only where a seat is missing. It takes no memory.
-    pub fn finish(self, mut seats: Vec<ActorSeat<'a>>) -> Option<Trace>
+    /// Ends the chronicle, once all seats are back, and gives the disk back. What was committed is a safe history of the job, which has
+    /// of each actor just what its seat has, in the same order, and nothing else. None only where a seat is missing. It takes no memory.
+    pub fn finish(self, mut seats: Vec<ActorSeat<'a, D>>) -> Option<(Trace, D)>
         requires own { All (IsSeatIn self) seats.items }
-        ensures run { IfSome result (λ t. IsSafeHistory self.entry.job t) }
-        ensures told { IfSome result (TellsOf seats.entry.items) }
+        ensures run { IfSome result (λ r. IsSafeHistory self.entry.job r.0) }
+        ensures told { IfSome result (λ r. TellsOf seats.entry.items r.0) }
         ensures missing { IfNone result (vec_len seats.entry < self.entry.actors) }
     {
         let Chronicle {
@@ -372,18 +374,16 @@ impl<'a> Chronicle<'a> {
         }
         let kept = lock.close(all);
         let counts = *kept.world().counts();
-        Some(Trace {
-            entries: kept.into_entries(),
-            counts,
-        })
+        let (entries, disk) = kept.into_parts();
+        Some((Trace { entries, counts }, disk))
     }
 }
 
 /// The seats of actors, of which the first one goes behind the others.
-fn by_place<'a>(
+fn by_place<'a, D: SteadyDisk + Drop>(
     alloc: Global,
-    mut bare: Vec<LockSeat<Kept<'a>>>,
-) -> Result<Vec<ActorSeat<'a>>, AllocError>
+    mut bare: Vec<LockSeat<Kept<'a, D>>>,
+) -> Result<Vec<ActorSeat<'a, D>>, AllocError>
     requires { 0 < vec_len bare }
     ensures { IfOk result (λ seats. seats.items ≡ map seat_of (first_last bare.entry.items)) }
 {
@@ -397,9 +397,9 @@ fn by_place<'a>(
 }
 
 /// A packet that was found comes, as the next entry of the history; where none was found nothing does.
-fn comes<'a>(
-    kept: &mut Kept<'a>,
-    seat: &mut ActorSeat<'a>,
+fn comes<'a, D: SteadyDisk + Drop>(
+    kept: &mut Kept<'a, D>,
+    seat: &mut ActorSeat<'a, D>,
     place: Option<NodePlace>,
     found: Result<Arrived, u64>,
 ) -> Result<Delivery, NoMemory>
@@ -444,7 +444,7 @@ pub fn delivery_to(place: Option<NodePlace>, index: u64) -> Event
 
 impl Wanted<'_> {
     /// The first ready frame that is wanted, if its thread takes its numbers. It is found by its name, and only then looked at.
-    fn work_in(&self, job: &Job, kept: &Kept) -> Option<Work>
+    fn work_in<D: SteadyDisk + Drop>(&self, job: &Job, kept: &Kept<'_, D>) -> Option<Work>
         ensures { IfSome result (λ w. Takes job.now.program w.thread (length w.numbers)) }
     {
         let world = kept.world();
@@ -507,7 +507,12 @@ pub fn takes_its_numbers(checked: &Checked, work: &Work) -> bool
 
 /// The first packet from the one of a number on that is addressed to a receiver, with its bytes if it is a Roster. Else how many were
 /// looked at: all, or those before a Roster whose bytes find no memory.
-fn arrives(alloc: Global, kept: &Kept, from: u64, receiver: Receiver) -> Result<Arrived, u64> {
+fn arrives<D: SteadyDisk + Drop>(
+    alloc: Global,
+    kept: &Kept<'_, D>,
+    from: u64,
+    receiver: Receiver,
+) -> Result<Arrived, u64> {
     let index = first_for(kept, from, receiver)?;
     match roster_at(alloc, kept, index) {
         Ok(roster) => Ok(Arrived { index, roster }),
@@ -516,7 +521,11 @@ fn arrives(alloc: Global, kept: &Kept, from: u64, receiver: Receiver) -> Result<
 }
 
 /// The number of the first packet from one on that is addressed to a receiver, or how many were sent.
-fn first_for(kept: &Kept, from: u64, receiver: Receiver) -> Result<u64, u64> {
+fn first_for<D: SteadyDisk + Drop>(
+    kept: &Kept<'_, D>,
+    from: u64,
+    receiver: Receiver,
+) -> Result<u64, u64> {
     let world = kept.world();
     let sent = world.packets() as u64;
     for index in from..sent {
@@ -531,7 +540,11 @@ fn first_for(kept: &Kept, from: u64, receiver: Receiver) -> Result<u64, u64> {
 }
 
 /// The bytes of the packet of a number, if it is a Roster.
-fn roster_at(alloc: Global, kept: &Kept, index: u64) -> Result<Option<Vec<u8>>, AllocError> {
+fn roster_at<D: SteadyDisk + Drop>(
+    alloc: Global,
+    kept: &Kept<'_, D>,
+    index: u64,
+) -> Result<Option<Vec<u8>>, AllocError> {
     let Some(packet) = kept.world().packet(index) else {
         return Ok(None);
     };

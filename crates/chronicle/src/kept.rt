@@ -1,17 +1,17 @@
 ghost use Rattle.std.specs.Prelude.{◌≡◌, ◌++◌, ◌⊎◌, [], ◌∷◌, true, false, IfOk, IsErr, OnErr, Some, option_copied};
-ghost use Rattle.disk.specs.Device.{Device};
 ghost use Rattle.ids.specs.declared.outcome.Outcome.{Outcome as OutcomeOf};
 ghost use Rattle.serial_meaning.specs.Job.{meaning_of};
 ghost use Rattle.turn_lock.specs.Histories.{own};
 ghost use Rattle.world_steps.specs.Answers.{StepResult};
 ghost use Rattle.world_steps.specs.Calls.{IsOfJob, IsOutOfMemory, IsWholeOfJob, told_of};
-ghost use Rattle.world_steps.specs.Runs.{IsFormattedFor};
+ghost use Rattle.world_steps.specs.First.{IsFirst};
 ghost use Rattle.world_steps.specs.Steps.{Step as StepOf};
 ghost use Rattle.world_steps.specs.World.{first_over};
 ghost use Rattle.chronicle.specs.History.{IsSafeHistory, actor_of, entry, actor_number, outcome_told};
 
 use crate::seat::ActorSeat;
 use body_eval::Done;
+use disk::{MemDisk, SteadyDisk};
 use event_script::Event;
 use ids::Outcome;
 use serial_meaning::{Job, Whole};
@@ -19,7 +19,7 @@ use std::alloc::Global;
 use std::marker::Model;
 use std::snapshot::Snapshot;
 use turn_lock::KeepsHistory;
-use world_steps::{EventAnswer, NoMemory, World};
+use world_steps::{EventAnswer, FirstDisk, NoMemory, World};
 
 /// An event of the history, and what was told of it.
 #[derive(Drop)]
@@ -59,14 +59,14 @@ pub(crate) fn outcome_of(told: EventAnswer) -> Option<Outcome>
 /// A history, and the world that it reaches. Contracts see both, with the world's job, and whether an event found no memory. The world
 /// has a place of its own in memory: so what moves at each turn of the lock is small.
 #[derive(Drop)]
-pub struct Kept<'a> {
+pub struct Kept<'a, D: SteadyDisk + Drop = MemDisk> {
     alloc: Global,
     entries: Vec<Entry>,
-    world: Box<World<'a>>,
+    world: Box<World<'a, D>>,
     out_of_memory: bool,
 }
 
-impl<'a> Model for Kept<'a> {
+impl<'a, D: SteadyDisk + Drop> Model for Kept<'a, D> {
     ghost use Rattle.std.specs.Coded.{codes as known};
     ghost use Rattle.task_tree.specs.contracts.tree.Expr as expr;
     ghost use Rattle.task_tree.specs.contracts.tree.Block as block;
@@ -82,7 +82,7 @@ impl<'a> Model for Kept<'a> {
     ghost invariant = { λ k. Reaches k.world.value.job k.entries.items k.world.value.world k.out_of_memory };
 }
 
-impl<'a> KeepsHistory for Kept<'a> {
+impl<'a, D: SteadyDisk + Drop> KeepsHistory for Kept<'a, D> {
     ghost use Rattle.chronicle.specs.History.{actor_of};
     ghost use Rattle.chronicle.specs.Seats.{snapshot};
 
@@ -97,15 +97,16 @@ impl<'a> KeepsHistory for Kept<'a> {
     ghost fixed = { λ k. snapshot k.on.job };
 }
 
-impl<'a> Kept<'a> {
-    /// The first world of a job, over a disk that was formatted for it, with no history. Refused only when out of memory (E9).
-    pub fn new(alloc: Global, job: &'a Job) -> Result<Kept<'a>, NoMemory>
-        ensures kept { IfOk result (λ k. (k.on.job ≡ job.now) × (k.entries ≡ []) × (k.out_of_memory ≡ false)) }
-        ensures world { IfOk result (λ k. (d : Device) × IsFormattedFor job.now d × (k.on.world ≡ first_over d)) }
+impl<'a, D: SteadyDisk + Drop> Kept<'a, D> {
+    /// The first world of a job over the disk with which its run begins, with no history. Refused only when out of memory (E9).
+    pub fn new(alloc: Global, first: FirstDisk<'a, D>) -> Result<Kept<'a, D>, NoMemory>
+        ensures kept { IfOk result (λ k. (k.on.job ≡ first.entry.job) × (k.entries ≡ []) × (k.out_of_memory ≡ false)) }
+        ensures world { IfOk result (λ k. IsFirst first.entry.job (D.device first.entry.disk)
+            × (k.on.world ≡ first_over (D.device first.entry.disk))) }
     {
-        let _checked = job.checked();
-        let first = World::new(alloc, job)?;
-        let Ok(world) = Box::new(alloc, first) else {
+        let _checked = first.job().checked();
+        let over = World::over(alloc, first)?;
+        let Ok(world) = Box::new(alloc, over) else {
             return Err(NoMemory);
         };
         Ok(Kept {
@@ -123,7 +124,7 @@ impl<'a> Kept<'a> {
     /// is stopped.
     pub fn enter(
         &mut self,
-        seat: &mut ActorSeat<'a>,
+        seat: &mut ActorSeat<'a, D>,
         event: Event,
         turn: Option<&Done>,
         whole: Option<&Whole>,
@@ -169,18 +170,19 @@ impl<'a> Kept<'a> {
     }
 
     /// The world.
-    pub fn world(&self) -> &World<'a>
+    pub fn world(&self) -> &World<'a, D>
         ensures { result.now ≡ self.now.on }
     {
         &self.world
     }
 
-    /// Its history, which is a safe one of the job.
-    pub fn into_entries(self) -> Vec<Entry>
-        ensures same { result.items ≡ self.entry.entries }
-        ensures run { IsSafeHistory self.entry.on.job result.items }
+    /// Its history, which is a safe one of the job, and the world's disk.
+    pub fn into_parts(self) -> (Vec<Entry>, D)
+        ensures same { result.0.items ≡ self.entry.entries }
+        ensures run { IsSafeHistory self.entry.on.job result.0.items }
+        ensures disk { D.device result.1 ≡ self.entry.on.world.disk }
     {
-        let Kept { entries, .. } = self;
-        entries
+        let Kept { entries, world, .. } = self;
+        (entries, Box::into_inner(world).into_disk())
     }
 }

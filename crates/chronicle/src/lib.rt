@@ -9,8 +9,8 @@
 //! both back. So events come one after another, and the thread bodies of the program can be evaluated outside the lock: a turn that
 //! was evaluated before is used where it is the ready frame's own, and put aside else.
 //!
-//! **Proved**, whatever threads do and in whatever order. A history under the lock is that of a run, over a disk on which a run of the
-//! job can begin, and the world beside it is the one to which that run leads. Once an event found no memory (E9), each later one does,
+//! **Proved**, whatever threads do and in whatever order. A history under the lock is that of a run, over a disk with which a run of the
+//! job begins, and the world beside it is the one to which that run leads. Once an event found no memory (E9), each later one does,
 //! the history stays, and the world differs at most in that a clearinghouse that was to answer is stopped. `Kept::enter` adds exactly
 //! its event, with the answer of a step from the world that was kept; by `commit` and `commit_turn` this entry becomes the seat's next
 //! one, or on E9 nothing of the seat changes. An outcome that is told is the job's meaning. The trace of `finish` has of each actor just

@@ -3,6 +3,7 @@ ghost use Rattle.turn_lock.specs.Histories.{own};
 ghost use Rattle.chronicle.specs.History.{actor_of, actor_number};
 
 use crate::kept::Kept;
+use disk::{MemDisk, SteadyDisk};
 use event_script::Event;
 use std::marker::Model;
 use turn_lock::LockSeat;
@@ -10,11 +11,11 @@ use turn_lock::LockSeat;
 /// The right of one actor to commit its events. It has no clone. Contracts see the chronicle that it is of, the number of its actor, and
 /// the entries of this actor's events; while the kept value is out with the seat, `taken` is its history.
 #[derive(Drop)]
-pub struct ActorSeat<'a> {
-    pub(crate) seat: LockSeat<Kept<'a>>,
+pub struct ActorSeat<'a, D: SteadyDisk + Drop = MemDisk> {
+    pub(crate) seat: LockSeat<Kept<'a, D>>,
 }
 
-impl<'a> Model for ActorSeat<'a> {
+impl<'a, D: SteadyDisk + Drop> Model for ActorSeat<'a, D> {
     ghost use Rattle.std.specs.Coded.{codes as known};
     ghost use Rattle.task_tree.specs.contracts.tree.Expr as expr;
     ghost use Rattle.task_tree.specs.contracts.tree.Block as block;
@@ -28,7 +29,7 @@ impl<'a> Model for ActorSeat<'a> {
     ghost view = { λ s. seat_of s.seat };
 }
 
-impl<'a> ActorSeat<'a> {
+impl<'a, D: SteadyDisk + Drop> ActorSeat<'a, D> {
     /// The number of its actor: 0 is the clearinghouse, and p + 1 the node of place p. While the kept value is out with the seat, the
     /// history has of the actor just the seat's entries.
     pub fn actor(&self) -> u64

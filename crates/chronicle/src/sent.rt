@@ -3,6 +3,7 @@
 use crate::chronicle::{Receiver, addressee};
 use crate::kept::Kept;
 use crossbeam_utils::CachePadded;
+use disk::SteadyDisk;
 use std::alloc::{AllocError, Global};
 use std::sync::atomic::AtomicU64;
 use std::sync::atomic::Ordering::SeqCst;
@@ -34,7 +35,7 @@ impl Sent {
 
     /// What a world sent by now. The numbers of parts are written first: who reads the number in all before one of these finds each packet
     /// below it counted there.
-    pub(crate) fn notes(&self, kept: &Kept) {
+    pub(crate) fn notes<D: SteadyDisk + Drop>(&self, kept: &Kept<'_, D>) {
         let world = kept.world();
         let sent = world.packets() as u64;
         let before = self.all.load(SeqCst);

@@ -29,7 +29,7 @@ use replaying::own_words;
 pub use solo::solo;
 use std::io::{LineWriter, Stdout};
 use std::process::ExitCode;
-pub use stored::{info_in, store_in};
+pub use stored::{found_in, info_in};
 
 /// Standard output, to which each line goes at once, so that a program that is killed has told it whole or not at all; or, where there is no
 /// memory for a line, in the parts in which it is written.

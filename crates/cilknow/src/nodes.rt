@@ -1,15 +1,16 @@
 //! Runs on nodes, whose progress is told on a terminal.
 
-use checkpoint::Store;
+use chronicle::Trace;
 use disk::FileDisk;
-use node_runner::{Gate, Open, RunConfig, RunError, Stored, run_job, run_stored};
+use node_runner::{Gate, Open, Ran, RunConfig, RunError, run_job};
 use progress::{RunProgress, tell};
-use serial_meaning::Job;
+use serial_meaning::{Job, Outcome};
 use std::fs::File;
 use std::io::{IsTerminal, Stderr};
 use std::sync::Wait;
 use std::thread::{Threads, join};
 use std::time::Clock;
+use world_steps::FirstDisk;
 
 /// The gate that is always open, and notes how far a run has come.
 #[derive(Drop)]
@@ -29,51 +30,70 @@ impl<'p> Gate for Noting<'p> {
     }
 }
 
-/// A job is run by nodes on threads under a gate, over a store where there is one.
-fn ran_under<R: Threads + AllocGlobal + Wait + Clock + Sync, G: Gate + Sync>(
+/// The disk over which a run begins: the file of its store, or, where none is named, one in memory.
+#[derive(Drop)]
+pub enum RunDisk<'a> {
+    File(FirstDisk<'a, FileDisk<File>>),
+    Memory,
+}
+
+/// What a run came to: its outcome, and its trace. Of an outcome that was kept before there is no trace.
+#[derive(Drop)]
+pub struct Ended {
+    pub outcome: Outcome,
+    pub trace: Option<Trace>,
+}
+
+/// What is left of a run once its disk isn't needed any more.
+fn without_disk<D: Drop>(ran: Ran<D>) -> Ended {
+    let Ran { outcome, trace, .. } = ran;
+    Ended {
+        outcome,
+        trace: Some(trace),
+    }
+}
+
+/// A job is run by nodes on threads under a gate, over a disk.
+fn ran_under<'a, R: Threads + AllocGlobal + Wait + Clock + Sync, G: Gate + Sync>(
     rt: &R,
-    job: &Job,
+    job: &'a Job,
     config: &RunConfig,
-    store: &mut Option<Store<FileDisk<File>>>,
+    disk: RunDisk<'a>,
     gate: &G,
-) -> Result<Stored, RunError> {
+) -> Result<Ended, RunError> {
     let alloc = rt.alloc();
-    match store {
-        Some(store) => run_stored(rt, alloc, job, store, config, gate),
-        None => {
-            let ran = run_job(rt, alloc, job, config, gate)?;
-            Ok(Stored {
-                outcome: ran.outcome,
-                trace: Some(ran.trace),
-            })
-        }
+    match disk {
+        RunDisk::File(first) => Ok(without_disk(run_job(rt, alloc, first, config, gate)?)),
+        RunDisk::Memory => match FirstDisk::formatted(alloc, job) {
+            Ok(first) => Ok(without_disk(run_job(rt, alloc, first, config, gate)?)),
+            Err(_) => Err(RunError::Memory),
+        },
     }
 }
 
 /// A job is run so, and how far that has come is noted, to its end.
-fn ran_noted<R: Threads + AllocGlobal + Wait + Clock + Sync>(
+fn ran_noted<'a, R: Threads + AllocGlobal + Wait + Clock + Sync>(
     rt: &R,
-    job: &Job,
+    job: &'a Job,
     config: &RunConfig,
-    store: &mut Option<Store<FileDisk<File>>>,
+    disk: RunDisk<'a>,
     progress: &RunProgress,
-) -> Result<Stored, RunError> {
-    let ran = ran_under(rt, job, config, store, &Noting { progress });
+) -> Result<Ended, RunError> {
+    let ran = ran_under(rt, job, config, disk, &Noting { progress });
     progress.ends();
     ran
 }
 
-/// A job is run by nodes on threads, over a store of it where there is one. Where standard error is a terminal and the run takes long, how far
-/// it has come is told there.
-pub fn ran_on_nodes<R: Threads + AllocGlobal + Wait + Clock + Sync>(
+/// A job is run by nodes on threads over a disk. Where standard error is a terminal and the run takes long, how far it has come is told there.
+pub fn ran_on_nodes<'a, R: Threads + AllocGlobal + Wait + Clock + Sync>(
     rt: &R,
-    job: &Job,
+    job: &'a Job,
     config: &RunConfig,
-    store: &mut Option<Store<FileDisk<File>>>,
+    disk: RunDisk<'a>,
     err: &mut Stderr,
-) -> Result<Stored, RunError> {
+) -> Result<Ended, RunError> {
     if !err.is_terminal() {
-        return ran_under(rt, job, config, store, &Open);
+        return ran_under(rt, job, config, disk, &Open);
     }
     let progress = RunProgress::new();
     let shared = &progress;
@@ -81,7 +101,7 @@ pub fn ran_on_nodes<R: Threads + AllocGlobal + Wait + Clock + Sync>(
     let (_, ran) = join(
         rt,
         || tell(rt, err, shared),
-        || ran_noted(rt, job, config, store, shared),
+        || ran_noted(rt, job, config, disk, shared),
     );
     ran
 }

@@ -4,17 +4,15 @@ use crate::command::{CommandFault, Telling, write_outcome};
 use crate::failure::Failure;
 use crate::logged::log_text;
 use crate::named::{Named, Place};
-use crate::nodes::ran_on_nodes;
+use crate::nodes::{Ended, RunDisk, ran_on_nodes};
 use crate::output::Output;
 use crate::solo::solo;
-use crate::stored::store_in;
+use crate::stored::found_in;
 use crate::words::{JobWords, RunWords};
-use checkpoint::Store;
 use chronicle::Trace;
-use disk::FileDisk;
 use event_words::{write_counts, write_turns};
 use jobs::{job_of, program_of, text_bytes};
-use node_runner::{RunConfig, Stored};
+use node_runner::RunConfig;
 use serial_meaning::{Job, Outcome, TurnCounts};
 use std::alloc::Global;
 use std::fs::File;
@@ -23,6 +21,7 @@ use std::rt::Files;
 use std::sync::Wait;
 use std::thread::Threads;
 use std::time::Clock;
+use world_steps::Found;
 
 /// What is told of an outcome that is too deep.
 const TOO_DEEP: &str =
@@ -101,9 +100,16 @@ fn answer_by_nodes<R: Files<File = File> + AllocGlobal + Threads + Wait + Clock 
 ) -> Result<(), Failure> {
     let text = text_bytes(rt, words.file)?;
     let job = job_of(rt.alloc(), text.as_slice(), words.input, words.job)?;
-    let mut store = store_of(rt, named, &job, text.as_slice(), err)?;
+    let begins = begins_of(rt, named, &job, text.as_slice(), err)?;
     let outputs = Outputs::open(rt, named)?;
-    match ran_on_nodes(rt, &job, config, &mut store, err) {
+    let ran = match begins {
+        Begins::Kept(outcome) => Ok(Ended {
+            outcome,
+            trace: None,
+        }),
+        Begins::Over(disk) => ran_on_nodes(rt, &job, config, disk, err),
+    };
+    match ran {
         Ok(ran) => tell_ran(rt.alloc(), &job, ran, outputs, telling, out, err),
         Err(fault) => {
             outputs.give_up(rt, named);
@@ -116,7 +122,7 @@ fn answer_by_nodes<R: Files<File = File> + AllocGlobal + Threads + Wait + Clock 
 fn tell_ran<O: Write, E: Write>(
     alloc: Global,
     job: &Job,
-    ran: Stored,
+    ran: Ended,
     outputs: Outputs,
     telling: Telling,
     out: &mut O,
@@ -132,17 +138,27 @@ fn tell_ran<O: Write, E: Write>(
     }
 }
 
-/// The store of a job, where one is named.
-fn store_of<R: Files<File = File> + AllocGlobal, E: Write>(
+/// How a run on nodes begins: with an outcome that its store keeps, which is all of it, or over a disk.
+#[derive(Drop)]
+enum Begins<'a> {
+    Kept(Outcome),
+    Over(RunDisk<'a>),
+}
+
+/// How the run of a job begins: over the file of its store, where one is named, and else over a disk in memory.
+fn begins_of<'a, R: Files<File = File> + AllocGlobal, E: Write>(
     rt: &R,
     named: &Named<'_>,
-    job: &Job,
+    job: &'a Job,
     text: &[u8],
     err: &mut E,
-) -> Result<Option<Store<FileDisk<File>>>, Failure> {
-    match named.store {
-        Some(path) => Ok(Some(store_in(rt, path, job, text, err)?)),
-        None => Ok(None),
+) -> Result<Begins<'a>, Failure> {
+    let Some(path) = named.store else {
+        return Ok(Begins::Over(RunDisk::Memory));
+    };
+    match found_in(rt, path, job, text, err)? {
+        Found::Kept(outcome, _) => Ok(Begins::Kept(outcome)),
+        Found::Begins(first) => Ok(Begins::Over(RunDisk::File(first))),
     }
 }
 

@@ -4,30 +4,30 @@ use crate::command::CommandFault;
 use crate::failure::Failure;
 use crate::named::{Place, beside_of, folder_of};
 use crate::whose::{is_ours, is_said, line_of, write_beside};
-use checkpoint::{Info, Store, StoreError, inspect};
+use checkpoint::{Info, StoreError, inspect};
 use disk::{Disk, FileDisk};
-use job_store::open_store;
 use node_runner::RunError;
 use serial_meaning::Job;
 use std::alloc::Global;
 use std::fs::{self, File, OpenOptions};
 use std::io::{self, Write};
 use std::rt::Files;
+use world_steps::{FirstDisk, Found};
 
 /// Opens the store of a job in a file, which is made where it is missing or empty, and which no other run can open until this one ends. The
 /// text is the one of the job's program. Before a store is made, the file beside it says whose it is; where that is missing beside another
-/// store, this is told on `err`.
+/// store, this is told on `err`. What is found is the job's outcome, or that a run can begin over the file.
 ///
-/// A fault of a file where one of both can't be opened, or another run has the store; E70 to E73, as `job_store::open_store` says; and E70 where
+/// A fault of a file where one of both can't be opened, or another run has the store; E70 to E73, as `FirstDisk::found` says; and E70 where
 /// the file beside the store names another program or input, E71 where it names none, also where there is no store yet. Nothing is written
 /// to a store that is there, nor over a file of another kind.
-pub fn store_in<R: Files<File = File> + AllocGlobal, E: Write>(
+pub fn found_in<'a, R: Files<File = File> + AllocGlobal, E: Write>(
     rt: &R,
     path: &str,
-    job: &Job,
+    job: &'a Job,
     text: &[u8],
     err: &mut E,
-) -> Result<Store<FileDisk<File>>, Failure> {
+) -> Result<Found<'a, FileDisk<File>>, Failure> {
     let alloc = rt.alloc();
     let line = line_of(alloc, job, text)?;
     let beside = beside_of(alloc, path)?;
@@ -35,13 +35,13 @@ pub fn store_in<R: Files<File = File> + AllocGlobal, E: Write>(
     let mut disk = own_disk(rt, path)?;
     if is_empty(alloc, &mut disk)? {
         make_beside(rt, path, beside.as_str(), line.as_slice())?;
-        return opened(alloc, disk, job.number());
+        return found(alloc, disk, job);
     }
-    let store = opened(alloc, disk, job.number())?;
+    let found = found(alloc, disk, job)?;
     if !is_said(rt, beside.as_str(), line.as_slice())? {
         let _ = writeln!(err, "cilknow: {path} doesn't say whose it is");
     }
-    Ok(store)
+    Ok(found)
 }
 
 /// What the store in a file keeps. A fault of a file where it can't be read; else E71 to E73, as `checkpoint::inspect` says.
@@ -117,14 +117,14 @@ fn sync_folder<R: Files<File = File>>(rt: &R, folder: &str) -> io::Result<()> {
     fs::open(rt, folder)?.sync_all()
 }
 
-/// Opens the store of a job's number on a disk, and makes it where the disk is empty.
-fn opened(
+/// What a disk holds of a job, whose store is made where it is empty.
+fn found<'a>(
     alloc: Global,
     disk: FileDisk<File>,
-    number: u64,
-) -> Result<Store<FileDisk<File>>, Failure> {
-    match open_store(alloc, disk, number) {
-        Ok(store) => Ok(store),
+    job: &'a Job,
+) -> Result<Found<'a, FileDisk<File>>, Failure> {
+    match FirstDisk::found(alloc, job, disk) {
+        Ok(found) => Ok(found),
         Err((fault, _)) => Err(refused(fault)),
     }
 }

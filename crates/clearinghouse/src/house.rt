@@ -205,6 +205,13 @@ impl<'a, D: Disk> House<'a, D> {
     {
         self.store.failures()
     }
+
+    /// Whether the disk can be armed and crashed.
+    pub fn can_cut(&self) -> bool
+        ensures { result ≡ (D.device self.now.store.disk).can_cut }
+    {
+        self.store.can_cut()
+    }
 }
 
 /// An outcome is committed, and then recorded; whether the device carried the commit out.

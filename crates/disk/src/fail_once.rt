@@ -73,12 +73,16 @@ impl FailOnce {
 }
 
 impl Disk for FailOnce {
-    ghost use Rattle.disk.specs.Memory.{device_of, planned_of};
+    ghost use Rattle.disk.specs.Memory.{cut_always, device_of, planned_of};
     ghost use Rattle.disk.specs.Device.{and_once-first};
 
     ghost device = { λ m. device_of m.inner };
 
     ghost planned = { planned_of };
+
+    ghost lost = { λ m. false };
+
+    ghost uncut_unarmed = { λ m e. cut_always m.inner e };
 
     ghost armed_fail = { λ m i. and_once-first _ _ };
 

@@ -1,9 +1,9 @@
 //! A disk over a file of the system. What a file holds is no matter of proof: the contracts speak of the bytes that this
 //! process read and wrote, and each read is held against them.
-ghost use Rattle.std.specs.Prelude.{◌≡◌, ◌+◌, ◌%◌, ◌^◌, ◌<◌, ◌≤◌, None, IsTrue, false, length, IfOk};
+ghost use Rattle.std.specs.Prelude.{◌≡◌, ◌+◌, ◌%◌, ◌^◌, ◌<◌, ◌≤◌, None, IsTrue, false, not, length, IfOk, refl};
 
 use crate::cells::{self, Cell};
-use crate::{DeviceFailed, Disk};
+use crate::{DeviceFailed, Disk, SteadyDisk};
 use std::alloc::Global;
 use std::fs::OpenFile;
 use std::io;
@@ -15,8 +15,8 @@ const MOST: usize = 8192;
 /// A disk over an open file. It can't be cut.
 ///
 /// Its content is at most the first 8,192 bytes of the file: what stands behind them is never read, and a write that would end
-/// behind them fails. A read that doesn't give what was read and written before fails. After a write, a cut or a sync that
-/// failed, each call fails.
+/// behind them fails. A read that doesn't give what was read and written before fails. After a call that failed, for whatever
+/// reason, each call fails: what the file then holds is for whoever opens it anew to find.
 #[derive(Drop)]
 pub struct FileDisk<F> {
     file: F,
@@ -63,7 +63,7 @@ fn set_len<F: OpenFile>(file: &F, len: u64) -> io::Result<()> {
 impl<F: FileExt + OpenFile + Drop> FileDisk<F> {
     ghost use Rattle.disk.specs.Crash.{Only};
     ghost use Rattle.disk.specs.Device.{Unarmed};
-    ghost use Rattle.disk.specs.File.{CrashLeaves, bytes_of};
+    ghost use Rattle.disk.specs.File.{CrashLeaves, bytes_of, synced};
 
     /// Over a file that is open for reading and writing, which it syncs and reads. The entry of a new file in its folder is for
     /// the caller to sync.
@@ -88,28 +88,23 @@ impl<F: FileExt + OpenFile + Drop> FileDisk<F> {
         })
     }
 
-    // Counts a failed call.
-    fn count(&mut self) -> DeviceFailed
-        ensures cells { self.new.cells ≡ self.old.cells }
-        ensures failures { self.new.failures ≡ (self.old.failures + 1) % 2 ^ 64 }
-    {
-        self.failures = self.failures.wrapping_add(1);
-        DeviceFailed
-    }
-
-    // Counts a failed call, after which each call is to fail.
+    // Counts a failed call, after which each call is to fail: so nothing is read any more of what the file is settled to.
     fn give_up(&mut self) -> DeviceFailed
-        ensures cells { self.new.cells ≡ self.old.cells }
+        ensures cells { self.new.cells.items ≡ synced self.old.cells.items }
         ensures failures { self.new.failures ≡ (self.old.failures + 1) % 2 ^ 64 }
+        ensures lost { self.new.usable ≡ false }
     {
         self.usable = false;
-        self.count()
+        cells::sync(&mut self.cells);
+        self.failures = self.failures.wrapping_add(1);
+        DeviceFailed
     }
 
     // Whether so many bytes may be written at a place: not behind the end, and within the first bytes that are the content.
     fn can_write(&self, at: usize, len: usize) -> bool
         ensures place { IsTrue result → at ≤ length self.now.cells.items }
         ensures within { IsTrue result → at + len ≤ MOST }
+        ensures usable { IsTrue result → not self.now.usable ≡ false }
     {
         self.usable && at <= self.cells.len() && at <= MOST && len <= MOST - at
     }
@@ -122,21 +117,25 @@ impl<F: FileExt + OpenFile + Drop> Disk for FileDisk<F> {
 
     ghost planned = { λ m i. None };
 
+    ghost lost = { λ m. not m.usable };
+
+    ghost uncut_unarmed = { λ m _. refl };
+
     ghost armed_fail = { λ m i. tt };
 
     fn read(&mut self, alloc: Global, most: usize) -> Result<Vec<u8>, DeviceFailed> {
         match cells::read(alloc, &self.cells, most) {
             Ok(known) if self.usable && has_first(alloc, &self.file, &known, most) => Ok(known),
-            _ => Err(self.count()),
+            _ => Err(self.give_up()),
         }
     }
 
     fn write_at(&mut self, at: usize, bytes: &[u8]) -> Result<(), DeviceFailed> {
         if !self.can_write(at, bytes.len()) {
-            return Err(self.count());
+            return Err(self.give_up());
         }
         if cells::write(&mut self.cells, at, bytes).is_err() {
-            return Err(self.count());
+            return Err(self.give_up());
         }
         match self.file.write_all_at(bytes, at as u64) {
             Ok(()) => Ok(()),
@@ -146,10 +145,10 @@ impl<F: FileExt + OpenFile + Drop> Disk for FileDisk<F> {
 
     fn cut(&mut self, len: usize) -> Result<(), DeviceFailed> {
         if !self.usable {
-            return Err(self.count());
+            return Err(self.give_up());
         }
         if len > self.cells.len() {
-            return Err(self.count());
+            return Err(self.give_up());
         }
         if set_len(&self.file, len as u64).is_err() {
             return Err(self.give_up());
@@ -177,4 +176,10 @@ impl<F: FileExt + OpenFile + Drop> Disk for FileDisk<F> {
     fn arm(&mut self, _calls: u64, _bytes: Vec<u8>) {}
 
     fn crash(&mut self) {}
+}
+
+impl<F: FileExt + OpenFile + Drop> SteadyDisk for FileDisk<F> {
+    ghost use Rattle.std.specs.Prelude.{refl};
+
+    ghost steady = { λ m i. refl };
 }

@@ -1,7 +1,7 @@
-ghost use Rattle.std.specs.Prelude.{◌≡◌, ◌+◌, ◌<◌, ◌≤◌, [], None, IsSome, length, take, true, IfOk, OnOk, OnErr};
+ghost use Rattle.std.specs.Prelude.{◌≡◌, ◌+◌, ◌<◌, ◌≤◌, [], None, IsSome, length, take, true, false, IfOk, OnOk, OnErr};
 
 use crate::cells::{self, Cell};
-use crate::{DeviceFailed, Disk};
+use crate::{DeviceFailed, Disk, SteadyDisk};
 use std::alloc::Global;
 
 /// When a call settles the file and fails, and each one after it fails.
@@ -161,11 +161,15 @@ impl MemDisk {
 
 impl Disk for MemDisk {
     ghost use Rattle.disk.specs.Device.{planned-alone, stop_after};
-    ghost use Rattle.disk.specs.Memory.{device_of};
+    ghost use Rattle.disk.specs.Memory.{cut_always, device_of};
 
     ghost device = { device_of };
 
     ghost planned = { λ m. stop_after (device_of m).arming };
+
+    ghost lost = { λ m. false };
+
+    ghost uncut_unarmed = { cut_always };
 
     ghost armed_fail = { λ m i. planned-alone (stop_after (device_of m).arming i) };
 
@@ -210,4 +214,10 @@ impl Disk for MemDisk {
         self.settle();
         self.stop = Stop::Never;
     }
+}
+
+impl SteadyDisk for MemDisk {
+    ghost use Rattle.std.specs.Prelude.{refl};
+
+    ghost steady = { λ m i. refl };
 }

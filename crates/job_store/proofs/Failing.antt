@@ -1,12 +1,12 @@
 -- What failed where the device refuses.
-use Rattle.std.proofs.Common.{◌≡◌, ◌⊎◌, ℕ, suc, Bool, true, false, List, [], ◌∷◌, Option, Result, Ok, Err, IfErr, inl, inr, refl}
+use Rattle.std.proofs.Common.{◌≡◌, ℕ, suc, List, [], ◌∷◌, Option, Result, Ok, Err, IfErr, inl, inr, refl}
 use Rattle.disk.specs.Device.{Device, passed}
 use Rattle.checkpoint.specs.Calls.{DeviceCall, Stopped, after, changed}
 use Rattle.checkpoint.specs.Commit.{opening}
 use Rattle.checkpoint.specs.Store.{Opened}
 use Rattle.checkpoint.specs.declared.record.StoreError.{StoreError}
 use Rattle.checkpoint.specs.declared.record.StoreError.TheVariants.{Device as DeviceError}
-use Rattle.job_store.specs.Kept.{HasFailed}
+use Rattle.job_store.specs.Failed.{HasFailed}
 
 -- calls that pass count no failure
 pub after_failures : (calls : List DeviceCall) (d : Device) → (after d calls).failures ≡ d.failures
@@ -26,11 +26,6 @@ stopped_failed (call ∷ calls) plan old new stopped = elim stopped [
 -- it is the same seen from before a call that passed
 pub failed_behind : (old mid new : Device) → mid.failures ≡ old.failures → HasFailed mid new → HasFailed old new
 failed_behind old mid new same failed = rw same at failed
-
--- a commit is refused: the store had ended, or one of its calls failed
-pub failed_commit : (ended : Bool) (plan : ℕ → Option (List ℕ)) (old new : Device) (Is : List DeviceCall → Type 0) → (ended ≡ false → (calls : List DeviceCall) × Is calls × Stopped calls plan old new) → (ended ≡ true) ⊎ HasFailed old new
-failed_commit true plan old new Is stopped = inl refl
-failed_commit false plan old new Is stopped = let s = stopped refl in inr (stopped_failed s.0 plan old new s.2)
 
 -- a store that was made isn't opened
 pub failed_made : {D : Type 0} (device : D → Device) (old mid : Device) (plan : ℕ → Option (List ℕ)) (r : Result (Opened D) (StoreError × D)) → mid.failures ≡ old.failures →

@@ -78,6 +78,6 @@ refused_same d new before plan same passed = ap (λ (x : Device). x.file) passed
 
 pub refused_found : {D : Type 0} (device : D → Device) (before d : Device) (plan : ℕ → Option (List ℕ)) (job : ℕ) (r : Result (Opened D) (StoreError × D)) → d.file ≡ before.file →
     IfErr r (λ e. e.0 ≢ DeviceError → IsRefused e.0 (bytes_of d.file) job × Passed opening plan d (device e.1)) →
-    IfErr r (λ e. bytes_of before.file ≢ [] → e.0 ≢ DeviceError → (device e.1).file ≡ before.file)
+    IfErr r (λ e. e.0 ≢ DeviceError → (device e.1).file ≡ before.file)
 refused_found device before d plan job (Ok s) same refused = tt
-refused_found device before d plan job (Err e) same refused = λ some other. refused_same d (device e.1) before plan same (refused other).1
+refused_found device before d plan job (Err e) same refused = λ other. refused_same d (device e.1) before plan same (refused other).1

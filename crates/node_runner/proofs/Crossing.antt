@@ -14,7 +14,9 @@ use Rattle.std.specs.contracts.alloc.Global as Heap
 use Rattle.std.specs.contracts.vec.Vec as Vec
 use Rattle.std.below.std_heap.specs.contracts.GlobalAllocator.TheImpl.{ghosts}
 use Rattle.board.specs.contracts.posting.Board as Board
-use Rattle.chronicle.proofs.Crossing.{chronicle}
+use Rattle.chronicle.proofs.Crossing.{actor_seat, chronicle}
+use Rattle.disk.specs.declared.device.Disk.{Ghosts}
+use Rattle.disk.specs.declared.device.SteadyDisk.{Ghosts as SteadyGhosts}
 use Rattle.ids.proofs.outcome.Outcome.TheSendSync as outcome
 use Rattle.once_cell.proofs.race.once_box.OnceBox.TheSendSync as once
 use Rattle.start_words.proofs.table.WordTable.TheSendSync as words
@@ -23,6 +25,7 @@ use Rattle.local_pool.proofs.worker.BodyWorker.TheSendSync as thief
 use Rattle.local_pool.proofs.turns.TurnPass.TheSendSync as pass
 use Rattle.local_pool.proofs.turns.TurnQueue.TheSendSync as queue
 use Rattle.start_words.proofs.pen.Pen.TheSendSync as pen
+use Rattle.node_runner.specs.contracts.crew.ActorContext as ActorContext
 use Rattle.node_runner.specs.contracts.crew.NodeContext as NodeContext
 use Rattle.node_runner.specs.contracts.crew.WorkerContext as WorkerContext
 use Rattle.body_eval.specs.contracts.done.Done as Done
@@ -59,8 +62,8 @@ pace = search (sendable, crosses) depth 25
 pub leavers : IsSync Leavers.the_row
 leavers = search (sendable, crosses) depth 25
 
-pub shared : (s a : NamedLft) (G : RattleType) → IsSync G → IsSync (Shared.the_row s a G)
-shared s a G y = recorded_sync (Shared.the_field s a G).row _ _ (Shared.the_type s a G).to_one (struct_sync (shape (Shared.the_type s a G)) (
+pub shared : (s a : NamedLft) (G D : RattleType) (k : SteadyGhosts D.Denot) (h : Ghosts D.Denot) → IsSync G → IsSend D → IsSync (Shared.the_row s a G D k h)
+shared s a G D k h y d = recorded_sync (Shared.the_field s a G D k h).row _ _ (Shared.the_type s a G D k h).to_one (struct_sync (shape (Shared.the_type s a G D k h)) (
   search (sendable, chronicle) depth 12,
   (
     search (sendable, words.the_sync) depth 12,
@@ -87,13 +90,13 @@ shared s a G y = recorded_sync (Shared.the_field s a G).row _ _ (Shared.the_type
 ))
 
 -- what the closure captures that is each thread's body: the runtime, the allocator, and what actors share
-pub captured : (l m n o p : NamedLft) (R G : RattleType) → IsSync (param 0 R) → IsSync (param 1 G)
-    → IsSync (TupleAt [] ((shr_ref_field l (param 0 R) tt).row ∷ (shr_ref_field m Heap.the_row tt).row ∷ (shr_ref_field n (Shared.the_row o p (param 1 G)) tt).row ∷ []))
-captured l m n o p R G r g =
+pub captured : (l m n o p : NamedLft) (R G D : RattleType) (k : SteadyGhosts (param 2 D).Denot) (h : Ghosts (param 2 D).Denot) → IsSync (param 0 R) → IsSync (param 1 G) → IsSend (param 2 D)
+    → IsSync (TupleAt [] ((shr_ref_field l (param 0 R) tt).row ∷ (shr_ref_field m Heap.the_row tt).row ∷ (shr_ref_field n (Shared.the_row o p (param 1 G) (param 2 D) k h) tt).row ∷ []))
+captured l m n o p R G D k h r g d =
     let one : IsSync (shr_ref_field l (param 0 R) tt).row = search (sendable, r) depth 12 in
     let two : IsSync (shr_ref_field m Heap.the_row tt).row = search (sendable, heap) depth 12 in
-    let three : IsSync (shr_ref_field n (Shared.the_row o p (param 1 G)) tt).row = search (sendable, shared o p (param 1 G) g) depth 12 in
-    declared_sync (type_at [] ((shr_ref_field l (param 0 R) tt).row ∷ (shr_ref_field m Heap.the_row tt).row ∷ (shr_ref_field n (Shared.the_row o p (param 1 G)) tt).row ∷ [])) (record { shared = one.shared }, (record { shared = two.shared }, (record { shared = three.shared }, tt)))
+    let three : IsSync (shr_ref_field n (Shared.the_row o p (param 1 G) (param 2 D) k h) tt).row = search (sendable, shared o p (param 1 G) (param 2 D) k h g d) depth 12 in
+    declared_sync (type_at [] ((shr_ref_field l (param 0 R) tt).row ∷ (shr_ref_field m Heap.the_row tt).row ∷ (shr_ref_field n (Shared.the_row o p (param 1 G) (param 2 D) k h) tt).row ∷ [])) (record { shared = one.shared }, (record { shared = two.shared }, (record { shared = three.shared }, tt)))
 
 -- tickets, and turns that come back; what a node and a body worker begin with
 
@@ -190,6 +193,9 @@ node_field = struct_send (shape NodeContext.the_type) (search (sendable, pen.the
 pub node_context : IsSend NodeContext.the_row
 node_context = recorded_send (NodeContext.the_field).row _ _ (NodeContext.the_type).to_one node_field
 
+pub actor_context : (a : NamedLft) (D : RattleType) (k : SteadyGhosts D.Denot) (h : Ghosts D.Denot) → IsSend D → IsSend (ActorContext.the_row a D k h)
+actor_context a D k h d = recorded_send (ActorContext.the_field a D k h).row _ _ (ActorContext.the_type a D k h).to_one (struct_send (shape (ActorContext.the_type a D k h)) (actor_seat a D k h d, (search (sendable, node_context, crosses) depth 12, tt)))
+
 worker_field : IsSend (WorkerContext.the_field).row
 worker_field = struct_send (shape WorkerContext.the_type) (search (sendable, steals) depth 12, (line_field, (search (sendable, bells.the_send, bells.the_sync, crosses) depth 25, tt)))
 
@@ -200,11 +206,11 @@ pub worker_contexts : IsSend (Vec.the_row WorkerContext.the_row Heap.the_row gho
 worker_contexts = Vec-send WorkerContext.the_row worker_context
 
 -- what the closure captures that is all body workers' turns: the same, and their contexts
-pub captured_workers : (l m n o p : NamedLft) (R G : RattleType) → IsSync (param 0 R) → IsSync (param 1 G)
-    → IsSend (TupleAt [] ((shr_ref_field l (param 0 R) tt).row ∷ (shr_ref_field m Heap.the_row tt).row ∷ (shr_ref_field n (Shared.the_row o p (param 1 G)) tt).row ∷ Vec.the_row WorkerContext.the_row Heap.the_row ghosts ∷ []))
-captured_workers l m n o p R G r g =
+pub captured_workers : (l m n o p : NamedLft) (R G D : RattleType) (k : SteadyGhosts (param 2 D).Denot) (h : Ghosts (param 2 D).Denot) → IsSync (param 0 R) → IsSync (param 1 G) → IsSend (param 2 D)
+    → IsSend (TupleAt [] ((shr_ref_field l (param 0 R) tt).row ∷ (shr_ref_field m Heap.the_row tt).row ∷ (shr_ref_field n (Shared.the_row o p (param 1 G) (param 2 D) k h) tt).row ∷ Vec.the_row WorkerContext.the_row Heap.the_row ghosts ∷ []))
+captured_workers l m n o p R G D k h r g d =
     let one : IsSend (shr_ref_field l (param 0 R) tt).row = search (sendable, r) depth 12 in
     let two : IsSend (shr_ref_field m Heap.the_row tt).row = search (sendable, heap) depth 12 in
-    let three : IsSend (shr_ref_field n (Shared.the_row o p (param 1 G)) tt).row = search (sendable, shared o p (param 1 G) g) depth 12 in
-    declared_send (type_at [] ((shr_ref_field l (param 0 R) tt).row ∷ (shr_ref_field m Heap.the_row tt).row ∷ (shr_ref_field n (Shared.the_row o p (param 1 G)) tt).row ∷ Vec.the_row WorkerContext.the_row Heap.the_row ghosts ∷ []))
+    let three : IsSend (shr_ref_field n (Shared.the_row o p (param 1 G) (param 2 D) k h) tt).row = search (sendable, shared o p (param 1 G) (param 2 D) k h g d) depth 12 in
+    declared_send (type_at [] ((shr_ref_field l (param 0 R) tt).row ∷ (shr_ref_field m Heap.the_row tt).row ∷ (shr_ref_field n (Shared.the_row o p (param 1 G) (param 2 D) k h) tt).row ∷ Vec.the_row WorkerContext.the_row Heap.the_row ghosts ∷ []))
     (record { owned = one.owned; leaving = one.leaving }, (record { owned = two.owned; leaving = two.leaving }, (record { owned = three.owned; leaving = three.leaving }, (record { owned = worker_contexts.owned; leaving = worker_contexts.leaving }, tt))))

@@ -3,4 +3,3 @@ pub mod Configs
 pub mod Turns
 pub mod Lines
 pub mod Runs
-pub mod Stored

@@ -11,6 +11,7 @@ use crate::kept::KeptValues;
 use crate::line::Line;
 use crate::turn::Finished;
 use chronicle::ActorSeat;
+use disk::SteadyDisk;
 use local_pool::{BodyWorker, LocalPool, TurnPass, TurnQueue};
 use serial_meaning::Job;
 use start_words::Pen;
@@ -22,8 +23,8 @@ const ROOM: usize = 16;
 
 /// What an actor's thread begins with: its seat, and for a node what it has besides.
 #[derive(Drop)]
-pub(crate) struct ActorContext<'a> {
-    pub(crate) seat: ActorSeat<'a>,
+pub(crate) struct ActorContext<'a, D: SteadyDisk + Drop> {
+    pub(crate) seat: ActorSeat<'a, D>,
     pub(crate) node: Option<NodeContext>,
 }
 
@@ -44,15 +45,15 @@ pub(crate) struct WorkerContext {
 
 /// The actors' contexts, a seat each, and a pen and a desk for each node; and those of their body workers, so many a node. The desks know
 /// in how many turns a task is evaluated whole.
-pub(crate) fn contexts<'a, R: Wait>(
+pub(crate) fn contexts<'a, R: Wait, D: SteadyDisk + Drop>(
     rt: &R,
     alloc: Global,
     job: &Job,
     bodies: u8,
     grain: u64,
-    mut seats: Vec<ActorSeat<'a>>,
+    mut seats: Vec<ActorSeat<'a, D>>,
     mut pens: Vec<Pen>,
-) -> Result<(Vec<ActorContext<'a>>, Vec<WorkerContext>), AllocError>
+) -> Result<(Vec<ActorContext<'a, D>>, Vec<WorkerContext>), AllocError>
     requires { bodies ≤ 8 }
     ensures contexts { (c : ChronicleOf) (w : TableOf) → c.job ≡ job.now → All (IsSeatIn c) seats.entry.items
         → All (IsPenOf w) pens.items → IfOk result (λ r. All (IsContextIn c w) r.0.items) }
@@ -78,13 +79,13 @@ pub(crate) fn contexts<'a, R: Wait>(
 }
 
 /// What an actor that is a node has besides its seat.
-fn node_of<R: Wait>(
+fn node_of<R: Wait, D: SteadyDisk + Drop>(
     rt: &R,
     alloc: Global,
     job: &Job,
     bodies: u8,
     grain: u64,
-    seat: &ActorSeat,
+    seat: &ActorSeat<'_, D>,
     pens: &mut Vec<Pen>,
     workers: &mut Vec<WorkerContext>,
 ) -> Result<Option<NodeContext>, AllocError>

@@ -13,6 +13,7 @@ use crate::shared::{Shared, commit};
 use board::Note;
 use chronicle::{ActorSeat, Committed, Receiver};
 use clearinghouse::HouseError;
+use disk::SteadyDisk;
 use event_script::{Event, HouseEvent};
 use std::alloc::Global;
 use std::sync::Wait;
@@ -36,12 +37,12 @@ struct House {
 }
 
 /// The clearinghouse's turns, until the run ends. It is opened first.
-pub(crate) fn run_house<'a, R: Wait + Clock, G: Gate + Sync>(
+pub(crate) fn run_house<'a, R: Wait + Clock, G: Gate + Sync, D: SteadyDisk + Drop>(
     rt: &R,
     alloc: Global,
-    shared: &Shared<'_, 'a, G>,
-    mut seat: ActorSeat<'a>,
-) -> ActorSeat<'a>
+    shared: &Shared<'_, 'a, G, D>,
+    mut seat: ActorSeat<'a, D>,
+) -> ActorSeat<'a, D>
     requires seat { IsSeatIn shared.now.chronicle.now seat }
     requires tie { shared.now.board.now.outcome ≡ meaning_of shared.now.chronicle.now.job }
     ensures { IsSeatIn shared.entry.now.chronicle.now result }
@@ -70,11 +71,11 @@ pub(crate) fn run_house<'a, R: Wait + Clock, G: Gate + Sync>(
 }
 
 /// A turn: the next packet is taken, and afterwards it ticks, if it is time. Whether the run goes on.
-fn turn<'a, R: Wait + Clock, G: Gate + Sync>(
+fn turn<'a, R: Wait + Clock, G: Gate + Sync, D: SteadyDisk + Drop>(
     rt: &R,
     alloc: Global,
-    shared: &Shared<'_, 'a, G>,
-    seat: &mut ActorSeat<'a>,
+    shared: &Shared<'_, 'a, G, D>,
+    seat: &mut ActorSeat<'a, D>,
     note: &mut Note,
     house: &mut House,
 ) -> bool
@@ -115,10 +116,10 @@ fn turn<'a, R: Wait + Clock, G: Gate + Sync>(
 }
 
 /// An event of the clearinghouse is committed. Whether the run goes on: not where there is no memory, nor where `follows` ends it.
-fn goes_on<'a, R: Wait, G: Gate + Sync>(
+fn goes_on<'a, R: Wait, G: Gate + Sync, D: SteadyDisk + Drop>(
     rt: &R,
-    shared: &Shared<'_, 'a, G>,
-    seat: &mut ActorSeat<'a>,
+    shared: &Shared<'_, 'a, G, D>,
+    seat: &mut ActorSeat<'a, D>,
     note: &mut Note,
     event: HouseEvent,
 ) -> bool
@@ -137,8 +138,8 @@ fn goes_on<'a, R: Wait, G: Gate + Sync>(
 
 /// What follows from what was told of an event of the clearinghouse. The run goes on, unless an outcome is told, which is published, or the
 /// clearinghouse can't go on with its disk.
-fn follows<G: Gate + Sync>(
-    shared: &Shared<'_, '_, G>,
+fn follows<G: Gate + Sync, D: SteadyDisk + Drop>(
+    shared: &Shared<'_, '_, G, D>,
     note: &mut Note,
     committed: &Committed,
 ) -> bool

@@ -7,6 +7,7 @@ ghost use Rattle.chronicle.specs.Seats.{IsSeatIn};
 
 use crate::fates::{Fate, Fates};
 use chronicle::{ActorSeat, Chronicle, Committed, Delivery, Receiver, delivery_to};
+use disk::SteadyDisk;
 use event_script::NodePlace;
 use std::alloc::Global;
 use std::sync::Wait;
@@ -47,12 +48,12 @@ impl Inbox {
 
     /// The packet that comes in this turn, if one does: one that comes a second time, or else the next one that is addressed to the
     /// actor, if it isn't lost. Its delivery is committed. Refused only when out of memory.
-    pub(crate) fn take<'a, R: Wait>(
+    pub(crate) fn take<'a, R: Wait, D: SteadyDisk + Drop>(
         &mut self,
         rt: &R,
         alloc: Global,
-        chronicle: &Chronicle<'a>,
-        seat: &mut ActorSeat<'a>,
+        chronicle: &Chronicle<'a, D>,
+        seat: &mut ActorSeat<'a, D>,
     ) -> Result<Option<Delivered>, NoMemory>
         requires { IsSeatIn chronicle.now seat.old }
         ensures same { IsSeatIn chronicle.entry.now seat.new }
@@ -104,7 +105,12 @@ impl Inbox {
     }
 
     /// The next packet is looked for, and passed over.
-    fn loses<'a, R: Wait>(&mut self, rt: &R, chronicle: &Chronicle<'a>, seat: &mut ActorSeat<'a>)
+    fn loses<'a, R: Wait, D: SteadyDisk + Drop>(
+        &mut self,
+        rt: &R,
+        chronicle: &Chronicle<'a, D>,
+        seat: &mut ActorSeat<'a, D>,
+    )
         requires { IsSeatIn chronicle.now seat.old }
         ensures { seat.new ≡ seat.old }
     {
@@ -115,12 +121,12 @@ impl Inbox {
     }
 
     /// The next packet is looked for, and comes in the same turn of the lock.
-    fn comes<'a, R: Wait>(
+    fn comes<'a, R: Wait, D: SteadyDisk + Drop>(
         &mut self,
         rt: &R,
         alloc: Global,
-        chronicle: &Chronicle<'a>,
-        seat: &mut ActorSeat<'a>,
+        chronicle: &Chronicle<'a, D>,
+        seat: &mut ActorSeat<'a, D>,
         fate: Fate,
     ) -> Result<Option<Delivered>, NoMemory>
         requires seat { IsSeatIn chronicle.now seat.old }

@@ -1,5 +1,6 @@
 //! Which tasks of a node are known to be large: to take more turns than they may be evaluated in.
 
+use ids::limits::MOST_THREADS;
 use node_core::Work;
 use serial_meaning::{UnderWay, Whole};
 use std::alloc::{AllocError, Global};
@@ -11,9 +12,6 @@ const MOST_LARGE: usize = 4_096;
 const MOST_FAILED: u32 = 8;
 
 const TRIED: u32 = 64;
-
-/// How many threads a program has at most.
-const THREADS: usize = 64;
 
 /// A task that was under way where an evaluation broke off is known to be large where that evaluation had done one in so many of its turns
 /// below it. One that began later may be small.
@@ -31,9 +29,9 @@ pub(crate) struct LargeTasks {
 impl LargeTasks {
     /// None was tried yet.
     pub(crate) fn new(alloc: Global) -> Result<LargeTasks, AllocError> {
-        let mut failed = Vec::with_capacity(alloc, THREADS)?;
-        let mut passed = Vec::with_capacity(alloc, THREADS)?;
-        for _ in 0..THREADS {
+        let mut failed = Vec::with_capacity(alloc, usize::from(MOST_THREADS))?;
+        let mut passed = Vec::with_capacity(alloc, usize::from(MOST_THREADS))?;
+        for _ in 0..MOST_THREADS {
             failed.push(0)?;
             passed.push(0)?;
         }

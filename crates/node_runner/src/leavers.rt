@@ -7,8 +7,8 @@ use std::sync::atomic::Ordering::SeqCst;
 /// The word of no node: start words are drawn from 1 on.
 const NOBODY: u64 = 0;
 
-/// Who leaves to whom in a run, as its nodes tell each other. A node that leaves takes no Offer, and one to which it was left is no member any
-/// more: what was offered to it is done again once the one that offered it is taken for dead, and two nodes that leave to each other wait
+/// Who leaves to whom in a run, as its nodes tell each other. A node that leaves takes no Offer, and one whose heir has left has ended:
+/// what was offered to it is done again once the one that offered it is taken for dead, and two nodes that leave to each other wait
 /// until one of them is. So a node leaves to none that leaves or has left, and none leaves while another one leaves to it.
 /// Each word is written by the thread of its place alone.
 #[derive(Drop)]

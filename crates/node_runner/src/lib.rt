@@ -20,12 +20,12 @@
 //! Crash i comes once 50 i events were committed, on the place i modulo the count of nodes; departure i once 50 i + 25 were, on the i-th
 //! place from the end. It leaves to one that doesn't leave itself, and waits while another node leaves to it (`Leavers`).
 //!
-//! **A store** keeps a job's outcome over runs: `run_stored` answers the one that is kept there; else it runs the job, and keeps its outcome
-//! before it answers it.
+//! **The disk** is the caller's, and the clearinghouse keeps its record there: in memory, or in a file, which holds the outcome once a run is
+//! through. A call of it that fails ends the run.
 //!
-//! **Proved**: an outcome that `run_job` answers is the job's meaning, and its trace is a safe history of the job which tells it first,
-//! whatever threads do; what `run_stored` answers was kept, or is so; a store of the job without outcome or with the job's meaning stays one
-//! at each end; packets have the fates that the generator gives.
+//! **Proved**: an outcome that `run_job` answers is the job's meaning, its trace is a safe history of the job which tells it first, whatever
+//! threads do, and the disk that it gives back keeps the outcome, whatever a crash leaves of it; packets have the fates that the generator
+//! gives.
 //!
 //! **Not proved**: that an outcome comes, which of its refusals comes when, that the nodes share the work, that each ready frame is offered
 //! and body workers evaluate it, and that the crashes and departures come that are asked for.
@@ -55,7 +55,6 @@ mod probe;
 mod resting;
 mod run;
 mod shared;
-mod stored;
 mod turn;
 mod worker;
 
@@ -64,4 +63,3 @@ pub use error::RunError;
 pub use fates::{Fate, Fates};
 pub use gate::{Gate, Open};
 pub use run::{Ran, run_job};
-pub use stored::{Stored, run_stored};

@@ -5,6 +5,7 @@ use crate::counts::End;
 use crate::gate::Gate;
 use crate::resting::YIELDS;
 use crate::shared::Shared;
+use disk::SteadyDisk;
 use std::thread::{sleep, yield_now};
 use std::time::{Clock, Duration};
 
@@ -36,7 +37,10 @@ pub(crate) fn threads_of(config: &RunConfig) -> u64 {
 /// A thread is there, and waits for all others, which may be slow. That the system makes as many was tried before. Where it doesn't any more,
 /// what a thread was to do is done by another one, behind what that one does, and they would wait for each other without end: so none of
 /// them begins where one isn't there in time, and all are made anew. Whether all are there.
-pub(crate) fn musters<R: Clock, G: Gate + Sync>(rt: &R, shared: &Shared<'_, '_, G>) -> bool {
+pub(crate) fn musters<R: Clock, G: Gate + Sync, D: SteadyDisk + Drop>(
+    rt: &R,
+    shared: &Shared<'_, '_, G, D>,
+) -> bool {
     shared.counts.appears();
     let threads = threads_of(shared.config);
     for waited in 0..(YIELDS + NAPS).saturating_add(shared.counts.patience()) {

@@ -16,6 +16,7 @@ use crate::shared::{Shared, commit, commit_turn, commit_whole};
 use crate::turn::Found;
 use body_eval::Done;
 use chronicle::{ActorSeat, Continued, Receiver, frame_of, takes_its_numbers};
+use disk::SteadyDisk;
 use event_script::{Event, FrameOf, NodeEvent, NodePlace};
 use node_core::{NodeError, Work};
 use serial_meaning::Whole;
@@ -77,15 +78,15 @@ struct Node {
 }
 
 /// The turns of a node place, until the run ends.
-pub(crate) fn run_node<'a, R: Wait + Clock, G: Gate + Sync>(
+pub(crate) fn run_node<'a, R: Wait + Clock, G: Gate + Sync, D: SteadyDisk + Drop>(
     rt: &R,
     alloc: Global,
-    shared: &Shared<'_, 'a, G>,
-    mut seat: ActorSeat<'a>,
+    shared: &Shared<'_, 'a, G, D>,
+    mut seat: ActorSeat<'a, D>,
     mut pen: Pen,
     mut desk: Desk,
     place: NodePlace,
-) -> ActorSeat<'a>
+) -> ActorSeat<'a, D>
     requires seat { IsSeatIn shared.now.chronicle.now seat }
     requires pen { pen.table ≡ shared.now.words.now.table }
     requires home { IsHomeOf shared.now.chronicle.now.job.program desk.home }
@@ -138,11 +139,11 @@ pub(crate) fn run_node<'a, R: Wait + Clock, G: Gate + Sync>(
 /// A turn: a crash that is due; or else a departure and a Resend that are due, and then what there is to do. So a node goes on with what
 /// came to it however often it has to send again. After a Resend it does nothing while another actor is behind it. Whether there was
 /// memory.
-fn turn<'a, R: Wait + Clock, G: Gate + Sync>(
+fn turn<'a, R: Wait + Clock, G: Gate + Sync, D: SteadyDisk + Drop>(
     rt: &R,
     alloc: Global,
-    shared: &Shared<'_, 'a, G>,
-    seat: &mut ActorSeat<'a>,
+    shared: &Shared<'_, 'a, G, D>,
+    seat: &mut ActorSeat<'a, D>,
     pen: &mut Pen,
     desk: &mut Desk,
     node: &mut Node,
@@ -181,11 +182,11 @@ fn turn<'a, R: Wait + Clock, G: Gate + Sync>(
 
 /// What there is to do in a turn: the next packet, a turn that came back, a ready frame that is offered to the body workers, or a request.
 /// Where there is nothing, the node rests, and sends again where it rested long. Whether there was memory.
-fn goes_on<'a, R: Wait + Clock, G: Gate + Sync>(
+fn goes_on<'a, R: Wait + Clock, G: Gate + Sync, D: SteadyDisk + Drop>(
     rt: &R,
     alloc: Global,
-    shared: &Shared<'_, 'a, G>,
-    seat: &mut ActorSeat<'a>,
+    shared: &Shared<'_, 'a, G, D>,
+    seat: &mut ActorSeat<'a, D>,
     pen: &mut Pen,
     desk: &mut Desk,
     node: &mut Node,
@@ -240,10 +241,10 @@ fn goes_on<'a, R: Wait + Clock, G: Gate + Sync>(
 }
 
 /// A node starts at the place, with a new start word. Whether there was memory.
-fn starts<'a, R: Wait, G: Gate + Sync>(
+fn starts<'a, R: Wait, G: Gate + Sync, D: SteadyDisk + Drop>(
     rt: &R,
-    shared: &Shared<'_, 'a, G>,
-    seat: &mut ActorSeat<'a>,
+    shared: &Shared<'_, 'a, G, D>,
+    seat: &mut ActorSeat<'a, D>,
     pen: &mut Pen,
     node: &mut Node,
 ) -> bool
@@ -271,10 +272,10 @@ fn starts<'a, R: Wait, G: Gate + Sync>(
 }
 
 /// The node of the place loses its memory, and another one starts. Its tickets are forgotten. Whether there was memory.
-fn crashes<'a, R: Wait, G: Gate + Sync>(
+fn crashes<'a, R: Wait, G: Gate + Sync, D: SteadyDisk + Drop>(
     rt: &R,
-    shared: &Shared<'_, 'a, G>,
-    seat: &mut ActorSeat<'a>,
+    shared: &Shared<'_, 'a, G, D>,
+    seat: &mut ActorSeat<'a, D>,
     pen: &mut Pen,
     desk: &mut Desk,
     node: &mut Node,
@@ -294,10 +295,10 @@ fn crashes<'a, R: Wait, G: Gate + Sync>(
 }
 
 /// An event of the node is committed. What was told of it; none where there was no memory.
-fn does<'a, R: Wait, G: Gate + Sync>(
+fn does<'a, R: Wait, G: Gate + Sync, D: SteadyDisk + Drop>(
     rt: &R,
-    shared: &Shared<'_, 'a, G>,
-    seat: &mut ActorSeat<'a>,
+    shared: &Shared<'_, 'a, G, D>,
+    seat: &mut ActorSeat<'a, D>,
     node: &mut Node,
     event: NodeEvent,
 ) -> Option<EventAnswer>
@@ -312,10 +313,10 @@ fn does<'a, R: Wait, G: Gate + Sync>(
 
 /// The node leaves to another live member, if there is one that doesn't leave itself, none leaves to this one, and it may. It takes its
 /// tickets back before, and offers them again where it may not leave. Whether there was memory.
-fn departs<'a, R: Wait, G: Gate + Sync>(
+fn departs<'a, R: Wait, G: Gate + Sync, D: SteadyDisk + Drop>(
     rt: &R,
-    shared: &Shared<'_, 'a, G>,
-    seat: &mut ActorSeat<'a>,
+    shared: &Shared<'_, 'a, G, D>,
+    seat: &mut ActorSeat<'a, D>,
     desk: &mut Desk,
     node: &mut Node,
 ) -> bool
@@ -346,10 +347,10 @@ fn departs<'a, R: Wait, G: Gate + Sync>(
 }
 
 /// The node sends again. One that has ended is over where it left; else it crashes, and another one starts. Whether there was memory.
-fn sends_again<'a, R: Wait, G: Gate + Sync>(
+fn sends_again<'a, R: Wait, G: Gate + Sync, D: SteadyDisk + Drop>(
     rt: &R,
-    shared: &Shared<'_, 'a, G>,
-    seat: &mut ActorSeat<'a>,
+    shared: &Shared<'_, 'a, G, D>,
+    seat: &mut ActorSeat<'a, D>,
     pen: &mut Pen,
     desk: &mut Desk,
     node: &mut Node,
@@ -381,9 +382,9 @@ fn sends_again<'a, R: Wait, G: Gate + Sync>(
 }
 
 /// A packet came to the node. Whether there was memory.
-fn takes<G: Gate + Sync>(
+fn takes<G: Gate + Sync, D: SteadyDisk + Drop>(
     alloc: Global,
-    shared: &Shared<'_, '_, G>,
+    shared: &Shared<'_, '_, G, D>,
     node: &mut Node,
     delivered: &Delivered,
 ) -> bool {
@@ -404,11 +405,11 @@ fn takes<G: Gate + Sync>(
 
 /// A ready frame that isn't out is carried out by its own turn, where its task is short work or known to be large, or by its task's value,
 /// where an evaluation kept it; else it is offered to the body workers, if they take one more. Whether one was; none where there was no memory.
-fn offers<'a, R: Wait, G: Gate + Sync>(
+fn offers<'a, R: Wait, G: Gate + Sync, D: SteadyDisk + Drop>(
     rt: &R,
     alloc: Global,
-    shared: &Shared<'_, 'a, G>,
-    seat: &mut ActorSeat<'a>,
+    shared: &Shared<'_, 'a, G, D>,
+    seat: &mut ActorSeat<'a, D>,
     desk: &mut Desk,
     node: &mut Node,
 ) -> Option<bool>
@@ -447,11 +448,11 @@ fn offers<'a, R: Wait, G: Gate + Sync>(
 }
 
 /// The ready frame that was found right behind the last one, or else the next one that isn't out, if there is one.
-fn next_ready<'a, R: Wait, G: Gate + Sync>(
+fn next_ready<'a, R: Wait, G: Gate + Sync, D: SteadyDisk + Drop>(
     rt: &R,
     alloc: Global,
-    shared: &Shared<'_, 'a, G>,
-    seat: &mut ActorSeat<'a>,
+    shared: &Shared<'_, 'a, G, D>,
+    seat: &mut ActorSeat<'a, D>,
     desk: &Desk,
     node: &mut Node,
 ) -> Option<Work>
@@ -467,11 +468,11 @@ fn next_ready<'a, R: Wait, G: Gate + Sync>(
 }
 
 /// A frame of the node is carried out by its turn, which no body worker is asked for. None where there was no memory.
-fn does_itself<'a, R: Wait, G: Gate + Sync>(
+fn does_itself<'a, R: Wait, G: Gate + Sync, D: SteadyDisk + Drop>(
     rt: &R,
     alloc: Global,
-    shared: &Shared<'_, 'a, G>,
-    seat: &mut ActorSeat<'a>,
+    shared: &Shared<'_, 'a, G, D>,
+    seat: &mut ActorSeat<'a, D>,
     desk: &mut Desk,
     node: &mut Node,
     work: Work,
@@ -494,11 +495,11 @@ fn does_itself<'a, R: Wait, G: Gate + Sync>(
 }
 
 /// A frame of the node is carried out by what a body worker found for it. Whether there was memory.
-fn executes<'a, R: Wait, G: Gate + Sync>(
+fn executes<'a, R: Wait, G: Gate + Sync, D: SteadyDisk + Drop>(
     rt: &R,
     alloc: Global,
-    shared: &Shared<'_, 'a, G>,
-    seat: &mut ActorSeat<'a>,
+    shared: &Shared<'_, 'a, G, D>,
+    seat: &mut ActorSeat<'a, D>,
     desk: &mut Desk,
     node: &mut Node,
     returned: &Returned,
@@ -517,11 +518,11 @@ fn executes<'a, R: Wait, G: Gate + Sync>(
 }
 
 /// A frame of the node is carried out by its turn. Whether there was memory.
-fn takes_turn<'a, R: Wait, G: Gate + Sync>(
+fn takes_turn<'a, R: Wait, G: Gate + Sync, D: SteadyDisk + Drop>(
     rt: &R,
     alloc: Global,
-    shared: &Shared<'_, 'a, G>,
-    seat: &mut ActorSeat<'a>,
+    shared: &Shared<'_, 'a, G, D>,
+    seat: &mut ActorSeat<'a, D>,
     desk: &mut Desk,
     node: &mut Node,
     frame: FrameOf,
@@ -552,11 +553,11 @@ fn takes_turn<'a, R: Wait, G: Gate + Sync>(
 }
 
 /// A frame of the node is carried out by what its task gives. Whether there was memory.
-fn sends_whole<'a, R: Wait, G: Gate + Sync>(
+fn sends_whole<'a, R: Wait, G: Gate + Sync, D: SteadyDisk + Drop>(
     rt: &R,
     alloc: Global,
-    shared: &Shared<'_, 'a, G>,
-    seat: &mut ActorSeat<'a>,
+    shared: &Shared<'_, 'a, G, D>,
+    seat: &mut ActorSeat<'a, D>,
     desk: &mut Desk,
     node: &mut Node,
     frame: FrameOf,
@@ -600,10 +601,10 @@ fn follows(node: &mut Node, continued: Continued) {
 }
 
 /// The node asks for work, where somebody is listed. Whether it did; none where there was no memory.
-fn asks<'a, R: Wait + Clock, G: Gate + Sync>(
+fn asks<'a, R: Wait + Clock, G: Gate + Sync, D: SteadyDisk + Drop>(
     rt: &R,
-    shared: &Shared<'_, 'a, G>,
-    seat: &mut ActorSeat<'a>,
+    shared: &Shared<'_, 'a, G, D>,
+    seat: &mut ActorSeat<'a, D>,
     node: &mut Node,
 ) -> Option<bool>
     requires { IsSeatIn shared.now.chronicle.now seat.old }

@@ -1,8 +1,8 @@
-ghost use Rattle.std.specs.Prelude.{◌≡◌, All, IfOk, vec_len};
+ghost use Rattle.std.specs.Prelude.{◌≡◌, All, IfOk, IfSome, vec_len};
 ghost use Rattle.serial_meaning.specs.Job.{meaning_of};
 ghost use Rattle.chronicle.specs.History.{IsSafeHistory};
 ghost use Rattle.chronicle.specs.Seats.{IsSeatIn};
-ghost use Rattle.node_runner.specs.Runs.{IsContextIn, IsRanOf, IsWorkerOf};
+ghost use Rattle.node_runner.specs.Runs.{IsContextIn, IsRanOf, IsWorkerOf, KeepsOutcome};
 
 use crate::config::RunConfig;
 use crate::counts::{Counts, End};
@@ -18,7 +18,9 @@ use crate::probe::can_make;
 use crate::shared::Shared;
 use crate::worker::run_worker;
 use board::Board;
+use checkpoint::StoreError;
 use chronicle::{ActorSeat, Chronicle, Trace};
+use disk::SteadyDisk;
 use event_script::NodePlace;
 use ids::Outcome;
 use serial_meaning::Job;
@@ -27,43 +29,60 @@ use std::alloc::{AllocError, Global};
 use std::sync::Wait;
 use std::thread::{Threads, join, map_vec};
 use std::time::Clock;
+use world_steps::{FirstDisk, Found};
 
-/// A run that ended with an outcome.
+/// A run that ended with an outcome, and the disk on which its clearinghouse keeps that.
 #[derive(Drop)]
-pub struct Ran {
+pub struct Ran<D: Drop> {
     pub outcome: Outcome,
     pub trace: Trace,
+    pub disk: D,
 }
 
-/// Runs a job on as many nodes as the configuration says, each on a thread of its own and with as many body workers as it says, each on
-/// another, with a clearinghouse on one more, under the faults that it says. The outcome is the job's meaning; the trace is a safe history of the job, and tells this outcome first.
+/// Runs a job over the disk with which its run begins, on as many nodes as the configuration says, each on a thread of its own and with as many
+/// body workers as it says, each on another, with a clearinghouse on one more, under the faults that it says. The outcome is the job's meaning;
+/// the trace is a safe history of the job, and tells this outcome first; and the disk keeps it, whatever a crash leaves of that.
 ///
 /// Refused as `TurnsSpent` (E95) where all turns were taken before there was an outcome, as `Memory` (E96) where there is no memory or the
-/// system refuses a thread, and as `Disk` (E97) where the clearinghouse can't go on. Whether the system makes as many threads is tried before
-/// anything else, with threads that do nothing. Where one isn't there half a second later all end, it is tried again, and they are made anew
-/// and waited for twice as long, up to two minutes each time: threads that are slow are waited for. Each loop turn of an actor or a body
-/// worker counts as one, and so does each question to the gate. Where 131,072 turns and more may be taken a thread takes several at once, at most
-/// 64, and so fewer than one in a hundred may be left to threads that don't begin them.
-pub fn run_job<'a, R: Threads + Wait + Clock + Sync, G: Gate + Sync>(
+/// system refuses a thread, and as `Disk` (E97) where the clearinghouse can't go on, or the outcome isn't found on the disk: what that keeps is
+/// then for whoever opens it anew to find.
+///
+/// Whether the system makes as many threads is tried before anything else, with threads that do nothing. Where one isn't there half a second
+/// later all end, it is tried again, and they are made anew and waited for twice as long, up to two minutes each time: threads that are slow
+/// are waited for. Each loop turn of an actor or a body worker counts as one, and so does each question to the gate. Where 131,072 turns and
+/// more may be taken a thread takes several at once, at most 64, and so fewer than one in a hundred may be left to threads that don't begin
+/// them.
+pub fn run_job<'a, R: Threads + Wait + Clock + Sync, G: Gate + Sync, D: SteadyDisk + Drop + Send>(
     rt: &R,
     alloc: Global,
-    job: &'a Job,
+    first: FirstDisk<'a, D>,
     config: &RunConfig,
     gate: &G,
-) -> Result<Ran, RunError>
-    ensures { IfOk result (IsRanOf job.now) }
+) -> Result<Ran<D>, RunError>
+    ensures ran { IfOk result (IsRanOf first.entry.job) }
+    ensures kept { IfOk result (λ r. KeepsOutcome (D.device r.disk).file first.entry.job.number r.outcome) }
 {
+    let job = first.job();
+    let mut next = Some(first);
     let mut patience = PATIENCE;
     for _ in 0..u64::MAX {
+        let Some(first) = next.take() else {
+            break;
+        };
         // (this thread is one of them)
         if !can_make(rt, threads_of(config).saturating_sub(1)) {
             return Err(RunError::Memory);
         }
         let counts = Counts::new(config.turns(), patience);
-        let mut trace = traced(rt, alloc, job, config, gate, &counts)?;
+        let (mut trace, disk) = traced(rt, alloc, first, config, gate, &counts)?;
         trace.tell_kept(counts.used(), counts.vain());
         if let Some(outcome) = trace.outcome() {
-            return Ok(Ran { outcome, trace });
+            let disk = kept(alloc, job, outcome, disk)?;
+            return Ok(Ran {
+                outcome,
+                trace,
+                disk,
+            });
         }
         match counts.end() {
             Some(End::Missing) => rests(rt),
@@ -71,24 +90,63 @@ pub fn run_job<'a, R: Threads + Wait + Clock + Sync, G: Gate + Sync>(
             Some(End::Memory) => return Err(RunError::Memory),
             Some(End::Turns) | None => return Err(RunError::TurnsSpent),
         }
+        next = again(alloc, job, disk)?;
         patience = patience.saturating_mul(2).min(MOST_PATIENCE);
     }
     Err(RunError::Memory)
 }
 
-/// The trace of a run. Refused only when out of memory.
-fn traced<'a, R: Threads + Wait + Clock + Sync, G: Gate + Sync>(
-    rt: &R,
+/// The disk of a run that ended with no outcome, with which another one begins; none where an outcome is found there.
+fn again<'a, D: SteadyDisk + Drop>(
     alloc: Global,
     job: &'a Job,
+    disk: D,
+) -> Result<Option<FirstDisk<'a, D>>, RunError>
+    ensures { IfOk result (λ f. IfSome f (λ x. x.job ≡ job.now)) }
+{
+    match FirstDisk::found(alloc, job, disk) {
+        Ok(Found::Begins(first)) => Ok(Some(first)),
+        Ok(Found::Kept(_, _)) => Ok(None),
+        Err((fault, _)) => Err(RunError::Disk(fault.number())),
+    }
+}
+
+/// The disk of a run that ended with an outcome, where it keeps that, whatever a crash leaves of it: it is read once more.
+fn kept<D: SteadyDisk + Drop>(
+    alloc: Global,
+    job: &Job,
+    outcome: Outcome,
+    disk: D,
+) -> Result<D, RunError>
+    ensures { IfOk result (λ d. KeepsOutcome (D.device d).file job.now.number outcome) }
+{
+    match FirstDisk::found(alloc, job, disk) {
+        Ok(Found::Kept(found, disk)) => {
+            if found == outcome {
+                Ok(disk)
+            } else {
+                Err(RunError::Disk(StoreError::Damaged.number()))
+            }
+        }
+        Ok(Found::Begins(_first)) => Err(RunError::Disk(StoreError::Damaged.number())),
+        Err((fault, _disk)) => Err(RunError::Disk(fault.number())),
+    }
+}
+
+/// The trace of a run, and its disk. Refused only when out of memory.
+fn traced<'a, R: Threads + Wait + Clock + Sync, G: Gate + Sync, D: SteadyDisk + Drop + Send>(
+    rt: &R,
+    alloc: Global,
+    first: FirstDisk<'a, D>,
     config: &RunConfig,
     gate: &G,
     counts: &Counts,
-) -> Result<Trace, RunError>
-    ensures { IfOk result (λ t. IsSafeHistory job.now t) }
+) -> Result<(Trace, D), RunError>
+    ensures { IfOk result (λ r. IsSafeHistory first.entry.job r.0) }
 {
+    let job = first.job();
     let nodes = config.nodes();
-    let Ok((chronicle, seats)) = Chronicle::new(alloc, job, nodes) else {
+    let Ok((chronicle, seats)) = Chronicle::new(alloc, first, nodes) else {
         return Err(RunError::Memory);
     };
     let Ok((words, pens)) = WordTable::new(alloc, usize::from(nodes)) else {
@@ -126,19 +184,19 @@ fn traced<'a, R: Threads + Wait + Clock + Sync, G: Gate + Sync>(
         return Err(RunError::Memory);
     };
     match chronicle.finish(seats) {
-        Some(trace) => Ok(trace),
+        Some(ended) => Ok(ended),
         None => unreachable!(),
     }
 }
 
 /// The turns of all actors and body workers, each on a thread of its own.
-fn all_turns<'a, R: Threads + Wait + Clock + Sync, G: Gate + Sync>(
+fn all_turns<'a, R: Threads + Wait + Clock + Sync, G: Gate + Sync, D: SteadyDisk + Drop + Send>(
     rt: &R,
     alloc: Global,
-    shared: &Shared<'_, 'a, G>,
-    contexts: Vec<ActorContext<'a>>,
+    shared: &Shared<'_, 'a, G, D>,
+    contexts: Vec<ActorContext<'a, D>>,
     workers: Vec<WorkerContext>,
-) -> Result<Vec<ActorSeat<'a>>, AllocError>
+) -> Result<Vec<ActorSeat<'a, D>>, AllocError>
     requires contexts { All (IsContextIn shared.now.chronicle.now shared.now.words.now) contexts.items }
     requires workers { All (IsWorkerOf shared.now.chronicle.now.job) workers.items }
     requires tie { shared.now.board.now.outcome ≡ meaning_of shared.now.chronicle.now.job }
@@ -150,7 +208,7 @@ fn all_turns<'a, R: Threads + Wait + Clock + Sync, G: Gate + Sync>(
         || -> ()
             requires { All (IsWorkerOf shared.now.chronicle.now.job) workers.items }
         { all_work(rt, alloc, shared, workers) },
-        || -> Result<Vec<ActorSeat>, AllocError>
+        || -> Result<Vec<ActorSeat<D>>, AllocError>
             requires contexts { All (IsContextIn shared.now.chronicle.now shared.now.words.now) contexts.items }
             requires tie { shared.now.board.now.outcome ≡ meaning_of shared.now.chronicle.now.job }
             ensures seats { IfOk result (λ seats. All (IsSeatIn shared.entry.now.chronicle.now) seats.items) }
@@ -161,10 +219,10 @@ fn all_turns<'a, R: Threads + Wait + Clock + Sync, G: Gate + Sync>(
 }
 
 /// The turns of all body workers, each on a thread of its own.
-fn all_work<R: Threads + Wait + Clock + Sync, G: Gate + Sync>(
+fn all_work<R: Threads + Wait + Clock + Sync, G: Gate + Sync, D: SteadyDisk + Drop + Send>(
     rt: &R,
     alloc: Global,
-    shared: &Shared<'_, '_, G>,
+    shared: &Shared<'_, '_, G, D>,
     workers: Vec<WorkerContext>,
 )
     requires { All (IsWorkerOf shared.now.chronicle.now.job) workers.items }
@@ -182,12 +240,12 @@ fn all_work<R: Threads + Wait + Clock + Sync, G: Gate + Sync>(
 }
 
 /// The turns of all actors, each on a thread of its own.
-fn all_act<'a, R: Threads + Wait + Clock + Sync, G: Gate + Sync>(
+fn all_act<'a, R: Threads + Wait + Clock + Sync, G: Gate + Sync, D: SteadyDisk + Drop + Send>(
     rt: &R,
     alloc: Global,
-    shared: &Shared<'_, 'a, G>,
-    contexts: Vec<ActorContext<'a>>,
-) -> Result<Vec<ActorSeat<'a>>, AllocError>
+    shared: &Shared<'_, 'a, G, D>,
+    contexts: Vec<ActorContext<'a, D>>,
+) -> Result<Vec<ActorSeat<'a, D>>, AllocError>
     requires contexts { All (IsContextIn shared.now.chronicle.now shared.now.words.now) contexts.items }
     requires tie { shared.now.board.now.outcome ≡ meaning_of shared.now.chronicle.now.job }
     ensures seats { IfOk result (λ seats. All (IsSeatIn shared.entry.now.chronicle.now) seats.items) }
@@ -196,7 +254,7 @@ fn all_act<'a, R: Threads + Wait + Clock + Sync, G: Gate + Sync>(
     let seats = map_vec(
         rt,
         contexts,
-        &|context: ActorContext| -> ActorSeat
+        &|context: ActorContext<D>| -> ActorSeat<D>
             requires context { IsContextIn shared.now.chronicle.now shared.now.words.now context }
             requires tie { shared.now.board.now.outcome ≡ meaning_of shared.now.chronicle.now.job }
             ensures { IsSeatIn shared.entry.now.chronicle.now result }
@@ -209,12 +267,12 @@ fn all_act<'a, R: Threads + Wait + Clock + Sync, G: Gate + Sync>(
 }
 
 /// The turns of an actor.
-fn act<'a, R: Wait + Clock, G: Gate + Sync>(
+fn act<'a, R: Wait + Clock, G: Gate + Sync, D: SteadyDisk + Drop>(
     rt: &R,
     alloc: Global,
-    shared: &Shared<'_, 'a, G>,
-    context: ActorContext<'a>,
-) -> ActorSeat<'a>
+    shared: &Shared<'_, 'a, G, D>,
+    context: ActorContext<'a, D>,
+) -> ActorSeat<'a, D>
     requires context { IsContextIn shared.now.chronicle.now shared.now.words.now context }
     requires tie { shared.now.board.now.outcome ≡ meaning_of shared.now.chronicle.now.job }
     ensures { IsSeatIn shared.entry.now.chronicle.now result }

@@ -12,6 +12,7 @@ use crate::pace::Pace;
 use board::Board;
 use body_eval::Done;
 use chronicle::{ActorSeat, Chronicle, Committed, Continued};
+use disk::SteadyDisk;
 use event_script::{Event, FrameOf, NodePlace};
 use serial_meaning::Whole;
 use start_words::WordTable;
@@ -20,8 +21,8 @@ use std::sync::Wait;
 
 /// What the actors of a run share.
 #[derive(Drop)]
-pub(crate) struct Shared<'s, 'a, G: Gate + Sync> {
-    pub(crate) chronicle: &'s Chronicle<'a>,
+pub(crate) struct Shared<'s, 'a, G: Gate + Sync, D: SteadyDisk + Drop> {
+    pub(crate) chronicle: &'s Chronicle<'a, D>,
     pub(crate) words: &'s WordTable,
     pub(crate) board: &'s Board,
     pub(crate) counts: &'s Counts,
@@ -32,11 +33,11 @@ pub(crate) struct Shared<'s, 'a, G: Gate + Sync> {
 }
 
 /// An event of the seat's actor is committed. None where there is no memory, which ends the run, or the event isn't the actor's.
-pub(crate) fn commit<'a, R: Wait>(
+pub(crate) fn commit<'a, R: Wait, D: SteadyDisk + Drop>(
     rt: &R,
-    chronicle: &Chronicle<'a>,
+    chronicle: &Chronicle<'a, D>,
     counts: &Counts,
-    seat: &mut ActorSeat<'a>,
+    seat: &mut ActorSeat<'a, D>,
     event: Event,
 ) -> Option<Committed>
     requires { IsSeatIn chronicle.now seat.old }
@@ -57,12 +58,12 @@ pub(crate) fn commit<'a, R: Wait>(
 
 /// The same, with a turn that was evaluated before, and with a ready frame of the node of a place that isn't among these, if one is found
 /// right behind the event.
-pub(crate) fn commit_turn<'a, R: Wait>(
+pub(crate) fn commit_turn<'a, R: Wait, D: SteadyDisk + Drop>(
     rt: &R,
     alloc: Global,
-    chronicle: &Chronicle<'a>,
+    chronicle: &Chronicle<'a, D>,
     counts: &Counts,
-    seat: &mut ActorSeat<'a>,
+    seat: &mut ActorSeat<'a, D>,
     event: Event,
     turn: &Done,
     place: NodePlace,
@@ -85,12 +86,12 @@ pub(crate) fn commit_turn<'a, R: Wait>(
 
 /// The same, with a task that was evaluated whole before, and with a ready frame of the node of a place that isn't among these, if one is found
 /// right behind the event.
-pub(crate) fn commit_whole<'a, R: Wait>(
+pub(crate) fn commit_whole<'a, R: Wait, D: SteadyDisk + Drop>(
     rt: &R,
     alloc: Global,
-    chronicle: &Chronicle<'a>,
+    chronicle: &Chronicle<'a, D>,
     counts: &Counts,
-    seat: &mut ActorSeat<'a>,
+    seat: &mut ActorSeat<'a, D>,
     event: Event,
     whole: &Whole,
     place: NodePlace,

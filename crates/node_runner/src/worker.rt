@@ -18,6 +18,7 @@ use crate::turn::{Evaluated, Finished, Found};
 use board::Note;
 use body_eval::Done;
 use chronicle::{frame_of, takes_its_numbers};
+use disk::SteadyDisk;
 use kind_check::Checked;
 use node_core::Work;
 use serial_meaning::{Flat, Keeper, Whole};
@@ -28,10 +29,10 @@ use std::time::Clock;
 
 /// A body worker's turns, until the run ends: it steals a ticket of its node, evaluates the frame once the gate lets it, and gives
 /// back what it found.
-pub(crate) fn run_worker<R: Wait + Clock, G: Gate + Sync>(
+pub(crate) fn run_worker<R: Wait + Clock, G: Gate + Sync, D: SteadyDisk + Drop>(
     rt: &R,
     alloc: Global,
-    shared: &Shared<'_, '_, G>,
+    shared: &Shared<'_, '_, G, D>,
     context: WorkerContext,
 )
     requires { IsLineOf shared.now.chronicle.now.job.program context.line }
@@ -82,7 +83,11 @@ fn waits<R: Wait>(rt: &R, bells: &Bells, offered: u64, idle: u64) {
 }
 
 /// Takes a turn. Whether there was one, and the run goes on.
-fn goes_on<G: Gate + Sync>(shared: &Shared<'_, '_, G>, turns: &mut Turns, note: &mut Note) -> bool
+fn goes_on<G: Gate + Sync, D: SteadyDisk + Drop>(
+    shared: &Shared<'_, '_, G, D>,
+    turns: &mut Turns,
+    note: &mut Note,
+) -> bool
     requires { note.old.board ≡ shared.now.board.now.board }
     ensures { note.new.board ≡ note.old.board }
 {
@@ -90,10 +95,10 @@ fn goes_on<G: Gate + Sync>(shared: &Shared<'_, '_, G>, turns: &mut Turns, note: 
 }
 
 /// A ticket's frame is evaluated, and what was found goes back. Whether the run goes on, and there was memory.
-fn works<R: Wait + Clock, G: Gate + Sync>(
+fn works<R: Wait + Clock, G: Gate + Sync, D: SteadyDisk + Drop>(
     rt: &R,
     alloc: Global,
-    shared: &Shared<'_, '_, G>,
+    shared: &Shared<'_, '_, G, D>,
     flat: &Flat,
     line: &mut Line,
     turns: &mut Turns,
@@ -191,9 +196,9 @@ fn evaluates(
 }
 
 /// Numbers a body, and asks the gate, each time in a turn, until it lets it be evaluated. Whether it did before the run ended.
-fn passes<R: Wait + Clock, G: Gate + Sync>(
+fn passes<R: Wait + Clock, G: Gate + Sync, D: SteadyDisk + Drop>(
     rt: &R,
-    shared: &Shared<'_, '_, G>,
+    shared: &Shared<'_, '_, G, D>,
     turns: &mut Turns,
     note: &mut Note,
 ) -> bool
@@ -217,9 +222,9 @@ fn passes<R: Wait + Clock, G: Gate + Sync>(
 }
 
 /// A turn goes back, as soon as there is room for it. Whether it did before the run ended.
-fn returns<R: Wait + Clock, G: Gate + Sync>(
+fn returns<R: Wait + Clock, G: Gate + Sync, D: SteadyDisk + Drop>(
     rt: &R,
-    shared: &Shared<'_, '_, G>,
+    shared: &Shared<'_, '_, G, D>,
     line: &mut Line,
     turns: &mut Turns,
     note: &mut Note,

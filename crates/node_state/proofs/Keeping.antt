@@ -180,7 +180,7 @@ changed_parts n m s told posts are next order order_before member subs seen fres
     taken_after g t there = rw seen (found_after (λ k u. IsSome (hop_in k n.seen)) s n.subs (are.taken s.grant next.before next.there) are.taken g t there)
 
 -- a subcomputation that comes
-no_sub_yet : (n : NodeOf) (g : Grant) → AreTaken n → hop_in g n.seen ≡ None → sub_in g n.subs ≡ None
+pub no_sub_yet : (n : NodeOf) (g : Grant) → AreTaken n → hop_in g n.seen ≡ None → sub_in g n.subs ≡ None
 no_sub_yet n g taken none = by_sub (sub_in g n.subs) refl
   where
     by_sub : (o : Option SubOf) → sub_in g n.subs ≡ o → sub_in g n.subs ≡ None

@@ -6,3 +6,4 @@ pub mod Recovers
 pub mod Accepts
 pub mod Standing
 pub mod Living
+pub mod Coming

@@ -1,5 +1,5 @@
-ghost use Rattle.std.specs.Prelude.{◌≡◌, ◌<◌, ◌+◌, List, OnOk, OnErr, IfOk, IfSome, IsSome, IsSomeAnd, None, Some, option_copied, is_some, [], refl};
-ghost use Rattle.std.specs.List.{filter};
+ghost use Rattle.std.specs.Prelude.{◌≡◌, ◌<◌, ◌+◌, List, OnOk, OnErr, IfOk, IfSome, IsSome, IsSomeAnd, true, None, Some, option_copied, is_some, [], refl};
+ghost use Rattle.std.specs.List.{filter, list_all};
 ghost use Rattle.subcomputation.specs.Subs.{sub_in, host_in, name_of_sub, put_sub, without_sub, ready_frames, IsBegun, SubOf};
 ghost use Rattle.steal_protocol.specs.Requests.{asked, IsAsked, without_request, settled};
 ghost use Rattle.steal_protocol.specs.Replies.{put_reply};
@@ -8,7 +8,7 @@ ghost use Rattle.node_state.specs.Node.{starting, ended, is_confirmed, hop_in, h
 ghost use Rattle.level_deques.specs.Levels.{IsByLevel};
 ghost use Rattle.level_deques.specs.declared.posts.Post.{Post};
 ghost use Rattle.node_state.specs.Posts.{post_of, posted_all, posts_after, ready_of_sub};
-ghost use Rattle.node_state.specs.Stale.{Covers, stale_by, stale_in};
+ghost use Rattle.node_state.specs.Stale.{Covers, stale_by, stale_in, still_ready};
 ghost use Rattle.sub_rules.specs.Changes.{readied_in};
 ghost use Rattle.ids.specs.Naming.{name_of_frame, name_of_grant, name_of_member};
 ghost use Rattle.ids.specs.Ordered.{AreInOrder};
@@ -373,11 +373,14 @@ impl Parts {
             }) (ready_of grant ready.now) self.old.posts) }
         ensures err { OnErr result (self.new ≡ self.old) }
     {
-        let posts = posted(&self.posts, grant, ready)?;
-        note(&mut self.subs, &mut self.seen, grant, hop, after)?;
+        self.posts.law_stand_by_level();
+        post_ready(&mut self.posts, grant, ready)?;
+        if let Err(refused) = note(&mut self.subs, &mut self.seen, grant, hop, after) {
+            take_back(&mut self.posts, grant, ready);
+            return Err(refused);
+        }
         law_frames_stand_in_order(&self.subs, grant);
-        self.posts = posts;
-        withdraw_stale(&mut self.posts, &self.subs);
+        withdraw_come(&mut self.posts, &self.subs, grant, ready);
         Ok(())
     }
 
@@ -492,12 +495,16 @@ impl Parts {
             self.old.posts) }
         ensures err { OnErr result (self.new ≡ self.old) }
     {
-        let posts = posted(&self.posts, sub.grant(), ready)?;
+        let grant = sub.grant();
+        self.posts.law_stand_by_level();
+        post_ready(&mut self.posts, grant, ready)?;
         law_stands_in_order(&sub);
-        hold(&mut self.subs, &mut self.seen, sub)?;
+        if let Err(refused) = hold(&mut self.subs, &mut self.seen, sub) {
+            take_back(&mut self.posts, grant, ready);
+            return Err(refused);
+        }
         self.asker.clear();
-        self.posts = posts;
-        withdraw_stale(&mut self.posts, &self.subs);
+        withdraw_come(&mut self.posts, &self.subs, grant, ready);
         Ok(())
     }
 
@@ -538,21 +545,6 @@ fn law_stands_in_order(sub: &Sub)
     ensures { AreInOrder name_of_frame sub.now.content.frames }
 {
     sub.content().frames.law_stand_in_order();
-}
-
-/// The posts, and behind them those of frames of a grant's subcomputation.
-fn posted(posts: &Posts, grant: GrantId, ready: &[Readied]) -> Result<Posts, AllocError>
-    ensures { IfOk result (λ p. p ≡ posted_all (ready_of grant ready.now) posts.now) }
-{
-    let mut all = posts.clone()?;
-    for frame in ready {
-        all.post(Post {
-            level: frame.level,
-            grant,
-            frame: frame.frame,
-        })?;
-    }
-    Ok(all)
 }
 
 /// The posts, and behind them those of frames that are ready again.
@@ -700,6 +692,28 @@ fn withdraw_stale(posts: &mut Posts, subs: &SortedMap<Sub>)
     ensures { posts.new ≡ filter (λ p. is_some (ready_of_sub p.frame (sub_in p.grant subs.now))) posts.old }
 {
     posts.retain(&StillReady { subs })
+}
+
+/// Takes the posts away of frames that came with a grant's subcomputation and aren't ready there. Such frames alone can be stale, so
+/// the other posts are looked at only where one of them is.
+fn withdraw_come(posts: &mut Posts, subs: &SortedMap<Sub>, grant: GrantId, ready: &[Readied])
+    requires { list_all (λ r. is_some (ready_of_sub r.frame (sub_in grant subs.now))) ready.now ≡ true
+        → still_ready subs.now posts.old ≡ posts.old }
+    ensures { posts.new ≡ filter (λ p. is_some (ready_of_sub p.frame (sub_in p.grant subs.now))) posts.old }
+{
+    if !are_ready(subs, grant, ready) {
+        withdraw_stale(posts, subs);
+    }
+}
+
+/// Whether each of these frames is ready in the subcomputation of a grant.
+fn are_ready(subs: &SortedMap<Sub>, grant: GrantId, ready: &[Readied]) -> bool
+    ensures { result ≡ list_all (λ r. is_some (ready_of_sub r.frame (sub_in grant subs.now))) ready.now }
+{
+    let test = StillReady { subs };
+    ready
+        .iter()
+        .all(|frame| test.stays(&post_in(grant, *frame)))
 }
 
 /// Puts a subcomputation under its grant, and remembers with which hop it came, where it never did; running out of memory changes

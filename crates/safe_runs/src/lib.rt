@@ -47,4 +47,4 @@ mod runs;
 pub use agrees::worlds_agree;
 pub use loss::nothing_is_lost;
 pub use moves::{sound_worlds_are_safe, steps_are_moves, worlds_of_runs_are_safe};
-pub use runs::{openings_find_their_store, runs_are_safe};
+pub use runs::{disks_go_on, openings_find_their_store, runs_are_safe};

@@ -1,6 +1,6 @@
-ghost use Rattle.std.specs.Prelude.{List, ◌∷◌};
+ghost use Rattle.std.specs.Prelude.{◌≡◌, List, ◌∷◌};
 ghost use Rattle.run_tables.specs.Tables.{◌∈◌};
-ghost use Rattle.disk.specs.Device.{Device};
+ghost use Rattle.disk.specs.Device.{Device, Unarmed};
 ghost use Rattle.serial_meaning.specs.Job.{JobOf, IsJob};
 ghost use Rattle.world_steps.specs.Runs.{CanBegin, Entry, Runs};
 ghost use Rattle.world_steps.specs.World.{WorldOf, first_over};
@@ -27,4 +27,16 @@ pub fn openings_find_their_store()
         → Runs job (first_over d) entries worlds
         → x ∈ entries
         → OpeningFinds x.event x.answer }
+{}
+
+/// What a run leaves of its disk, wherever it ends, is a disk on which another run of the job can begin, once it isn't armed. Does
+/// nothing.
+pub fn disks_go_on()
+    ensures { (job : JobOf) (d : Device) (entries : List Entry) (worlds : List WorldOf) (v : WorldOf)
+        → IsJob job
+        → CanBegin job d
+        → Runs job (first_over d) entries worlds
+        → v ∈ worlds
+        → v.disk.arming ≡ Unarmed
+        → CanBegin job v.disk }
 {}

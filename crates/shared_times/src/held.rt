@@ -1,5 +1,6 @@
 use crate::job_of;
 use anyhow::{Result, bail};
+use disk::MemDisk;
 use node_runner::{Faults, Gate, Ran, RunConfig, run_job};
 use serial_meaning::Outcome;
 use std::alloc::Global;
@@ -9,6 +10,7 @@ use std::sync::atomic::AtomicU64;
 use std::sync::atomic::Ordering::SeqCst;
 use std::thread::Threads;
 use std::time::Clock;
+use world_steps::FirstDisk;
 
 /// The Fibonacci numbers.
 const FIB: &[u8] =
@@ -94,12 +96,15 @@ pub fn run_held<R: Threads + Wait + Clock + Sync>(
         goes: AtomicU64::new(0),
         before: held.before,
     };
-    let ran = run_job(rt, alloc, &job, &config, &gate)?;
+    let Ok(first) = FirstDisk::formatted(alloc, &job) else {
+        bail!("out of memory");
+    };
+    let ran = run_job(rt, alloc, first, &config, &gate)?;
     told(alloc, &ran, gate.begun.load(SeqCst))
 }
 
 /// The script of a run, and behind it how many bodies began, and the value.
-fn told(alloc: Global, ran: &Ran, begun: u64) -> Result<String> {
+fn told(alloc: Global, ran: &Ran<MemDisk>, begun: u64) -> Result<String> {
     let Outcome::Value(value) = ran.outcome else {
         bail!("too deep");
     };

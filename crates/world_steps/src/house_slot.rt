@@ -1,7 +1,6 @@
 //! The clearinghouse at its place, over its disk.
-ghost use Rattle.std.specs.Prelude.{◌≡◌, true, false, IsTrue, [], IfOk, None, OnErr, Some, option_copied};
+ghost use Rattle.std.specs.Prelude.{◌≡◌, true, false, [], IfOk, None, OnErr, Some, option_copied};
 ghost use Rattle.disk.specs.Device.{armed as armed_disk, crashed as crashed_disk};
-ghost use Rattle.disk.specs.Memory.{device_of};
 ghost use Rattle.serial_meaning.specs.Job.{JobOf};
 ghost use Rattle.clearinghouse.specs.Calls.{passes};
 ghost use Rattle.clearinghouse.specs.Cases.{on_packet};
@@ -16,10 +15,11 @@ ghost use Rattle.world_steps.specs.Seats.{Happens, CutHappens, DeliversPacket, I
 ghost use Rattle.world_steps.specs.Steps.{Applies};
 ghost use Rattle.world_steps.specs.World.{Down, IsUp, WorldOf, recorded_at};
 
+use crate::first_disk::FirstDisk;
 use crate::parts::NoMemory;
 use clearinghouse::{House, HouseError, HouseStep, Stop};
 use codec::Datagram;
-use disk::{Disk, MemDisk};
+use disk::{Disk, SteadyDisk};
 use event_script::HouseEvent;
 use ids::{Listed, Outcome};
 use serial_meaning::Job;
@@ -32,20 +32,22 @@ const SILENCE: u64 = 500;
 
 /// It is down; or stopped after it lost what it held; or up, open or stopped.
 #[derive(Drop)]
-enum HouseState<'a> {
-    Fallen(MemDisk),
-    Halted(Stop, MemDisk),
-    Up(House<'a, MemDisk>),
+enum HouseState<'a, D: SteadyDisk + Drop> {
+    Fallen(D),
+    Halted(Stop, D),
+    Up(House<'a, D>),
+    /// Within a call: what stood here is being changed.
+    Away,
 }
 
 /// The clearinghouse of a job, wherever it stands, and its disk. Contracts see the job, where it stands, and the device.
 #[derive(Drop)]
-pub struct HouseSlot<'a> {
+pub struct HouseSlot<'a, D: SteadyDisk + Drop> {
     job: &'a Job,
-    stand: HouseState<'a>,
+    stand: HouseState<'a, D>,
 }
 
-impl<'a> Model for HouseSlot<'a> {
+impl<'a, D: SteadyDisk + Drop> Model for HouseSlot<'a, D> {
     ghost use Rattle.std.specs.Coded.{codes as known};
     ghost use Rattle.task_tree.specs.contracts.tree.Expr as expr;
     ghost use Rattle.task_tree.specs.contracts.tree.Block as block;
@@ -56,9 +58,9 @@ impl<'a> Model for HouseSlot<'a> {
 
     ghost coded = { Prim.hlevel (known, expr.the_row.coded, block.the_row.coded, end.the_row.coded) };
 
-    ghost view = { λ s. record { job = s.job.now; house = house_at s.stand; disk = disk_of s.stand } };
+    ghost view = { λ s. record { job = s.job.now; house = house_at s.stand; disk = disk_of D.device s.stand } };
 
-    ghost invariant = { λ s. IsSeat s.job.now s.stand };
+    ghost invariant = { λ s. IsSeat D.device s.job.now s.stand };
 }
 
 /// What the clearinghouse replies to an event: why it refuses, if it does, and the packets that it sends.
@@ -68,20 +70,24 @@ pub struct HouseReply {
     pub sent: Listed<Datagram>,
 }
 
-impl<'a> HouseSlot<'a> {
-    /// It is down, over a disk that was formatted for the job. Refused only when out of memory.
-    pub fn new(alloc: Global, job: &'a Job) -> Result<HouseSlot<'a>, NoMemory>
-        ensures formatted { IfOk result (λ s. IsFormattedFor job.now s.disk) }
-        ensures down { IfOk result (λ s. s ≡ record { job = job.now; house = Down; disk = s.disk }) }
+impl<'a, D: SteadyDisk + Drop> HouseSlot<'a, D> {
+    /// It is down, over the disk with which a run begins.
+    pub fn over(first: FirstDisk<'a, D>) -> HouseSlot<'a, D>
+        ensures { result ≡ record { job = first.entry.job; house = Down; disk = D.device first.entry.disk } }
     {
-        let mut disk = MemDisk::new(alloc);
-        match checkpoint::format(&mut disk, job.number()) {
-            Ok(()) => Ok(HouseSlot {
-                job,
-                stand: HouseState::Fallen(disk),
-            }),
-            Err(_) => Err(NoMemory),
+        let (job, disk) = first.into_parts();
+        HouseSlot {
+            job,
+            stand: HouseState::Fallen(disk),
         }
+    }
+
+    /// Its disk.
+    pub fn into_disk(self) -> D
+        ensures { D.device result ≡ self.entry.disk }
+    {
+        let HouseSlot { job, stand } = self;
+        disk_in(job, stand)
     }
 
     /// The outcome that an open clearinghouse has recorded.
@@ -93,15 +99,19 @@ impl<'a> HouseSlot<'a> {
                 Ok(outcome) => outcome,
                 Err(_) => None,
             },
-            HouseState::Fallen(_) | HouseState::Halted(_, _) => None,
+            HouseState::Fallen(_) | HouseState::Halted(_, _) | HouseState::Away => None,
         }
     }
 
-    /// Its disk can be cut. Does nothing.
-    pub fn law_can_cut(&self)
-        ensures { IsTrue self.now.disk.can_cut }
+    /// Whether its disk can be cut.
+    pub fn can_cut(&self) -> bool
+        ensures { result ≡ self.now.disk.can_cut }
     {
-        let _ = &self.stand;
+        match &self.stand {
+            HouseState::Fallen(disk) | HouseState::Halted(_, disk) => disk.can_cut(),
+            HouseState::Up(house) => house.can_cut(),
+            HouseState::Away => false,
+        }
     }
 
     /// Whether an event applies, with the packet that it delivers.
@@ -152,6 +162,7 @@ impl<'a> HouseSlot<'a> {
         event: HouseEvent,
         packet: Option<&Datagram>,
     ) -> Result<HouseReply, NoMemory>
+        requires can_cut { self.old.disk.can_cut ≡ true }
         ensures ok { IfOk result (λ r. (w : WorldOf) → Seats self.old w
             → DeliversPacket event (option_copied packet.entry) w
             → CutHappens self.old.job (record { calls = calls; bytes = bytes.items; event = event }) w
@@ -165,45 +176,42 @@ impl<'a> HouseSlot<'a> {
         if !self.applies(event, packet) {
             return Ok(silent(alloc));
         }
-        let stand = mem::replace(&mut self.stand, HouseState::Fallen(MemDisk::new(alloc)));
-        let mut stand = armed(stand, calls, bytes);
+        let stand = mem::replace(&mut self.stand, HouseState::Away);
+        let mut stand = armed(self.job, stand, calls, bytes);
         let reply = come(alloc, self.job, &mut stand, event, packet);
-        self.stand = HouseState::Halted(stop_by(&reply), crashed(stand));
+        self.stand = HouseState::Halted(stop_by(&reply), crashed(self.job, stand));
         reply
     }
 
-    /// It loses its memory, if it is up.
-    pub fn fall(&mut self, alloc: Global)
+    /// It loses its memory, if it is up. What it wrote is on the disk for good, so a crash changes nothing there.
+    pub fn fall(&mut self)
         ensures { self.new ≡ fallen self.old }
     {
-        if let HouseState::Fallen(_) = &self.stand {
-            return;
-        }
-        let stand = mem::replace(&mut self.stand, HouseState::Fallen(MemDisk::new(alloc)));
-        self.stand = HouseState::Fallen(crashed(stand));
+        let stand = mem::replace(&mut self.stand, HouseState::Away);
+        self.stand = HouseState::Fallen(disk_in(self.job, stand));
     }
 
     /// It finds no memory, and is stopped.
-    pub fn lack_memory(&mut self, alloc: Global)
+    pub fn lack_memory(&mut self)
         ensures { self.new ≡ record self.old { house = IsUp (Stopped by.Memory) } }
     {
-        let stand = mem::replace(&mut self.stand, HouseState::Fallen(MemDisk::new(alloc)));
-        self.stand = HouseState::Halted(Stop::Memory, disk_in(stand));
+        let stand = mem::replace(&mut self.stand, HouseState::Away);
+        self.stand = HouseState::Halted(Stop::Memory, disk_in(self.job, stand));
     }
 }
 
 /// Whether it is open.
-fn is_open(stand: &HouseState<'_>) -> bool
+fn is_open<D: SteadyDisk + Drop>(stand: &HouseState<'_, D>) -> bool
     ensures { result ≡ is_open_at (house_at stand.now) }
 {
     match stand {
         HouseState::Up(house) => house.outcome().is_ok(),
-        HouseState::Fallen(_) | HouseState::Halted(_, _) => false,
+        HouseState::Fallen(_) | HouseState::Halted(_, _) | HouseState::Away => false,
     }
 }
 
 /// What stopped it, if it is up and stopped.
-fn stop_of(house: &House<'_, MemDisk>) -> Stop
+fn stop_of<D: SteadyDisk + Drop>(house: &House<'_, D>) -> Stop
     ensures { (s : StopOf) → house.now.state ≡ Stopped s → result ≡ s }
 {
     match house.outcome() {
@@ -223,30 +231,43 @@ fn stop_by(reply: &Result<HouseReply, NoMemory>) -> Stop
 }
 
 /// Its disk.
-fn disk_in(stand: HouseState<'_>) -> MemDisk
-    ensures { device_of result ≡ disk_of stand.entry }
+fn disk_in<'a, D: SteadyDisk + Drop>(_job: &'a Job, stand: HouseState<'a, D>) -> D
+    requires there { IsOf _job.now stand }
+    ensures { D.device result ≡ disk_of D.device stand.entry }
 {
     match stand {
         HouseState::Fallen(disk) => disk,
         HouseState::Halted(_, disk) => disk,
         HouseState::Up(house) => house.into_disk(),
+        HouseState::Away => unreachable!(),
     }
 }
 
 /// Its disk, after a crash.
-fn crashed(stand: HouseState<'_>) -> MemDisk
-    ensures { device_of result ≡ crashed_disk (disk_of stand.entry) }
+fn crashed<'a, D: SteadyDisk + Drop>(job: &'a Job, stand: HouseState<'a, D>) -> D
+    requires there { IsOf job.now stand }
+    ensures cut { (disk_of D.device stand.entry).can_cut ≡ true
+        → D.device result ≡ crashed_disk (disk_of D.device stand.entry) }
+    ensures uncut { (disk_of D.device stand.entry).can_cut ≡ false
+        → D.device result ≡ disk_of D.device stand.entry }
 {
-    let mut disk = disk_in(stand);
+    let mut disk = disk_in(job, stand);
     disk.crash();
     disk
 }
 
 /// Its disk is armed.
-fn armed<'a>(stand: HouseState<'a>, calls: u64, bytes: Vec<u8>) -> HouseState<'a>
+fn armed<'a, D: SteadyDisk + Drop>(
+    _job: &'a Job,
+    stand: HouseState<'a, D>,
+    calls: u64,
+    bytes: Vec<u8>,
+) -> HouseState<'a, D>
+    requires there { IsOf _job.now stand }
+    requires can_cut { (disk_of D.device stand).can_cut ≡ true }
     ensures house { house_at result ≡ house_at stand.entry }
-    ensures disk { disk_of result ≡ armed_disk (disk_of stand.entry) calls bytes.items }
-    ensures own { (job : JobOf) → IsOf job stand.entry → IsOf job result }
+    ensures disk { disk_of D.device result ≡ armed_disk (disk_of D.device stand.entry) calls bytes.items }
+    ensures own { IsOf _job.now result }
 {
     match stand {
         HouseState::Fallen(disk) => {
@@ -264,6 +285,7 @@ fn armed<'a>(stand: HouseState<'a>, calls: u64, bytes: Vec<u8>) -> HouseState<'a
             house.arm(calls, bytes);
             HouseState::Up(house)
         }
+        HouseState::Away => unreachable!(),
     }
 }
 
@@ -302,44 +324,52 @@ fn reply_of(alloc: Global, answer: Result<HouseStep, HouseError>) -> Result<Hous
 }
 
 /// A packet comes to an open clearinghouse.
-fn hear(
+fn hear<D: SteadyDisk + Drop>(
     alloc: Global,
-    house: &mut House<'_, MemDisk>,
+    house: &mut House<'_, D>,
     packet: &Datagram,
 ) -> Result<HouseReply, NoMemory>
     requires stands { IsHouseOn house.old house.old.state }
     ensures { (h : HouseOf) → house.old.state ≡ Open h
-        → Answered h (on_packet house.old.job packet.now h) result house.old house.new }
+        → Answered D.device h (on_packet house.old.job packet.now h) result house.old house.new }
 {
     let answer = house.on_bytes(alloc, packet.as_bytes());
     reply_of(alloc, answer)
 }
 
 /// A moment comes to an open clearinghouse.
-fn wake(alloc: Global, house: &mut House<'_, MemDisk>, now: u64) -> Result<HouseReply, NoMemory>
+fn wake<D: SteadyDisk + Drop>(
+    alloc: Global,
+    house: &mut House<'_, D>,
+    now: u64,
+) -> Result<HouseReply, NoMemory>
     requires stands { IsHouseOn house.old house.old.state }
     ensures { (h : HouseOf) → house.old.state ≡ Open h
-        → Answered h (Does (passes house.old.job now h)) result house.old house.new }
+        → Answered D.device h (Does (passes house.old.job now h)) result house.old house.new }
 {
     let answer = house.tick(alloc, now);
     reply_of(alloc, answer)
 }
 
 /// What stopped it, if it is stopped.
-fn stop_at(stand: &HouseState<'_>) -> Option<Stop>
+fn stop_at<D: SteadyDisk + Drop>(stand: &HouseState<'_, D>) -> Option<Stop>
     ensures { is_open_at (house_at stand.now) ≡ false → house_at stand.now ≡ closed_at result }
 {
     match stand {
-        HouseState::Fallen(_) => None,
+        HouseState::Fallen(_) | HouseState::Away => None,
         HouseState::Halted(stop, _) => Some(*stop),
         HouseState::Up(house) => Some(stop_of(house)),
     }
 }
 
 /// Where it stands once it isn't opened: stopped, where its device failed, and else as before.
-fn unopened<'a>(stop: Option<Stop>, error: HouseError, disk: MemDisk) -> HouseState<'a>
+fn unopened<'a, D: SteadyDisk + Drop>(
+    stop: Option<Stop>,
+    error: HouseError,
+    disk: D,
+) -> HouseState<'a, D>
     ensures house { house_at result ≡ unopened_at error stop }
-    ensures disk { disk_of result ≡ device_of disk }
+    ensures disk { disk_of D.device result ≡ D.device disk }
     ensures own { (job : JobOf) → IsOf job result }
 {
     match (error, stop) {
@@ -350,28 +380,34 @@ fn unopened<'a>(stop: Option<Stop>, error: HouseError, disk: MemDisk) -> HouseSt
 }
 
 /// One that isn't open is opened over its disk.
-fn restart<'a>(alloc: Global, job: &'a Job, stand: HouseState<'a>) -> (HouseState<'a>, HouseReply)
+fn restart<'a, D: SteadyDisk + Drop>(
+    alloc: Global,
+    job: &'a Job,
+    stand: HouseState<'a, D>,
+) -> (HouseState<'a, D>, HouseReply)
+    requires there { IsOf job.now stand }
     requires closed { is_open_at (house_at stand) ≡ false }
-    ensures comes { RestartComes result.1 (seat_of job.now stand.entry) (seat_of job.now result.0) }
+    ensures comes { RestartComes result.1 (seat_of D.device job.now stand.entry)
+        (seat_of D.device job.now result.0) }
     ensures own { IsOf job.now result.0 }
 {
     let stop = stop_at(&stand);
-    match House::open(alloc, disk_in(stand), job, SILENCE) {
+    match House::open(alloc, disk_in(job, stand), job, SILENCE) {
         Ok(house) => (HouseState::Up(house), silent(alloc)),
         Err((error, disk)) => (unopened(stop, error, disk), refused(alloc, error)),
     }
 }
 
 /// An event comes to one that is open.
-fn come_open(
+fn come_open<D: SteadyDisk + Drop>(
     alloc: Global,
-    house: &mut House<'_, MemDisk>,
+    house: &mut House<'_, D>,
     event: HouseEvent,
     packet: Option<&Datagram>,
 ) -> Result<HouseReply, NoMemory>
     requires stands { IsHouseOn house.old house.old.state }
     ensures { (h : HouseOf) → house.old.state ≡ Open h
-        → AnsweredIf h (answer_to house.old.job event (option_copied packet.entry) h)
+        → AnsweredIf D.device h (answer_to house.old.job event (option_copied packet.entry) h)
         result house.old house.new }
 {
     match event {
@@ -385,40 +421,40 @@ fn come_open(
 }
 
 /// An event comes to one that is open, with the packet that is delivered.
-fn come_up<'a>(
+fn come_up<'a, D: SteadyDisk + Drop>(
     alloc: Global,
     job: &'a Job,
-    stand: &mut HouseState<'a>,
+    stand: &mut HouseState<'a, D>,
     event: HouseEvent,
     packet: Option<&Datagram>,
 ) -> Result<HouseReply, NoMemory>
     requires own { IsOf job.now stand.old }
     requires is_open { is_open_at (house_at stand.old) ≡ true }
-    ensures { HasCome job.now event (option_copied packet.entry) result stand.old stand.new }
+    ensures { HasCome D.device job.now event (option_copied packet.entry) result stand.old stand.new }
 {
     match stand {
         HouseState::Up(house) => come_open(alloc, house, event, packet),
-        HouseState::Fallen(_) | HouseState::Halted(_, _) => Ok(silent(alloc)),
+        HouseState::Fallen(_) | HouseState::Halted(_, _) | HouseState::Away => Ok(silent(alloc)),
     }
 }
 
 /// An event comes to where it stands, with the packet that is delivered.
-fn come<'a>(
+fn come<'a, D: SteadyDisk + Drop>(
     alloc: Global,
     job: &'a Job,
-    stand: &mut HouseState<'a>,
+    stand: &mut HouseState<'a, D>,
     event: HouseEvent,
     packet: Option<&Datagram>,
 ) -> Result<HouseReply, NoMemory>
     requires own { IsOf job.now stand.old }
-    ensures { HasCome job.now event (option_copied packet.entry) result stand.old stand.new }
+    ensures { HasCome D.device job.now event (option_copied packet.entry) result stand.old stand.new }
 {
     if is_open(stand) {
         return come_up(alloc, job, stand, event, packet);
     }
     match event {
         HouseEvent::Restart => {
-            let closed = mem::replace(stand, HouseState::Fallen(MemDisk::new(alloc)));
+            let closed = mem::replace(stand, HouseState::Away);
             let (opened, reply) = restart(alloc, job, closed);
             *stand = opened;
             Ok(reply)

@@ -9,18 +9,21 @@ ghost use Rattle.world_steps.specs.Calls.{Came, IsOfJob, IsWholeOfJob, RanOutOfM
 ghost use Rattle.world_steps.specs.Nodes.{can_start};
 ghost use Rattle.world_steps.specs.Places.{node_there};
 ghost use Rattle.world_steps.specs.Seats.{DeliversPacket};
+ghost use Rattle.world_steps.specs.First.{IsFirst};
 ghost use Rattle.world_steps.specs.Runs.{IsFormattedFor};
 ghost use Rattle.world_steps.specs.World.{WorldOf, first_over, node_in, put_node, recorded, with_used, without_node};
 ghost use Rattle.world_steps.specs.declared.parts.EventAnswer.TheVariants as told;
 ghost use Rattle.event_script.specs.declared.event.Event.TheVariants as events;
 
 use crate::counts::{Before, RunCounts};
+use crate::first_disk::FirstDisk;
 use crate::house_slot::{HouseReply, HouseSlot};
 use crate::kept::Kept;
 use crate::nodes::carry_out;
 use crate::parts::{EventAnswer, NoMemory, Word};
 use body_eval::Done;
 use codec::Datagram;
+use disk::{MemDisk, SteadyDisk};
 use event_script::{Cut, Event, HouseEvent, NodeEvent, NodePlace};
 use ids::{Incarnation, Outcome, SortedMap};
 use node_core::{Fill, Node, NodeError, Step, Work};
@@ -36,18 +39,18 @@ const PLACES: usize = 64;
 /// into slots, and the start words that were used. Contracts see the job, these, and whether all that was sent and put into slots
 /// has its place.
 #[derive(Drop)]
-pub struct World<'a> {
+pub struct World<'a, D: SteadyDisk + Drop = MemDisk> {
     job: &'a Job,
     flat: Flat,
     nodes: Vec<Option<Node<'a>>>,
-    seat: HouseSlot<'a>,
+    seat: HouseSlot<'a, D>,
     net: Kept<Datagram>,
     fills: Kept<Fill>,
     used: SortedMap<Word>,
     counts: Box<RunCounts>,
 }
 
-impl<'a> Model for World<'a> {
+impl<'a, D: SteadyDisk + Drop> Model for World<'a, D> {
     ghost use Rattle.std.specs.Prelude.{◌&&◌};
     ghost use Rattle.std.specs.Coded.{codes as known};
     ghost use Rattle.task_tree.specs.contracts.tree.Expr as expr;
@@ -65,24 +68,48 @@ impl<'a> Model for World<'a> {
     ghost invariant = { λ w. IsWorld w.job.now w.seat.job w.flat.program w.nodes.items };
 }
 
-impl<'a> World<'a> {
+impl<'a> World<'a, MemDisk> {
     /// The first world of a job: no node is up, the clearinghouse is down over a disk that was formatted for the job, which can be cut
     /// and isn't armed, and nothing was sent.
     /// Refused only when out of memory (E9).
-    pub fn new(alloc: Global, job: &'a Job) -> Result<World<'a>, NoMemory>
+    pub fn new(alloc: Global, job: &'a Job) -> Result<World<'a, MemDisk>, NoMemory>
         ensures { IfOk result (λ w. (d : Device) × IsFormattedFor job.now d
             × (w ≡ record { job = job.now; world = first_over d; is_placed = true })) }
     {
+        World::over(alloc, FirstDisk::formatted(alloc, job)?)
+    }
+}
+
+impl<'a, D: SteadyDisk + Drop> World<'a, D> {
+    /// The first world of a job over a disk with which a run of it begins: no node is up, the clearinghouse is down over that disk, and
+    /// nothing was sent. Refused only when out of memory (E9).
+    pub fn over(alloc: Global, first: FirstDisk<'a, D>) -> Result<World<'a, D>, NoMemory>
+        ensures { IfOk result (λ w. IsFirst first.entry.job (D.device first.entry.disk)
+            × (w ≡ record { job = first.entry.job; world = first_over (D.device first.entry.disk); is_placed = true })) }
+    {
+        let job = first.job();
+        let flat = Flat::of(alloc, job.checked())?;
+        let nodes = no_nodes(alloc)?;
+        let counts = RunCounts::boxed(alloc)?;
+        first.law_is_first();
         Ok(World {
             job,
-            flat: Flat::of(alloc, job.checked())?,
-            nodes: no_nodes(alloc)?,
-            seat: HouseSlot::new(alloc, job)?,
+            flat,
+            nodes,
+            seat: HouseSlot::over(first),
             net: Kept::new(alloc),
             fills: Kept::new(alloc),
             used: SortedMap::new(alloc),
-            counts: RunCounts::boxed(alloc)?,
+            counts,
         })
+    }
+
+    /// Its disk. What else it holds goes.
+    pub fn into_disk(self) -> D
+        ensures { D.device result ≡ self.entry.world.disk }
+    {
+        let World { seat, .. } = self;
+        seat.into_disk()
     }
 
     /// The job.
@@ -224,7 +251,7 @@ impl<'a> World<'a> {
             Event::Crash(place) => Ok(self.crash(*place)),
             Event::AtHouse(event) => self.at_house(alloc, *event),
             Event::HouseCrash => {
-                self.seat.fall(alloc);
+                self.seat.fall();
                 Ok(self.unheard())
             }
             Event::Cut(cut) => self.cut(alloc, cut.as_ref()),
@@ -448,7 +475,7 @@ impl<'a> World<'a> {
             return Ok(self.unheard());
         }
         if self.place().is_err() {
-            self.seat.lack_memory(alloc);
+            self.seat.lack_memory();
             return Err(NoMemory);
         }
         let reply = self.seat.meet(alloc, event, delivered(&self.net, event))?;
@@ -461,7 +488,9 @@ impl<'a> World<'a> {
         ensures step { IfOk result (λ t. StepsTo self.old.job (events.Cut cut.now) self.old.world self.new.world t) }
         ensures out_of_memory { OnErr result (RanOutOfMemory (events.Cut cut.now) self.old self.new) }
     {
-        self.seat.law_can_cut();
+        if !self.seat.can_cut() {
+            return Ok(self.unheard());
+        }
         if !self
             .seat
             .applies(cut.event, delivered(&self.net, cut.event))
@@ -469,11 +498,11 @@ impl<'a> World<'a> {
             return Ok(self.unheard());
         }
         let Ok(bytes) = Vec::from_slice(alloc, cut.bytes.as_slice()) else {
-            self.seat.lack_memory(alloc);
+            self.seat.lack_memory();
             return Err(NoMemory);
         };
         if self.place().is_err() {
-            self.seat.lack_memory(alloc);
+            self.seat.lack_memory();
             return Err(NoMemory);
         }
         let packet = delivered(&self.net, cut.event);

@@ -8,7 +8,7 @@ use Rattle.checkpoint.proofs.info.inspect.Goals as goal
 
 pub returns-in-Err-clause-stopped : goal.returns-in-Err-clause-stopped
 returns-in-Err-clause-stopped g c _ =
-    fails_alone (Read 137) (g.D.Disk.planned c.args.disk.now) _ _ (record { failed = c.in-Err.ensures.err; torn = c.read.ensures.crash; cause = c.in-Err.ensures.cause })
+    fails_alone (Read 137) (g.D.Disk.planned c.args.disk.now) _ _ (record { failed = c.in-Err.ensures.err; settled = c.in-Err.ensures.settled; torn = c.read.ensures.crash; cause = c.in-Err.ensures.cause })
 
 pub returns-in-Ok-look-clause-found : goal.returns-in-Ok-look-clause-found
 returns-in-Ok-look-clause-found g c =

@@ -8,10 +8,10 @@ use Rattle.node_runner.proofs.run.traced.Goals as goal
 
 pub all_turns-requires-clause-contexts : goal.all_turns-requires-clause-contexts
 all_turns-requires-clause-contexts g c κs within =
-    c.in-Ok-contexts.ensures.contexts c.in-Ok.chronicle c.in-Ok-new.words c.in-Ok.ensures.chronicle.0 (λ k d lt. (c.in-Ok.ensures.seats k d lt).0) (λ k d lt. (c.in-Ok-new.ensures.blank k d lt).0)
+    c.in-Ok-contexts.ensures.contexts c.in-Ok.chronicle c.in-Ok-new.words (c.in-Ok.ensures.chronicle.0 ∙ sym c.job-job.ensures) (λ k d lt. (c.in-Ok.ensures.seats k d lt).0) (λ k d lt. (c.in-Ok-new.ensures.blank k d lt).0)
 
 pub all_turns-requires-clause-workers : goal.all_turns-requires-clause-workers
-all_turns-requires-clause-workers g c κs within = subst (λ (j : JobOf). All (IsWorkerOf j) c.in-Ok-contexts.workers.items) (sym c.in-Ok.ensures.chronicle.0) c.in-Ok-contexts.ensures.workers
+all_turns-requires-clause-workers g c κs within = subst (λ (j : JobOf). All (IsWorkerOf j) c.in-Ok-contexts.workers.items) (sym (c.in-Ok.ensures.chronicle.0 ∙ sym c.job-job.ensures)) c.in-Ok-contexts.ensures.workers
 
 pub unreachable-requires : goal.unreachable-requires
 unreachable-requires g c =

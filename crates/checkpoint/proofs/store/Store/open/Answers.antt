@@ -11,7 +11,7 @@ use Rattle.checkpoint.proofs.store.Store.open.Goals as goal
 
 pub returns-in-Err-clause-stopped : goal.returns-in-Err-clause-stopped
 returns-in-Err-clause-stopped g c _ =
-    fails_alone (Read 137) (g.D.Disk.planned c.args.disk) _ _ (record { failed = c.in-Err.ensures.err; torn = c.read.ensures.crash; cause = c.in-Err.ensures.cause })
+    fails_alone (Read 137) (g.D.Disk.planned c.args.disk) _ _ (record { failed = c.in-Err.ensures.err; settled = c.in-Err.ensures.settled; torn = c.read.ensures.crash; cause = c.in-Err.ensures.cause })
 
 pub returns-in-Ok-look-clause-refused : goal.returns-in-Ok-look-clause-refused
 returns-in-Ok-look-clause-refused g c _ =

@@ -8,12 +8,12 @@ use Rattle.chronicle.proofs.Runs.{lacks_memory, goes_on, tells_meaning}
 use Rattle.chronicle.proofs.kept.Kept.enter.Goals as goal
 
 pub invariant_of-self : goal.invariant_of-self
-invariant_of-self c =
+invariant_of-self g c =
     let here = subst (λ b. Reaches c.self.inside.world.value.job c.self.inside.entries.items c.self.inside.world.value.world b) c.if-self.false c.self.invariant in
     lacks_memory c.self.inside.world.value.job c.self.inside.entries.items c.reserve.new.self.items c.self.inside.world.value.world c.self.inside.world.value.world (search rules) (inl refl) here
 
 pub invariant_of-self-in_default : goal.invariant_of-self-in_default
-invariant_of-self-in_default c =
+invariant_of-self-in_default g c =
     let on : WorldOn = c.deref_mut.result.now in
     let reached : Reaches on.job c.self.inside.entries.items on.world c.self.inside.out_of_memory = subst (λ (w : WorldOn). Reaches w.job c.self.inside.entries.items w.world c.self.inside.out_of_memory) (sym c.deref_mut.ensures.value) c.self.invariant in
     let here = subst (λ b. Reaches on.job c.self.inside.entries.items on.world b) c.if-self.false reached in
@@ -23,7 +23,7 @@ invariant_of-self-in_default c =
     (inr (record { event = c.args.event; was_placed = on.is_placed; is_placed = c.step_with.new.self.is_placed; after = s.0; out_of_memory = s.1; left = s.2 })) here)
 
 pub invariant_of-self-2 : goal.invariant_of-self-2
-invariant_of-self-2 c =
+invariant_of-self-2 g c =
     let on : WorldOn = c.deref_mut.result.now in
     let reached : Reaches on.job c.self.inside.entries.items on.world c.self.inside.out_of_memory = subst (λ (w : WorldOn). Reaches w.job c.self.inside.entries.items w.world c.self.inside.out_of_memory) (sym c.deref_mut.ensures.value) c.self.invariant in
     let here = subst (λ b. Reaches on.job c.self.inside.entries.items on.world b) c.if-self.false reached in
@@ -31,7 +31,7 @@ invariant_of-self-2 c =
     subst (λ j. Reaches j c.push_reserved.new.self.items c.step_with.new.self.world c.self.inside.out_of_memory) (sym c.step_with.ensures.job) (subst (λ b. Reaches on.job c.push_reserved.new.self.items c.step_with.new.self.world b) (sym c.if-self.false) now)
 
 pub returns-clause-outcome : goal.returns-clause-outcome
-returns-clause-outcome c =
+returns-clause-outcome g c =
     let on : WorldOn = c.deref_mut.result.now in
     let reached : Reaches on.job c.self.inside.entries.items on.world c.self.inside.out_of_memory = subst (λ (w : WorldOn). Reaches w.job c.self.inside.entries.items w.world c.self.inside.out_of_memory) (sym c.deref_mut.ensures.value) c.self.invariant in
     let here = subst (λ b. Reaches on.job c.self.inside.entries.items on.world b) c.if-self.false reached in

@@ -1,16 +1,15 @@
 use Rattle.std.proofs.Common.{◌≡◌, rules, subst, sym, false}
-use Rattle.disk.specs.Device.{Device}
 use Rattle.world_steps.specs.Calls.{WorldOn}
-use Rattle.world_steps.specs.Runs.{IsFormattedFor}
+use Rattle.world_steps.specs.First.{IsFirst}
 use Rattle.world_steps.specs.World.{first_over}
 use Rattle.chronicle.specs.Kept.{Reaches}
 use Rattle.chronicle.proofs.Runs.{begins, begun_world}
 use Rattle.chronicle.proofs.kept.Kept.new.Goals as goal
 
 pub invariant_of-result : goal.invariant_of-result
-invariant_of-result c =
-    let first : Reaches c.in_ok-first.first.job c.new-3.result.items c.in_ok-first.first.world false = begins c.args.job.now _ _ c.checked-checked.ensures.job c.in_ok-first.ensures (search rules) in
-    subst (λ (w : WorldOn). Reaches w.job c.new-3.result.items w.world false) (sym c.in-Ok.ensures.ok) first
+invariant_of-result g c =
+    let first : Reaches c.in_ok-over.over.job c.new-2.result.items c.in_ok-over.over.world false = begins c.args.first.job (g.D.Disk.device c.args.first.disk) _ _ (search rules) c.in_ok-over.ensures (search rules) in
+    subst (λ (w : WorldOn). Reaches w.job c.new-2.result.items w.world false) (sym c.in-Ok.ensures.ok) first
 
 pub returns-clause-world : goal.returns-clause-world
-returns-clause-world c = subst (λ (w : WorldOn). (d : Device) × IsFormattedFor c.args.job.now d × (w.world ≡ first_over d)) (sym c.in-Ok.ensures.ok) (begun_world c.args.job.now _ c.in_ok-first.ensures)
+returns-clause-world g c = subst (λ (w : WorldOn). IsFirst c.args.first.job (g.D.Disk.device c.args.first.disk) × (w.world ≡ first_over (g.D.Disk.device c.args.first.disk))) (sym c.in-Ok.ensures.ok) (begun_world c.args.first.job (g.D.Disk.device c.args.first.disk) _ c.in_ok-over.ensures)

@@ -1,0 +1,29 @@
+-- What is found on a disk.
+use Rattle.std.specs.Prelude.{◌≡◌, ◌≢◌, ℕ, List, [], Option, None, Some}
+use Rattle.ids.specs.declared.outcome.Outcome.{Outcome}
+use Rattle.disk.specs.declared.cells.Cell.{Cell}
+use Rattle.disk.specs.Device.{Device}
+use Rattle.disk.specs.File.{CrashLeaves}
+use Rattle.checkpoint.specs.Format.{fresh}
+use Rattle.checkpoint.specs.Store.{KeepsRecord, ReadsAsStore}
+use Rattle.checkpoint.specs.declared.record.CheckpointRecord.{CheckpointRecord}
+use Rattle.serial_meaning.specs.Job.{JobOf}
+use Rattle.world_steps.specs.declared.first_disk.Found.{Found}
+use Rattle.world_steps.specs.declared.first_disk.Found.TheVariants.{Kept, Begins}
+
+-- a file keeps the record that was read of one that a crash may leave of a disk, or that of a job that has just begun where that one
+-- was empty; it is the job's, with this outcome or none
+pub record IsKeptOf (old : Device) (number : ℕ) (outcome : Option Outcome) (file : List Cell) : Type 0 where
+  pub content : List ℕ
+  pub left : CrashLeaves old.file content
+  pub sequence : ℕ
+  pub found : CheckpointRecord
+  pub read : content ≢ [] → ReadsAsStore content sequence found
+  pub made : content ≡ [] → found ≡ fresh number
+  pub kept : KeepsRecord file sequence found
+  pub own : found.job ≡ number
+  pub told : found.outcome ≡ outcome
+
+abbrev pub IsFoundOn : {D : Type 0} → (D → Device) → JobOf → Device → Found D → Type 0
+IsFoundOn device job old (Kept o d) = IsKeptOf old job.number (Some o) (device d).file
+IsFoundOn device job old (Begins f) = (f.job ≡ job) × IsKeptOf old job.number None (device f.disk).file

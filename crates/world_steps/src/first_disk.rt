@@ -1,0 +1,122 @@
+//! The disk over which a run of a job begins.
+ghost use Rattle.std.specs.Prelude.{◌≡◌, ◌≢◌, IfErr, IfOk};
+ghost use Rattle.disk.specs.Crash.{Only, Shrinks};
+ghost use Rattle.disk.specs.File.{CrashLeaves, bytes_of};
+ghost use Rattle.world_steps.specs.First.{IsFirst};
+ghost use Rattle.world_steps.specs.Found.{IsFoundOn};
+ghost use Rattle.world_steps.specs.Runs.{IsFormattedFor};
+ghost use Rattle.world_steps.specs.Seats.{IsStill};
+
+use crate::parts::NoMemory;
+use checkpoint::StoreError;
+use disk::{Disk, MemDisk, SteadyDisk};
+use ids::Outcome;
+use job_store::open_store;
+use serial_meaning::Job;
+use std::alloc::Global;
+use std::marker::Model;
+
+/// A disk over which a run of a job can begin: it isn't armed, all of it is there for good, and it is the job's checkpoint, without
+/// an outcome. Contracts see the job and the disk.
+#[derive(Drop)]
+pub struct FirstDisk<'a, D: SteadyDisk + Drop = MemDisk> {
+    job: &'a Job,
+    disk: D,
+}
+
+impl<'a, D: SteadyDisk + Drop> Model for FirstDisk<'a, D> {
+    ghost use Rattle.std.specs.Coded.{codes as known};
+    ghost use Rattle.task_tree.specs.contracts.tree.Expr as expr;
+    ghost use Rattle.task_tree.specs.contracts.tree.Block as block;
+    ghost use Rattle.task_tree.specs.contracts.tree.End as end;
+    ghost use Rattle.world_steps.specs.First.{FirstOf, IsFirst};
+
+    ghost Value = { FirstOf D };
+
+    ghost coded = { Prim.hlevel (known, expr.the_row.coded, block.the_row.coded, end.the_row.coded) };
+
+    ghost view = { λ f. record { job = f.job.now; disk = f.disk } };
+
+    ghost invariant = { λ f. IsFirst f.job.now (D.device f.disk) };
+}
+
+/// What was found on a disk: the outcome of its job, or that a run can begin.
+#[derive(Drop)]
+pub enum Found<'a, D: SteadyDisk + Drop> {
+    Kept(Outcome, D),
+    Begins(FirstDisk<'a, D>),
+}
+
+impl<'a> FirstDisk<'a, MemDisk> {
+    /// A disk in memory, formatted for a job. Refused only when out of memory (E9).
+    pub fn formatted(alloc: Global, job: &'a Job) -> Result<FirstDisk<'a, MemDisk>, NoMemory>
+        ensures { IfOk result (λ f. (f.job ≡ job.now) × IsFormattedFor job.now (⟦<MemDisk as Disk>⟧.device f.disk)) }
+    {
+        let mut disk = MemDisk::new(alloc);
+        match checkpoint::format(&mut disk, job.number()) {
+            Ok(()) => Ok(FirstDisk { job, disk }),
+            Err(_) => Err(NoMemory),
+        }
+    }
+}
+
+impl<'a, D: SteadyDisk + Drop> FirstDisk<'a, D> {
+    /// What a disk holds of a job. What is armed is disarmed, as by a crash, and what isn't there for good is synced; where it is empty
+    /// then, the job's checkpoint is made. Refused, it gives the disk back, in this order: E72; E71 for a file that doesn't begin as a
+    /// checkpoint; E73 for another version; E71 for one that is none; E70 for another job. Nothing is written where a byte is there.
+    pub fn found(alloc: Global, job: &'a Job, disk: D) -> Result<Found<'a, D>, (StoreError, D)>
+        ensures found { IfOk result (IsFoundOn D.device job.now (D.device disk)) }
+
+        // A disk that the device doesn't refuse, but what it holds, keeps that.
+        ensures unchanged { IfErr result (λ e. e.0 ≢ StoreError.Device
+            → Shrinks (CrashLeaves (D.device disk).file) (CrashLeaves (D.device e.1).file)) }
+    {
+        let disk = settled(disk)?;
+        let store = open_store(alloc, disk, job.number())?;
+        let kept = store.record().outcome;
+        let disk = settled(store.into_disk())?;
+        match kept {
+            Some(outcome) => Ok(Found::Kept(outcome, disk)),
+            None => Ok(Found::Begins(FirstDisk { job, disk })),
+        }
+    }
+
+    /// The job.
+    pub fn job(&self) -> &'a Job
+        ensures { result.now ≡ self.now.job }
+    {
+        self.job
+    }
+
+    /// It is one over which a run of the job can begin. Does nothing.
+    pub fn law_is_first(&self)
+        ensures { IsFirst self.now.job (D.device self.now.disk) }
+    {
+        let _ = &self.disk;
+    }
+
+    /// The job and the disk.
+    pub(crate) fn into_parts(self) -> (&'a Job, D)
+        ensures job { result.0.now ≡ self.entry.job }
+        ensures disk { result.1 ≡ self.entry.disk }
+        ensures first { IsFirst self.entry.job (D.device result.1) }
+    {
+        let FirstDisk { job, disk } = self;
+        (job, disk)
+    }
+}
+
+/// Disarms a disk, as by a crash, and has all of it there for good.
+fn settled<D: SteadyDisk + Drop>(disk: D) -> Result<D, (StoreError, D)>
+    ensures still { IfOk result (λ d. IsStill (D.device d)) }
+    ensures only { IfOk result (λ d. Only (bytes_of (D.device d).file) (CrashLeaves (D.device d).file)) }
+    ensures leaves { IfOk result (λ d. Shrinks (CrashLeaves (D.device disk).file) (CrashLeaves (D.device d).file)) }
+    ensures refused { IfErr result (λ e. e.0 ≡ StoreError.Device) }
+{
+    let mut disk = disk;
+    disk.crash();
+    match disk.sync() {
+        Ok(()) => Ok(disk),
+        Err(_) => Err((StoreError::Device, disk)),
+    }
+}
