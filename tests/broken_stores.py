@@ -10,9 +10,8 @@ docs/FORMATS.md, says what each file is. Then
 
 - `cilknow store` prints that record, or refuses the file as no store (E71) or as one of another version (E73), and changes nothing;
 - `cilknow run --store` answers the outcome that is kept at once; or makes the store of an empty file, begins the next epoch, and keeps
-  the outcome (a run whose threads aren't there in time begins anew, in an epoch more); or refuses the file, of another job (E70) or as
-  above, or where no epoch or commit is left (E62). What is refused by E70, E71 or E73 stays byte for byte, and so does the file beside a
-  store.
+  the outcome; or refuses the file, of another job (E70) or as above, or where no epoch or commit is left (E62). What is refused by E70,
+  E71 or E73 stays byte for byte, and so does the file beside a store.
 
 Then the file beside a store is broken byte by byte: another digest is refused (E70), what is no line of one too (E71), and one that isn't there
 is told. The last line counts; the status is 1 where anything failed.
@@ -37,9 +36,6 @@ SLOTS = (8, 72)
 NONE, IS_VALUE, TOO_DEEP = 0, 1, 2
 LAST_SEQUENCE, LAST_EPOCH = (1 << 64) - 1, (1 << 63) - 1
 OTHERS = (0x00, 0x01, 0x02, 0x03, 0xA5, 0xFF)
-
-# How often a run is begun at most, in these tests.
-TRIES = 4
 
 Record = collections.namedtuple("Record", "job epoch tag value sequence")
 
@@ -133,17 +129,6 @@ def shown(found):
     return 0, f"job {found.job}\nepoch {found.epoch}\noutcome {outcome_line(found)}\n", ""
 
 
-def with_epochs(record, begun):
-    """A record of a run over another one that began so many epochs."""
-    return record._replace(epoch=record.epoch + begun, sequence=record.sequence + begun)
-
-
-def may_be(left, after):
-    """Whether a run may leave this record, where it leaves that one if all its threads are there in time: else it begins anew, at most so
-    often, in an epoch more."""
-    return not isinstance(left, int) and any(left == with_epochs(after, more) for more in range(TRIES))
-
-
 def ran(content, found):
     """What `cilknow run --store` has to answer over a file, and the record that has to be there then; none where nothing changes."""
     if not content:
@@ -180,7 +165,7 @@ def is_well(program, line, path, name, content):
     left = bytes_of(path)
     if after is None and left != content:
         faults.append(f"a run changes the file to {left.hex()}")
-    if after is not None and not may_be(read_store(left), after):
+    if after is not None and read_store(left) != after:
         faults.append(f"a run leaves {left.hex()}, not {after}")
     if bytes_of(beside(path)) != line:
         faults.append("a run changes the file beside it")

@@ -202,10 +202,9 @@ def record_of(content):
 
 
 def nexts(record):
-    """What a run makes of a record: the record itself, the one of the next epoch, or of a later one where its threads weren't there in time,
-    and the one with the outcome."""
-    begun = [broken_stores.with_epochs(record, more) for more in range(1, broken_stores.TRIES + 1)]
-    return [record, *begun, *(it._replace(tag=IS_VALUE, value=VALUE, sequence=it.sequence + 1) for it in begun)]
+    """What a run makes of a record: the record itself, the one of the next epoch, and the one with the outcome."""
+    begun = record._replace(epoch=record.epoch + 1, sequence=record.sequence + 1)
+    return record, begun, begun._replace(tag=IS_VALUE, value=VALUE, sequence=begun.sequence + 1)
 
 
 FRESH = broken_stores.Record(JOB, 0, NONE, 0, 0)
@@ -313,10 +312,10 @@ def refusals(trial, scene):
     yield Refusal(len(calls) + 1, "none", "none", 0, "failed", 0)
 
 
-def wanted_records(before):
-    """The records of which a run leaves one that ends."""
+def wanted_record(before):
+    """The record that a run leaves which ends."""
     found = record_of(before) or FRESH
-    return [it for it in nexts(found) if it.tag == IS_VALUE] if found.tag == NONE else [found]
+    return nexts(found)[-1] if found.tag == NONE else found
 
 
 def named(answer, scene):
@@ -365,7 +364,7 @@ def tried(trial, scene, refusal):
     said = content_of(broken_stores.beside(f"{place}/store"))
     if not is_line_as_allowed(scene, trial.line, after, said):
         wrong.append(f"it leaves {said} beside the store")
-    if answer == scene.answer == RIGHT and record_of(after) not in wanted_records(before):
+    if answer == scene.answer == RIGHT and record_of(after) != wanted_record(before):
         wrong.append(f"it leaves {record_of(after)} beside its outcome")
     behind, is_lost = next_run(trial, scene, place)
     shutil.rmtree(place)

@@ -33,6 +33,7 @@ use Rattle.checkpoint.proofs.store.Store.TheSendSync as store
 use Rattle.codec.specs.contracts.datagram.Datagram as Datagram
 use Rattle.codec.proofs.datagram.Datagram.TheSendSync as datagram
 use Rattle.std.specs.contracts.option.Option as Option
+use Rattle.std.specs.contracts.snapshot.Snapshot as Snapshot
 use Rattle.disk.specs.declared.device.Disk.{Ghosts}
 use Rattle.disk.specs.declared.device.SteadyDisk.{Ghosts as SteadyGhosts}
 use Rattle.ids.proofs.sorted_map.SortedMap.TheSendSync as words
@@ -149,8 +150,8 @@ entries = Vec-send Entry.the_row entry.the_send
 
 history : (a : NamedLft) (D : RattleType) (g : Ghosts D.Denot) → IsSend D → IsSend (History.the_row a D g)
 history a D g d =
-    let fields : AllSend (Heap.the_row ∷ Vec.the_row Entry.the_row Heap.the_row ghosts ∷ Box.the_row (World.the_row a D g) Heap.the_row ghosts ∷ bool ∷ []) =
-    (search (sendable, crosses) depth 12, (entries, (Box-send (World.the_row a D g) (world a D g d), (search sendable depth 12, tt)))) in
+    let fields : AllSend (Heap.the_row ∷ Vec.the_row Entry.the_row Heap.the_row ghosts ∷ Box.the_row (World.the_row a D g) Heap.the_row ghosts ∷ bool ∷ Snapshot.the_row D ∷ []) =
+    (search (sendable, crosses) depth 12, (entries, (Box-send (World.the_row a D g) (world a D g d), (search sendable depth 12, (search (sendable, crosses) depth 12, tt))))) in
     search (sendable, fields) depth 12
 
 pub actor_seat : (a : NamedLft) (D : RattleType) (s : SteadyGhosts D.Denot) (g : Ghosts D.Denot) → IsSend D → IsSend (ActorSeat.the_row a D s g)

@@ -1,14 +1,15 @@
 -- Seats that are dealt, and seats that are gathered.
 use Rattle.std.proofs.Common.{◌≡◌, ℕ, suc, ◌+◌, List, [], ◌∷◌, ◌++◌, All, Some, map, length, if◌then◌else◌, ◌==◌, refl, ap, subst, ◌∙◌, sym, arith}
 use Rattle.std.specs.List.{range_with_len}
-use Rattle.std.specs.declared.snapshot.Snapshot.{Snapshot}
 use Rattle.std.proofs.lemmas.List.{append_assoc}
 use Rattle.std.proofs.lemmas.List.Elements.{All-head, All-map, All-push, All-tail, All-weaker}
 use Rattle.serial_meaning.specs.Job.{JobOf}
 use Rattle.turn_lock.specs.Claims.{ClaimOf, claim, entries_in}
 use Rattle.turn_lock.specs.Seats.{IsBlankSeatOf, IsFreeSeatOf, LockOf, SeatOf}
+use Rattle.disk.specs.Device.{Device}
 use Rattle.chronicle.specs.declared.kept.Entry.{Entry}
-use Rattle.chronicle.specs.Seats.{ActorSeatOf, ChronicleOf, IsBlankSeatIn, IsSeatIn, chronicle_of, claims_of, entries_of, first_last, seat_of, snapshot}
+use Rattle.chronicle.specs.History.{BeginningOf, beginning}
+use Rattle.chronicle.specs.Seats.{ActorSeatOf, ChronicleOf, IsBlankSeatIn, IsSeatIn, chronicle_of, claims_of, entries_of, first_last, seat_of}
 
 claims_of-snoc : (seats : List ActorSeatOf) (s : ActorSeatOf) → claims_of (seats ++ s ∷ []) ≡ claims_of seats ++ claim s.actor s.entries ∷ []
 claims_of-snoc [] s = refl
@@ -33,7 +34,7 @@ entries_in-claims_of (s ∷ ss) a = ap (λ l. (if s.actor == a then s.entries el
 -- the first goes behind the others
 
 abbrev Bare : Type 0
-Bare = SeatOf Entry (Snapshot JobOf)
+Bare = SeatOf Entry BeginningOf
 
 pub map-snoc : (bare : List Bare) (s : Bare) → map seat_of (bare ++ s ∷ []) ≡ map seat_of bare ++ seat_of s ∷ []
 map-snoc [] s = refl
@@ -58,12 +59,12 @@ in_order bare seats nodes is order = ap (map (λ (s : ActorSeatOf). s.actor)) is
         actors-snoc bs b ∙ (ap (λ (l : List ℕ). l ++ b.actor ∷ []) rest ∙ ap (λ (n : ℕ). range_with_len 1 nodes ++ n ∷ []) first)
 
 -- all are blank seats
-pub all_blank : (lock : LockOf (Snapshot JobOf)) (c : ChronicleOf) (bare : List Bare) (seats : List ActorSeatOf) → c.chronicle ≡ lock.table → c.actors ≡ lock.actors → c.job ≡ lock.fixed.value
+pub all_blank : (lock : LockOf BeginningOf) (c : ChronicleOf) (bare : List Bare) (seats : List ActorSeatOf) → c.chronicle ≡ lock.table → c.actors ≡ lock.actors → c.job ≡ lock.fixed.job → c.first ≡ lock.fixed.disk
     → seats ≡ map seat_of (first_last bare) → All (IsBlankSeatOf lock) bare → All (IsBlankSeatIn c) seats
-all_blank lock c bare seats table actors job is blank = rw is (All-map (IsBlankSeatIn c) seat_of (first_last bare) (turned bare blank))
+all_blank lock c bare seats table actors job first is blank = rw is (All-map (IsBlankSeatIn c) seat_of (first_last bare) (turned bare blank))
   where
     one : (b : Bare) → IsBlankSeatOf lock b → IsBlankSeatIn c (seat_of b)
-    one b (((t, n, f), free), none) = (record { chronicle = t ∙ sym table; actors = n ∙ sym actors; free = free; job = f ∙ ap (λ (j : JobOf). Some (snapshot j)) (sym job) }, none)
+    one b (((t, n, f), free), none) = (record { chronicle = t ∙ sym table; actors = n ∙ sym actors; free = free; began = f ∙ (ap (λ (j : JobOf). Some (beginning j lock.fixed.disk)) (sym job) ∙ ap (λ (d : Device). Some (beginning c.job d)) (sym first)) }, none)
 
     each : (bare : List Bare) → All (IsBlankSeatOf lock) bare → All (λ (b : Bare). IsBlankSeatIn c (seat_of b)) bare
     each bare all = All-weaker (IsBlankSeatOf lock) (λ (b : Bare). IsBlankSeatIn c (seat_of b)) one bare all
@@ -73,7 +74,7 @@ all_blank lock c bare seats table actors job is blank = rw is (All-map (IsBlankS
     turned (b ∷ bs) all = All-push (λ (b : Bare). IsBlankSeatIn c (seat_of b)) bs b (each bs (All-tail (IsBlankSeatOf lock) b bs all)) (one b (All-head (IsBlankSeatOf lock) b bs all))
 
 -- a seat of the chronicle is a seat of its lock
-pub free_seat : (lock : LockOf (Snapshot JobOf)) (seat : Bare) (c : ChronicleOf) (s : ActorSeatOf) → chronicle_of lock ≡ c → seat_of seat ≡ s → IsSeatIn c s → IsFreeSeatOf lock seat
+pub free_seat : (lock : LockOf BeginningOf) (seat : Bare) (c : ChronicleOf) (s : ActorSeatOf) → chronicle_of lock ≡ c → seat_of seat ≡ s → IsSeatIn c s → IsFreeSeatOf lock seat
 free_seat lock seat c s same own is =
     let h : IsSeatIn (chronicle_of lock) (seat_of seat) = subst (λ (a : ActorSeatOf). IsSeatIn (chronicle_of lock) a) (sym own) (subst (λ (b : ChronicleOf). IsSeatIn b s) (sym same) is) in
-    ((h.chronicle, h.actors, h.job), h.free)
+    ((h.chronicle, h.actors, h.began), h.free)

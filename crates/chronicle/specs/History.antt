@@ -9,7 +9,7 @@ use Rattle.world_steps.specs.declared.parts.EventAnswer.{EventAnswer}
 use Rattle.world_steps.specs.declared.parts.EventAnswer.TheVariants as told
 use Rattle.world_steps.specs.Calls.{told_of}
 use Rattle.world_steps.specs.First.{IsFirst}
-use Rattle.world_steps.specs.Runs.{Runs}
+use Rattle.world_steps.specs.Runs.{Runs, last_of}
 use Rattle.world_steps.specs.Runs.{Entry as RunEntry}
 use Rattle.world_steps.specs.World.{WorldOf, first_over}
 use Rattle.safe_runs.specs.Promises.{AllSafe}
@@ -51,10 +51,17 @@ first_outcome (e ∷ es) = or_later (outcome_told e.told) (first_outcome es)
 abbrev pub told_entry : RunEntry → Entry
 told_entry e = entry e.event (told_of e.answer)
 
--- a list of entries is a history of a job: a run over a disk with which one begins has these events, and its answers are told so. So no
--- outcome stands on the disk when it begins
-pub record IsHistory (job : JobOf) (entries : List Entry) : Type 0 where
+-- with what a history begins: a job, and the disk over which its clearinghouse stands
+pub record BeginningOf : Type 0 where
+  pub job : JobOf
   pub disk : Device
+
+abbrev pub beginning : JobOf → Device → BeginningOf
+beginning job disk = record { job = job; disk = disk }
+
+-- a list of entries is a history of a job over a disk: a run begins with that disk, on which no outcome stands, it has these events, and
+-- its answers are told so
+pub record IsHistory (job : JobOf) (disk : Device) (entries : List Entry) : Type 0 where
   pub first : IsFirst job disk
   pub steps : List RunEntry
   pub worlds : List WorldOf
@@ -62,6 +69,10 @@ pub record IsHistory (job : JobOf) (entries : List Entry) : Type 0 where
   pub told : map told_entry steps ≡ entries
 
 -- and all worlds of the run are safe, agree with the serial meaning, and have lost nothing
-pub record IsSafeHistory (job : JobOf) (entries : List Entry) : Type 0 where
-  pub history : IsHistory job entries
-  pub safe : AllSafe job (first_over history.disk ∷ history.worlds)
+pub record IsSafeHistory (job : JobOf) (disk : Device) (entries : List Entry) : Type 0 where
+  pub history : IsHistory job disk entries
+  pub safe : AllSafe job (first_over disk ∷ history.worlds)
+
+-- the world that it reaches
+abbrev pub reached : {job : JobOf} {disk : Device} {entries : List Entry} → IsHistory job disk entries → WorldOf
+reached {disk = disk} h = last_of (first_over disk) h.worlds

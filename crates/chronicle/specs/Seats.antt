@@ -1,48 +1,45 @@
 -- A chronicle and its actors' seats, as callers see them.
 use Rattle.std.specs.Prelude.{◌≡◌, ℕ, ◌==◌, if◌then◌else◌, flat_map, List, [], ◌∷◌, ◌++◌, map, Option, None, Some}
-use Rattle.std.specs.declared.snapshot.Snapshot.{Snapshot}
 use Rattle.atomic_table.specs.Seated.{TableId}
+use Rattle.disk.specs.Device.{Device}
 use Rattle.serial_meaning.specs.Job.{JobOf}
 use Rattle.turn_lock.specs.Claims.{ClaimOf, claim}
 use Rattle.turn_lock.specs.Histories.{own}
 use Rattle.turn_lock.specs.Seats.{LockOf, SeatOf}
 use Rattle.chronicle.specs.declared.kept.Entry.{Entry}
-use Rattle.chronicle.specs.History.{actor_of}
+use Rattle.chronicle.specs.History.{BeginningOf, actor_of, beginning}
 
--- the job, as the lock keeps it
-abbrev pub snapshot : JobOf → Snapshot JobOf
-snapshot job = record { marker = record {}; value = job }
-
--- a chronicle: which it is, how many actors have a seat, and its job
+-- a chronicle: which it is, how many actors have a seat, its job, and the disk with which its history begins
 pub record ChronicleOf : Type 0 where
   pub chronicle : TableId
   pub actors : ℕ
   pub job : JobOf
+  pub first : Device
 
 -- that of a lock
-abbrev pub chronicle_of : LockOf (Snapshot JobOf) → ChronicleOf
-chronicle_of l = record { chronicle = l.table; actors = l.actors; job = l.fixed.value }
+abbrev pub chronicle_of : LockOf BeginningOf → ChronicleOf
+chronicle_of l = record { chronicle = l.table; actors = l.actors; job = l.fixed.job; first = l.fixed.disk }
 
 -- a seat: its chronicle, and how many actors that has; its actor, and the entries of this actor's events, the newest last; the
--- history, while the kept value is out with the seat; and the job
+-- history, while the kept value is out with the seat; and with what the history begins
 pub record ActorSeatOf : Type 0 where
   pub chronicle : TableId
   pub actors : ℕ
   pub actor : ℕ
   pub entries : List Entry
   pub taken : Option (List Entry)
-  pub job : Option (Snapshot JobOf)
+  pub began : Option BeginningOf
 
 -- that of a seat of the lock
-abbrev pub seat_of : SeatOf Entry (Snapshot JobOf) → ActorSeatOf
-seat_of s = record { chronicle = s.table; actors = s.actors; actor = s.actor; entries = s.entries; taken = s.taken; job = s.fixed }
+abbrev pub seat_of : SeatOf Entry BeginningOf → ActorSeatOf
+seat_of s = record { chronicle = s.table; actors = s.actors; actor = s.actor; entries = s.entries; taken = s.taken; began = s.fixed }
 
 -- a seat of the chronicle, at a moment at which the kept value isn't out with it
 pub record IsSeatIn (c : ChronicleOf) (s : ActorSeatOf) : Type 0 where
   pub chronicle : s.chronicle ≡ c.chronicle
   pub actors : s.actors ≡ c.actors
   pub free : s.taken ≡ None
-  pub job : s.job ≡ Some (snapshot c.job)
+  pub began : s.began ≡ Some (beginning c.job c.first)
 
 -- a seat of the chronicle that committed nothing yet
 abbrev pub IsBlankSeatIn : ChronicleOf → ActorSeatOf → Type 0

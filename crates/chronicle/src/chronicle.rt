@@ -13,8 +13,10 @@ ghost use Rattle.chronicle.specs.declared.chronicle.Arrived.{Arrived as ArrivedO
 ghost use Rattle.chronicle.specs.declared.chronicle.Delivery.TheVariants.{Came, Looked};
 ghost use Rattle.chronicle.specs.declared.kept.Committed.{Committed as CommittedOf};
 ghost use Rattle.chronicle.specs.History.{IsSafeHistory, actor_of, entry, actor_number, outcome_told};
+ghost use Rattle.chronicle.specs.Kept.{IsLeftBy};
 ghost use Rattle.chronicle.specs.Seats.{IsBlankSeatIn, IsSeatIn, TellsOf, first_last, seat_of};
 
+use crate::beginning::Beginning;
 use crate::kept::{Committed, Kept};
 use crate::seat::ActorSeat;
 use crate::sent::Sent;
@@ -29,7 +31,6 @@ use node_core::Work;
 use serial_meaning::{Job, Whole};
 use std::alloc::{AllocError, Global};
 use std::marker::Model;
-use std::snapshot::Snapshot;
 use std::sync::Wait;
 use turn_lock::{LockSeat, TurnLock};
 use world_steps::{FirstDisk, NoMemory};
@@ -75,6 +76,14 @@ pub enum Delivery {
     Looked(u64),
 }
 
+/// What a chronicle comes to: what was committed, the disk of its clearinghouse, and whether an event found no memory.
+#[derive(Drop)]
+pub struct Finished<D: Drop> {
+    pub trace: Trace,
+    pub disk: D,
+    pub out_of_memory: bool,
+}
+
 /// Where a ready frame is looked for: at the node of a place, besides these frames.
 #[derive(Clone, Copy)]
 struct Wanted<'f> {
@@ -84,7 +93,7 @@ struct Wanted<'f> {
 }
 
 /// A world under a lock, with the history that led to it. Threads share it by reference, each with the seats of its actors. Contracts see
-/// which chronicle it is, how many actors have a seat, and the job.
+/// which chronicle it is, how many actors have a seat, the job, and the disk with which its history begins.
 #[derive(Drop)]
 pub struct Chronicle<'a, D: SteadyDisk + Drop = MemDisk> {
     job: &'a Job,
@@ -98,6 +107,7 @@ impl<'a, D: SteadyDisk + Drop> Model for Chronicle<'a, D> {
     ghost use Rattle.task_tree.specs.contracts.tree.Expr as expr;
     ghost use Rattle.task_tree.specs.contracts.tree.Block as block;
     ghost use Rattle.task_tree.specs.contracts.tree.End as end;
+    ghost use Rattle.chronicle.specs.Kept.{IsLeftBy};
     ghost use Rattle.chronicle.specs.Seats.{ChronicleOf, chronicle_of};
 
     ghost Value = { ChronicleOf };
@@ -106,7 +116,7 @@ impl<'a, D: SteadyDisk + Drop> Model for Chronicle<'a, D> {
 
     ghost view = { λ c. chronicle_of c.lock };
 
-    ghost invariant = { λ c. c.lock.fixed.value ≡ c.job.now };
+    ghost invariant = { λ c. c.lock.fixed.job ≡ c.job.now };
 }
 
 impl<'a, D: SteadyDisk + Drop> Chronicle<'a, D> {
@@ -120,13 +130,15 @@ impl<'a, D: SteadyDisk + Drop> Chronicle<'a, D> {
     ) -> Result<(Chronicle<'a, D>, Vec<ActorSeat<'a, D>>), NoMemory>
         requires { (0 < nodes) × (nodes ≤ 64) }
         ensures chronicle { IfOk result (λ r. (r.0.job ≡ first.entry.job) × (r.0.actors ≡ nodes + 1)) }
+        ensures first { IfOk result (λ r. r.0.first ≡ D.device first.entry.disk) }
         ensures seats { IfOk result (λ r. All (IsBlankSeatIn r.0) r.1.items) }
         ensures order { IfOk result (λ r. map (λ s. s.actor) r.1.items ≡ range_with_len 1 nodes ++ 0 ∷ []) }
     {
         let job = first.job();
+        let began = Beginning::of(&first);
         let kept = Kept::new(alloc, first)?;
         let actors = usize::from(nodes) + 1;
-        let (lock, bare) = TurnLock::new(alloc, kept, actors, Snapshot::of(job))?;
+        let (lock, bare) = TurnLock::new(alloc, kept, actors, began)?;
         let seats = by_place(alloc, bare)?;
         let sent = Sent::new(alloc)?;
         Ok((Chronicle { job, lock, sent }, seats))
@@ -351,12 +363,14 @@ impl<'a, D: SteadyDisk + Drop> Chronicle<'a, D> {
         self.sent.to(receiver)
     }
 
-    /// Ends the chronicle, once all seats are back, and gives the disk back. What was committed is a safe history of the job, which has
-    /// of each actor just what its seat has, in the same order, and nothing else. None only where a seat is missing. It takes no memory.
-    pub fn finish(self, mut seats: Vec<ActorSeat<'a, D>>) -> Option<(Trace, D)>
+    /// Ends the chronicle, once all seats are back, and gives the disk back. What was committed is a safe history of the job over the disk
+    /// with which it began, which has of each actor just what its seat has, in the same order, and nothing else; the disk is the one that it
+    /// leaves. None only where a seat is missing. It takes no memory.
+    pub fn finish(self, mut seats: Vec<ActorSeat<'a, D>>) -> Option<Finished<D>>
         requires own { All (IsSeatIn self) seats.items }
-        ensures run { IfSome result (λ r. IsSafeHistory self.entry.job r.0) }
-        ensures told { IfSome result (λ r. TellsOf seats.entry.items r.0) }
+        ensures run { IfSome result (λ r. IsSafeHistory self.entry.job self.entry.first r.trace) }
+        ensures left { IfSome result (λ r. IsLeftBy self.entry.job self.entry.first r.trace r.out_of_memory (D.device r.disk)) }
+        ensures told { IfSome result (λ r. TellsOf seats.entry.items r.trace) }
         ensures missing { IfNone result (vec_len seats.entry < self.entry.actors) }
     {
         let Chronicle {
@@ -374,8 +388,12 @@ impl<'a, D: SteadyDisk + Drop> Chronicle<'a, D> {
         }
         let kept = lock.close(all);
         let counts = *kept.world().counts();
-        let (entries, disk) = kept.into_parts();
-        Some((Trace { entries, counts }, disk))
+        let (entries, disk, out_of_memory) = kept.into_parts();
+        Some(Finished {
+            trace: Trace { entries, counts },
+            disk,
+            out_of_memory,
+        })
     }
 }
 
@@ -408,6 +426,7 @@ fn comes<'a, D: SteadyDisk + Drop>(
     ensures seat { seat.new ≡ seat.old }
     ensures own { own actor_of seat.old.actor kept.old.entries ≡ seat.old.entries }
     ensures job { kept.new.on.job ≡ kept.old.on.job }
+    ensures first { kept.new.first ≡ kept.old.first }
     ensures history { IfOk result (λ d. kept.new.entries ≡ kept.old.entries ++ entered place d) }
     ensures step { IfOk result (λ d. IfSome (told_in place d) (λ e. (w : WorldOf) × (o : StepResult)
         × StepOf kept.old.on.job e.event w o × (e.told ≡ told_of o.answer))) }

@@ -8,13 +8,15 @@ ghost use Rattle.world_steps.specs.First.{IsFirst};
 ghost use Rattle.world_steps.specs.Steps.{Step as StepOf};
 ghost use Rattle.world_steps.specs.World.{first_over};
 ghost use Rattle.chronicle.specs.History.{IsSafeHistory, actor_of, entry, actor_number, outcome_told};
+ghost use Rattle.chronicle.specs.Kept.{IsLeftBy};
 
+use crate::beginning::Beginning;
 use crate::seat::ActorSeat;
 use body_eval::Done;
 use disk::{MemDisk, SteadyDisk};
 use event_script::Event;
 use ids::Outcome;
-use serial_meaning::{Job, Whole};
+use serial_meaning::Whole;
 use std::alloc::Global;
 use std::marker::Model;
 use std::snapshot::Snapshot;
@@ -56,14 +58,15 @@ pub(crate) fn outcome_of(told: EventAnswer) -> Option<Outcome>
     }
 }
 
-/// A history, and the world that it reaches. Contracts see both, with the world's job, and whether an event found no memory. The world
-/// has a place of its own in memory: so what moves at each turn of the lock is small.
+/// A history, and the world that it reaches. Contracts see both, with the world's job and the disk with which the run began, and whether
+/// an event found no memory. The world has a place of its own in memory: so what moves at each turn of the lock is small.
 #[derive(Drop)]
 pub struct Kept<'a, D: SteadyDisk + Drop = MemDisk> {
     alloc: Global,
     entries: Vec<Entry>,
     world: Box<World<'a, D>>,
     out_of_memory: bool,
+    first: Snapshot<D>,
 }
 
 impl<'a, D: SteadyDisk + Drop> Model for Kept<'a, D> {
@@ -77,24 +80,28 @@ impl<'a, D: SteadyDisk + Drop> Model for Kept<'a, D> {
 
     ghost coded = { Prim.hlevel (known, expr.the_row.coded, block.the_row.coded, end.the_row.coded) };
 
-    ghost view = { λ k. record { on = k.world.value; entries = k.entries.items; out_of_memory = k.out_of_memory } };
+    ghost view = { λ k. record {
+      on = k.world.value;
+      first = D.device k.first.value;
+      entries = k.entries.items;
+      out_of_memory = k.out_of_memory;
+    } };
 
-    ghost invariant = { λ k. Reaches k.world.value.job k.entries.items k.world.value.world k.out_of_memory };
+    ghost invariant = { λ k. Reaches k.world.value.job (D.device k.first.value) k.entries.items k.world.value.world k.out_of_memory };
 }
 
 impl<'a, D: SteadyDisk + Drop> KeepsHistory for Kept<'a, D> {
-    ghost use Rattle.chronicle.specs.History.{actor_of};
-    ghost use Rattle.chronicle.specs.Seats.{snapshot};
+    ghost use Rattle.chronicle.specs.History.{actor_of, beginning};
 
     type Entry = Entry;
 
-    type Fixed = Snapshot<Job>;
+    type Fixed = Beginning<D>;
 
     ghost history = { λ k. k.entries };
 
     ghost actor_of = { actor_of };
 
-    ghost fixed = { λ k. snapshot k.on.job };
+    ghost fixed = { λ k. beginning k.on.job k.first };
 }
 
 impl<'a, D: SteadyDisk + Drop> Kept<'a, D> {
@@ -103,8 +110,10 @@ impl<'a, D: SteadyDisk + Drop> Kept<'a, D> {
         ensures kept { IfOk result (λ k. (k.on.job ≡ first.entry.job) × (k.entries ≡ []) × (k.out_of_memory ≡ false)) }
         ensures world { IfOk result (λ k. IsFirst first.entry.job (D.device first.entry.disk)
             × (k.on.world ≡ first_over (D.device first.entry.disk))) }
+        ensures first { IfOk result (λ k. k.first ≡ D.device first.entry.disk) }
     {
         let _checked = first.job().checked();
+        let disk = Snapshot::of(first.disk());
         let over = World::over(alloc, first)?;
         let Ok(world) = Box::new(alloc, over) else {
             return Err(NoMemory);
@@ -114,6 +123,7 @@ impl<'a, D: SteadyDisk + Drop> Kept<'a, D> {
             entries: Vec::new(alloc),
             world,
             out_of_memory: false,
+            first: disk,
         })
     }
 
@@ -136,6 +146,7 @@ impl<'a, D: SteadyDisk + Drop> Kept<'a, D> {
         ensures seat { seat.new ≡ seat.old }
         ensures own { own actor_of seat.old.actor self.old.entries ≡ seat.old.entries }
         ensures job { self.new.on.job ≡ self.old.on.job }
+        ensures first { self.new.first ≡ self.old.first }
         ensures step { IfOk result (λ c. (o : StepResult) × StepOf self.old.on.job event self.old.on.world o
             × (self.new.on.world ≡ o.world) × (c.told ≡ told_of o.answer)) }
         ensures history { IfOk result (λ c. self.new.entries ≡ self.old.entries ++ entry event c.told ∷ []) }
@@ -156,6 +167,7 @@ impl<'a, D: SteadyDisk + Drop> Kept<'a, D> {
             entries,
             world,
             out_of_memory,
+            first: _,
         } = self;
         if entries.reserve(1).is_err() {
             *out_of_memory = true;
@@ -176,13 +188,19 @@ impl<'a, D: SteadyDisk + Drop> Kept<'a, D> {
         &self.world
     }
 
-    /// Its history, which is a safe one of the job, and the world's disk.
-    pub fn into_parts(self) -> (Vec<Entry>, D)
+    /// Its history, which is a safe one of the job over the disk with which it began, the world's disk, and whether an event found no
+    /// memory.
+    pub fn into_parts(self) -> (Vec<Entry>, D, bool)
         ensures same { result.0.items ≡ self.entry.entries }
-        ensures run { IsSafeHistory self.entry.on.job result.0.items }
-        ensures disk { D.device result.1 ≡ self.entry.on.world.disk }
+        ensures run { IsSafeHistory self.entry.on.job self.entry.first result.0.items }
+        ensures left { IsLeftBy self.entry.on.job self.entry.first result.0.items result.2 (D.device result.1) }
     {
-        let Kept { entries, world, .. } = self;
-        (entries, Box::into_inner(world).into_disk())
+        let Kept {
+            entries,
+            world,
+            out_of_memory,
+            ..
+        } = self;
+        (entries, Box::into_inner(world).into_disk(), out_of_memory)
     }
 }

@@ -9,8 +9,8 @@
 //! both back. So events come one after another, and the thread bodies of the program can be evaluated outside the lock: a turn that
 //! was evaluated before is used where it is the ready frame's own, and put aside else.
 //!
-//! **Proved**, whatever threads do and in whatever order. A history under the lock is that of a run, over a disk with which a run of the
-//! job begins, and the world beside it is the one to which that run leads. Once an event found no memory (E9), each later one does,
+//! **Proved**, whatever threads do and in whatever order. A history under the lock is that of a run, over the very disk that the
+//! chronicle was made with, and the world beside it is the one to which that run leads; `finish` gives the disk of that world. Once an event found no memory (E9), each later one does,
 //! the history stays, and the world differs at most in that a clearinghouse that was to answer is stopped. `Kept::enter` adds exactly
 //! its event, with the answer of a step from the world that was kept; by `commit` and `commit_turn` this entry becomes the seat's next
 //! one, or on E9 nothing of the seat changes. An outcome that is told is the job's meaning. The trace of `finish` has of each actor just
@@ -30,14 +30,17 @@
 //! trace as a whole; the clause of `commit` itself can't name what a lock held.
 #![tactic(auto)]
 
+mod beginning;
 mod chronicle;
 mod kept;
 mod seat;
 mod sent;
 mod trace;
 
+pub use beginning::Beginning;
 pub use chronicle::{
-    Arrived, Chronicle, Continued, Delivery, Receiver, delivery_to, frame_of, takes_its_numbers,
+    Arrived, Chronicle, Continued, Delivery, Finished, Receiver, delivery_to, frame_of,
+    takes_its_numbers,
 };
 pub use kept::{Committed, Entry, Kept};
 pub use seat::ActorSeat;

@@ -1,4 +1,5 @@
 ghost use Rattle.std.specs.Prelude.{◌≡◌, ◌++◌, IfOk, IfSome, Ok};
+ghost use Rattle.disk.specs.Device.{Device};
 ghost use Rattle.serial_meaning.specs.Job.{JobOf, meaning_of};
 ghost use Rattle.event_script.specs.Back.{IsRead};
 ghost use Rattle.event_script.specs.Scripts.{script};
@@ -56,7 +57,8 @@ impl Trace {
     /// of the job.
     pub fn outcome(&self) -> Option<Outcome>
         ensures first { result ≡ first_outcome self.now }
-        ensures meant { (job : JobOf) → IsSafeHistory job self.now → IfSome result (λ o. o ≡ meaning_of job) }
+        ensures meant { (job : JobOf) (first : Device) → IsSafeHistory job first self.now
+            → IfSome result (λ o. o ≡ meaning_of job) }
     {
         first_outcome(self.entries.as_slice())
     }

@@ -1,7 +1,7 @@
 -- What failed where the device refuses.
-use Rattle.std.proofs.Common.{◌≡◌, ℕ, suc, List, [], ◌∷◌, Option, Result, Ok, Err, IfErr, inl, inr, refl}
+use Rattle.std.proofs.Common.{◌≡◌, ℕ, suc, List, [], ◌∷◌, Option, Result, Ok, Err, IfOk, IfErr, inl, inr, refl, ap, ◌∙◌}
 use Rattle.disk.specs.Device.{Device, passed}
-use Rattle.checkpoint.specs.Calls.{DeviceCall, Stopped, after, changed}
+use Rattle.checkpoint.specs.Calls.{DeviceCall, Passed, Stopped, after, changed}
 use Rattle.checkpoint.specs.Commit.{opening}
 use Rattle.checkpoint.specs.Store.{Opened}
 use Rattle.checkpoint.specs.declared.record.StoreError.{StoreError}
@@ -38,3 +38,9 @@ pub failed_found : {D : Type 0} (device : D → Device) (old mid : Device) (plan
     IfErr r (λ e. e.0 ≡ DeviceError → Stopped opening plan mid (device e.1)) → IfErr r (λ e. e.0 ≡ DeviceError → HasFailed old (device e.1))
 failed_found device old mid plan (Ok s) same stopped = tt
 failed_found device old mid plan (Err e) same stopped = λ is. failed_behind old mid (device e.1) same (stopped_failed opening plan mid (device e.1) (stopped is))
+
+-- no call failed of a store that is opened
+pub passed_opened : {D : Type 0} (device : D → Device) (old mid : Device) (plan : ℕ → Option (List ℕ)) (r : Result (Opened D) (StoreError × D)) → mid.failures ≡ old.failures →
+    IfOk r (λ s. Passed opening plan mid (device s.disk)) → IfOk r (λ s. (device s.disk).failures ≡ old.failures)
+passed_opened device old mid plan (Ok s) same passed = ap (λ (x : Device). x.failures) passed.made ∙ (after_failures opening mid ∙ same)
+passed_opened device old mid plan (Err e) same passed = tt

@@ -21,6 +21,9 @@ pub fn open_store<D: Disk>(alloc: Global, disk: D, job: u64) -> Result<Store<D>,
     // Where a crash leaves what a read gives, it has the store's record, whatever a crash leaves.
     ensures kept { IfOk result (λ s. Only (bytes_of (D.device disk).file) (CrashLeaves (D.device disk).file)
         → KeepsItself D.device s) }
+
+    // No call failed.
+    ensures passed { IfOk result (λ s. (D.device s.disk).failures ≡ (D.device disk).failures) }
     ensures refused { IfErr result (λ e. e.0 ≢ StoreError.Device → IsRefused e.0 (bytes_of (D.device disk).file) job) }
     ensures failed { IfErr result (λ e. e.0 ≡ StoreError.Device → HasFailed (D.device disk) (D.device e.1)) }
     ensures unchanged { IfErr result (λ e. e.0 ≢ StoreError.Device → (D.device e.1).file ≡ (D.device disk).file) }
@@ -37,6 +40,7 @@ pub fn open_store<D: Disk>(alloc: Global, disk: D, job: u64) -> Result<Store<D>,
 fn make_store<D: Disk>(alloc: Global, disk: D, job: u64) -> Result<Store<D>, (StoreError, D)>
     ensures made { IfOk result (λ s. (s.ended ≡ false) × (s.record ≡ fresh job)) }
     ensures kept { IfOk result (KeepsItself D.device) }
+    ensures passed { IfOk result (λ s. (D.device s.disk).failures ≡ (D.device disk).failures) }
     ensures refused { IfErr result (λ e. e.0 ≡ StoreError.Device) }
     ensures failed { IfErr result (λ e. HasFailed (D.device disk) (D.device e.1)) }
 {

@@ -1,11 +1,14 @@
 -- What a run on threads answers.
-use Rattle.std.specs.Prelude.{◌≡◌, ℕ, List, Some, IfSome}
+use Rattle.std.specs.Prelude.{◌≡◌, ℕ, Bool, List, Some, IfSome}
 use Rattle.ids.specs.declared.outcome.Outcome.{Outcome}
+use Rattle.disk.specs.Device.{Device}
 use Rattle.disk.specs.declared.cells.Cell.{Cell}
 use Rattle.checkpoint.specs.Store.{KeepsRecord}
 use Rattle.checkpoint.specs.declared.record.CheckpointRecord.{CheckpointRecord}
 use Rattle.serial_meaning.specs.Job.{JobOf, meaning_of}
-use Rattle.chronicle.specs.History.{IsSafeHistory, first_outcome}
+use Rattle.world_steps.specs.Found.{IsKeptOf}
+use Rattle.chronicle.specs.History.{first_outcome}
+use Rattle.chronicle.specs.Kept.{IsLeftBy}
 use Rattle.chronicle.specs.Seats.{ChronicleOf, IsSeatIn}
 use Rattle.start_words.specs.Words.{IsPenOf, TableOf}
 use Rattle.node_runner.specs.Lines.{IsHomeOf, IsLineOf}
@@ -14,11 +17,15 @@ use Rattle.node_runner.specs.declared.crew.NodeContext.{NodeContext}
 use Rattle.node_runner.specs.declared.crew.WorkerContext.{WorkerContext}
 use Rattle.node_runner.specs.declared.run.Ran.{Ran}
 
--- the outcome is the job's meaning, and the trace a safe history of the job that tells it first
-pub record IsRanOf {D : Type 0} (job : JobOf) (ran : Ran D) : Type 0 where
+-- the outcome is the job's meaning; the trace is a safe history of the job over the disk that was given, and tells this outcome first; and
+-- the disk that comes back keeps it, as it was found on the one that this history leaves
+pub record IsRanOf {D : Type 0} (device : D → Device) (job : JobOf) (first : Device) (ran : Ran D) : Type 0 where
   pub meant : ran.outcome ≡ meaning_of job
-  pub safe : IsSafeHistory job ran.trace
+  pub out_of_memory : Bool
+  pub left : Device
+  pub run : IsLeftBy job first ran.trace out_of_memory left
   pub told : first_outcome ran.trace ≡ Some ran.outcome
+  pub kept : IsKeptOf left job.number (Some ran.outcome) (device ran.disk).file
 
 -- whatever a crash leaves of a file is the checkpoint of the job of a number, with this outcome
 pub record KeepsOutcome (file : List Cell) (number : ℕ) (outcome : Outcome) : Type 0 where

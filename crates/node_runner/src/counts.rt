@@ -24,6 +24,9 @@ const SHARE: u64 = 65_536;
 /// Of the turns that are left a thread takes one in so many for an evaluation at most.
 const SPARED: u64 = 1_024;
 
+/// What is added to the count of threads where one gives up waiting for the others: more than there are.
+const GIVEN_UP: u64 = 1 << 32;
+
 /// What the actors of a run count together, each number by one step of an atomic word. The words lie on cache lines of their own: a thread
 /// that counts turns or bodies takes no line from one that counts events.
 #[derive(Drop)]
@@ -87,9 +90,31 @@ impl Counts {
         let _ = self.threads.fetch_add(1, SeqCst);
     }
 
-    /// How many threads are there, or were.
-    pub(crate) fn threads(&self) -> u64 {
-        self.threads.load(SeqCst)
+    /// Whether so many threads, which are all, are there, and none gave up before.
+    pub(crate) fn are_there(&self, all: u64) -> bool {
+        self.threads.load(SeqCst) == all
+    }
+
+    /// A thread gives up waiting for all of so many, unless they are there by now. Whether it did: then they are never all there.
+    pub(crate) fn gives_up(&self, all: u64) -> bool {
+        for _ in 0..u64::MAX {
+            let there = self.threads.load(SeqCst);
+            if there == all {
+                return false;
+            }
+            if there >= GIVEN_UP {
+                return true;
+            }
+            let given_up = there + GIVEN_UP;
+            if self
+                .threads
+                .compare_exchange(there, given_up, SeqCst, SeqCst)
+                .is_ok()
+            {
+                return true;
+            }
+        }
+        true
     }
 
     /// A thread takes a turn, of those that it has, or else of those that are left to all. Whether there was one, and the run hasn't ended.

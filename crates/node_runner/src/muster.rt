@@ -36,7 +36,7 @@ pub(crate) fn threads_of(config: &RunConfig) -> u64 {
 
 /// A thread is there, and waits for all others, which may be slow. That the system makes as many was tried before. Where it doesn't any more,
 /// what a thread was to do is done by another one, behind what that one does, and they would wait for each other without end: so none of
-/// them begins where one isn't there in time, and all are made anew. Whether all are there.
+/// them begins where one isn't there in time, not that one either, and all are made anew. Whether all are there.
 pub(crate) fn musters<R: Clock, G: Gate + Sync, D: SteadyDisk + Drop>(
     rt: &R,
     shared: &Shared<'_, '_, G, D>,
@@ -44,7 +44,7 @@ pub(crate) fn musters<R: Clock, G: Gate + Sync, D: SteadyDisk + Drop>(
     shared.counts.appears();
     let threads = threads_of(shared.config);
     for waited in 0..(YIELDS + NAPS).saturating_add(shared.counts.patience()) {
-        if shared.counts.threads() >= threads {
+        if shared.counts.are_there(threads) {
             return true;
         }
         if shared.counts.end().is_some() {
@@ -57,6 +57,9 @@ pub(crate) fn musters<R: Clock, G: Gate + Sync, D: SteadyDisk + Drop>(
         } else {
             rests(rt);
         }
+    }
+    if !shared.counts.gives_up(threads) {
+        return true;
     }
     shared.counts.ends(End::Missing);
     false

@@ -1,6 +1,7 @@
-ghost use Rattle.std.specs.Prelude.{◌≡◌, All, IfOk, IfSome, vec_len};
+ghost use Rattle.std.specs.Prelude.{◌≡◌, All, IfOk, Some, vec_len};
 ghost use Rattle.serial_meaning.specs.Job.{meaning_of};
-ghost use Rattle.chronicle.specs.History.{IsSafeHistory};
+ghost use Rattle.world_steps.specs.Found.{IsKeptOf};
+ghost use Rattle.chronicle.specs.Kept.{IsLeftBy};
 ghost use Rattle.chronicle.specs.Seats.{IsSeatIn};
 ghost use Rattle.node_runner.specs.Runs.{IsContextIn, IsRanOf, IsWorkerOf, KeepsOutcome};
 
@@ -19,7 +20,7 @@ use crate::shared::Shared;
 use crate::worker::run_worker;
 use board::Board;
 use checkpoint::StoreError;
-use chronicle::{ActorSeat, Chronicle, Trace};
+use chronicle::{ActorSeat, Chronicle, Finished, Trace};
 use disk::SteadyDisk;
 use event_script::NodePlace;
 use ids::Outcome;
@@ -41,15 +42,16 @@ pub struct Ran<D: Drop> {
 
 /// Runs a job over the disk with which its run begins, on as many nodes as the configuration says, each on a thread of its own and with as many
 /// body workers as it says, each on another, with a clearinghouse on one more, under the faults that it says. The outcome is the job's meaning;
-/// the trace is a safe history of the job, and tells this outcome first; and the disk keeps it, whatever a crash leaves of that.
+/// the trace is a safe history of the job over the very disk that is given, and tells this outcome first; and the disk that comes back is the one
+/// that this history leaves, read once more, and keeps the outcome, whatever a crash leaves of it.
 ///
 /// Refused as `TurnsSpent` (E95) where all turns were taken before there was an outcome, as `Memory` (E96) where there is no memory or the
 /// system refuses a thread, and as `Disk` (E97) where the clearinghouse can't go on, or the outcome isn't found on the disk: what that keeps is
 /// then for whoever opens it anew to find.
 ///
 /// Whether the system makes as many threads is tried before anything else, with threads that do nothing. Where one isn't there half a second
-/// later all end, it is tried again, and they are made anew and waited for twice as long, up to two minutes each time: threads that are slow
-/// are waited for. Each loop turn of an actor or a body worker counts as one, and so does each question to the gate. Where 131,072 turns and
+/// later all end before anything is committed, it is tried again, and they are made anew and waited for twice as long, up to two minutes each
+/// time: threads that are slow are waited for. Each loop turn of an actor or a body worker counts as one, and so does each question to the gate. Where 131,072 turns and
 /// more may be taken a thread takes several at once, at most 64, and so fewer than one in a hundred may be left to threads that don't begin
 /// them.
 pub fn run_job<'a, R: Threads + Wait + Clock + Sync, G: Gate + Sync, D: SteadyDisk + Drop + Send>(
@@ -59,22 +61,23 @@ pub fn run_job<'a, R: Threads + Wait + Clock + Sync, G: Gate + Sync, D: SteadyDi
     config: &RunConfig,
     gate: &G,
 ) -> Result<Ran<D>, RunError>
-    ensures ran { IfOk result (IsRanOf first.entry.job) }
+    ensures ran { IfOk result (IsRanOf D.device first.entry.job (D.device first.entry.disk)) }
     ensures kept { IfOk result (λ r. KeepsOutcome (D.device r.disk).file first.entry.job.number r.outcome) }
 {
     let job = first.job();
-    let mut next = Some(first);
+    let mut first = first;
     let mut patience = PATIENCE;
     for _ in 0..u64::MAX {
-        let Some(first) = next.take() else {
-            break;
-        };
         // (this thread is one of them)
         if !can_make(rt, threads_of(config).saturating_sub(1)) {
             return Err(RunError::Memory);
         }
         let counts = Counts::new(config.turns(), patience);
-        let (mut trace, disk) = traced(rt, alloc, first, config, gate, &counts)?;
+        let Finished {
+            mut trace,
+            disk,
+            out_of_memory,
+        } = traced(rt, alloc, first, config, gate, &counts)?;
         trace.tell_kept(counts.used(), counts.vain());
         if let Some(outcome) = trace.outcome() {
             let disk = kept(alloc, job, outcome, disk)?;
@@ -85,30 +88,20 @@ pub fn run_job<'a, R: Threads + Wait + Clock + Sync, G: Gate + Sync, D: SteadyDi
             });
         }
         match counts.end() {
-            Some(End::Missing) => rests(rt),
+            Some(End::Missing) => {}
             Some(End::Disk(number)) => return Err(RunError::Disk(number)),
             Some(End::Memory) => return Err(RunError::Memory),
             Some(End::Turns) | None => return Err(RunError::TurnsSpent),
         }
-        next = again(alloc, job, disk)?;
+        // (where one isn't there none begins, and the disk is as it was)
+        if out_of_memory || !trace.entries().is_empty() {
+            return Err(RunError::Memory);
+        }
+        rests(rt);
+        first = FirstDisk::of(job, disk);
         patience = patience.saturating_mul(2).min(MOST_PATIENCE);
     }
     Err(RunError::Memory)
-}
-
-/// The disk of a run that ended with no outcome, with which another one begins; none where an outcome is found there.
-fn again<'a, D: SteadyDisk + Drop>(
-    alloc: Global,
-    job: &'a Job,
-    disk: D,
-) -> Result<Option<FirstDisk<'a, D>>, RunError>
-    ensures { IfOk result (λ f. IfSome f (λ x. x.job ≡ job.now)) }
-{
-    match FirstDisk::found(alloc, job, disk) {
-        Ok(Found::Begins(first)) => Ok(Some(first)),
-        Ok(Found::Kept(_, _)) => Ok(None),
-        Err((fault, _)) => Err(RunError::Disk(fault.number())),
-    }
 }
 
 /// The disk of a run that ended with an outcome, where it keeps that, whatever a crash leaves of it: it is read once more.
@@ -118,7 +111,7 @@ fn kept<D: SteadyDisk + Drop>(
     outcome: Outcome,
     disk: D,
 ) -> Result<D, RunError>
-    ensures { IfOk result (λ d. KeepsOutcome (D.device d).file job.now.number outcome) }
+    ensures { IfOk result (λ d. IsKeptOf (D.device disk) job.now.number (Some outcome) (D.device d).file) }
 {
     match FirstDisk::found(alloc, job, disk) {
         Ok(Found::Kept(found, disk)) => {
@@ -133,7 +126,7 @@ fn kept<D: SteadyDisk + Drop>(
     }
 }
 
-/// The trace of a run, and its disk. Refused only when out of memory.
+/// What a run comes to: its trace, and its disk. Refused only when out of memory.
 fn traced<'a, R: Threads + Wait + Clock + Sync, G: Gate + Sync, D: SteadyDisk + Drop + Send>(
     rt: &R,
     alloc: Global,
@@ -141,8 +134,8 @@ fn traced<'a, R: Threads + Wait + Clock + Sync, G: Gate + Sync, D: SteadyDisk + 
     config: &RunConfig,
     gate: &G,
     counts: &Counts,
-) -> Result<(Trace, D), RunError>
-    ensures { IfOk result (λ r. IsSafeHistory first.entry.job r.0) }
+) -> Result<Finished<D>, RunError>
+    ensures { IfOk result (λ r. IsLeftBy first.entry.job (D.device first.entry.disk) r.trace r.out_of_memory (D.device r.disk)) }
 {
     let job = first.job();
     let nodes = config.nodes();

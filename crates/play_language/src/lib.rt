@@ -35,6 +35,8 @@
 //! - `asker ask ACTOR`, `asker pending SEQ`, `asker answered SEQ GRANT`, `asker settle STATUS`, where `nothing` may be said of the
 //!   victim, and `asker clear`.
 //! - `replies keep THIEF SEQ PACKET` and `replies hear THIEF SEQ`.
+//! - `saved put PLACE VALUE`, where the place is one whose value is saved, `saved kid PLACE HOLE`, the value of a kid, `saved task
+//!   PLACE`, where the value of a task is saved, `saved below PLACE`, `saved all`, in a copy, and `saved clear`.
 //!
 //! A refusal is answered by its number and offset. Behind E9, when out of memory, the same call is made once more;
 //! but the copies of `copy` end the transcript there.

@@ -1,5 +1,5 @@
 //! What a node is made of, each by itself: its frames, the posts of its ready frames, its records, the heirs of a roster, its
-//! requests and its answers.
+//! requests and its answers; and values that were saved.
 
 mod asker;
 mod bearers;
@@ -7,6 +7,7 @@ mod kept;
 mod posts;
 mod records;
 mod replies;
+mod saved;
 mod words;
 
 use asker::play_asker;
@@ -18,6 +19,8 @@ use play_words::{Answers, CommandLine, Played};
 use posts::play_posts;
 use records::play_records;
 use replies::play_replies;
+use saved::play_saved;
+use saved_values::SavedTable;
 use std::alloc::Global;
 use steal_protocol::{Asker, Replies};
 use victim_records::Records;
@@ -30,6 +33,7 @@ pub struct Stores {
     records: Records,
     asker: Asker,
     replies: Replies,
+    saved: SavedTable,
 }
 
 impl Stores {
@@ -40,6 +44,7 @@ impl Stores {
             records: Records::new(alloc),
             asker: Asker::new(),
             replies: Replies::new(alloc),
+            saved: SavedTable::new(),
         }
     }
 
@@ -52,6 +57,7 @@ impl Stores {
             "heirs" => play_heirs(alloc, line, out),
             "asker" => play_asker(line, &mut self.asker, out),
             "replies" => play_replies(alloc, line, &mut self.replies, out),
+            "saved" => play_saved(alloc, line, &mut self.saved, out),
             _ => return Played::NotMine,
         })
     }

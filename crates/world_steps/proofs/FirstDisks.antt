@@ -1,15 +1,18 @@
 -- What is found on a disk.
-use Rattle.std.proofs.Common.{◌≡◌, ◌≢◌, ℕ, List, [], Option, Result, Ok, Err, IfErr}
+use Rattle.std.proofs.Common.{◌≡◌, ◌≢◌, ℕ, Bool, IsTrue, true, false, List, [], Option, Result, Ok, Err, IfErr, ap, refl, ◌∙◌}
 use Rattle.ids.specs.declared.outcome.Outcome.{Outcome}
 use Rattle.disk.specs.Crash.{Only, Shrinks}
-use Rattle.disk.specs.Device.{Device}
+use Rattle.disk.specs.Device.{Device, crashed}
+use Rattle.disk.specs.declared.cells.Cell.{Cell}
 use Rattle.disk.specs.File.{CrashLeaves, bytes_of}
 use Rattle.disk.proofs.Crashes.{crash-leaves-bytes_of}
 use Rattle.checkpoint.specs.Format.{fresh}
-use Rattle.checkpoint.specs.Store.{KeepsItself, Opened, ReadsAsStore}
+use Rattle.checkpoint.specs.Store.{IsRefused, KeepsItself, Opened, ReadsAsStore}
 use Rattle.checkpoint.specs.declared.record.StoreError.{StoreError}
 use Rattle.checkpoint.specs.declared.record.StoreError.TheVariants.{Device as DeviceError}
-use Rattle.world_steps.specs.Found.{IsKeptOf}
+use Rattle.job_store.specs.Failed.{HasFailed}
+use Rattle.job_store.proofs.Failing.{failed_behind}
+use Rattle.world_steps.specs.Found.{IsKeptOf, IsRefusedOn}
 use Rattle.world_steps.proofs.Meeting.{keeps_less}
 
 -- a store that was opened over a settled disk, and whose disk was settled again
@@ -32,3 +35,26 @@ kept_of device old mid number s disk o left only made read kept own told less = 
 pub by_device : {D T : Type 0} (device : D → Device) (old : Device) (r : Result T (StoreError × D)) → IfErr r (λ e. e.0 ≡ DeviceError) → IfErr r (λ e. e.0 ≢ DeviceError → Shrinks (CrashLeaves old.file) (CrashLeaves (device e.1).file))
 by_device device old (Ok x) is = tt
 by_device device old (Err e) is = λ other. absurd (other is)
+
+pub refused_by_device : {D T : Type 0} (file : List Cell) (number : ℕ) (r : Result T (StoreError × D)) → IfErr r (λ e. e.0 ≡ DeviceError) → IfErr r (λ e. e.0 ≢ DeviceError → IsRefusedOn e.0 file number)
+refused_by_device file number (Ok x) is = tt
+refused_by_device file number (Err e) is = λ other. absurd (other is)
+
+-- what was settled isn't opened
+pub refused_settled : {D T : Type 0} (old mid : Device) (number : ℕ) (r : Result T (StoreError × D)) → Shrinks (CrashLeaves old.file) (CrashLeaves mid.file) → IfErr r (λ e. e.0 ≢ DeviceError → IsRefused e.0 (bytes_of mid.file) number)
+    → IfErr r (λ e. e.0 ≢ DeviceError → IsRefusedOn e.0 old.file number)
+refused_settled old mid number (Ok x) left is = tt
+refused_settled old mid number (Err e) left is = λ other. record { content = bytes_of mid.file; left = left (bytes_of mid.file) (crash-leaves-bytes_of mid.file); refused = is other }
+
+-- a device that is disarmed fails no call
+pub disarmed_failures : (d mid : Device) → (IsTrue d.can_cut → mid ≡ crashed d) → (d.can_cut ≡ false → mid ≡ d) → mid.failures ≡ d.failures
+disarmed_failures d mid cut uncut = by d.can_cut refl
+  where
+    by : (b : Bool) → d.can_cut ≡ b → mid.failures ≡ d.failures
+    by true can = ap (λ (x : Device). x.failures) (cut can)
+    by false not_cut = ap (λ (x : Device). x.failures) (uncut not_cut)
+
+-- a call failed, and none before it
+pub failed_since : {D T : Type 0} (device : D → Device) (old mid : Device) (r : Result T (StoreError × D)) → mid.failures ≡ old.failures → IfErr r (λ e. e.0 ≡ DeviceError → HasFailed mid (device e.1)) → IfErr r (λ e. e.0 ≡ DeviceError → HasFailed old (device e.1))
+failed_since device old mid (Ok x) same failed = tt
+failed_since device old mid (Err e) same failed = λ is. failed_behind old mid (device e.1) same (failed is)

@@ -5,8 +5,9 @@ use Rattle.disk.specs.declared.cells.Cell.{Cell}
 use Rattle.disk.specs.Device.{Device}
 use Rattle.disk.specs.File.{CrashLeaves}
 use Rattle.checkpoint.specs.Format.{fresh}
-use Rattle.checkpoint.specs.Store.{KeepsRecord, ReadsAsStore}
+use Rattle.checkpoint.specs.Store.{IsRefused, KeepsRecord, ReadsAsStore}
 use Rattle.checkpoint.specs.declared.record.CheckpointRecord.{CheckpointRecord}
+use Rattle.checkpoint.specs.declared.record.StoreError.{StoreError}
 use Rattle.serial_meaning.specs.Job.{JobOf}
 use Rattle.world_steps.specs.declared.first_disk.Found.{Found}
 use Rattle.world_steps.specs.declared.first_disk.Found.TheVariants.{Kept, Begins}
@@ -27,3 +28,9 @@ pub record IsKeptOf (old : Device) (number : ℕ) (outcome : Option Outcome) (fi
 abbrev pub IsFoundOn : {D : Type 0} → (D → Device) → JobOf → Device → Found D → Type 0
 IsFoundOn device job old (Kept o d) = IsKeptOf old job.number (Some o) (device d).file
 IsFoundOn device job old (Begins f) = (f.job ≡ job) × IsKeptOf old job.number None (device f.disk).file
+
+-- why nothing is found: what a crash may leave of the disk isn't opened for the job of a number
+pub record IsRefusedOn (e : StoreError) (file : List Cell) (number : ℕ) : Type 0 where
+  pub content : List ℕ
+  pub left : CrashLeaves file content
+  pub refused : IsRefused e content number

@@ -2,8 +2,9 @@
 ghost use Rattle.std.specs.Prelude.{◌≡◌, ◌≢◌, IfErr, IfOk};
 ghost use Rattle.disk.specs.Crash.{Only, Shrinks};
 ghost use Rattle.disk.specs.File.{CrashLeaves, bytes_of};
+ghost use Rattle.job_store.specs.Failed.{HasFailed};
 ghost use Rattle.world_steps.specs.First.{IsFirst};
-ghost use Rattle.world_steps.specs.Found.{IsFoundOn};
+ghost use Rattle.world_steps.specs.Found.{IsFoundOn, IsRefusedOn};
 ghost use Rattle.world_steps.specs.Runs.{IsFormattedFor};
 ghost use Rattle.world_steps.specs.Seats.{IsStill};
 
@@ -66,6 +67,8 @@ impl<'a, D: SteadyDisk + Drop> FirstDisk<'a, D> {
     /// checkpoint; E73 for another version; E71 for one that is none; E70 for another job. Nothing is written where a byte is there.
     pub fn found(alloc: Global, job: &'a Job, disk: D) -> Result<Found<'a, D>, (StoreError, D)>
         ensures found { IfOk result (IsFoundOn D.device job.now (D.device disk)) }
+        ensures refused { IfErr result (λ e. e.0 ≢ StoreError.Device → IsRefusedOn e.0 (D.device disk).file job.now.number) }
+        ensures failed { IfErr result (λ e. e.0 ≡ StoreError.Device → HasFailed (D.device disk) (D.device e.1)) }
 
         // A disk that the device doesn't refuse, but what it holds, keeps that.
         ensures unchanged { IfErr result (λ e. e.0 ≢ StoreError.Device
@@ -81,6 +84,15 @@ impl<'a, D: SteadyDisk + Drop> FirstDisk<'a, D> {
         }
     }
 
+    /// A disk that is one over which a run of the job can begin.
+    pub fn of(job: &'a Job, disk: D) -> FirstDisk<'a, D>
+        requires { IsFirst job.now (D.device disk) }
+        ensures job { result.job ≡ job.now }
+        ensures disk { result.disk ≡ disk }
+    {
+        FirstDisk { job, disk }
+    }
+
     /// The job.
     pub fn job(&self) -> &'a Job
         ensures { result.now ≡ self.now.job }
@@ -88,11 +100,12 @@ impl<'a, D: SteadyDisk + Drop> FirstDisk<'a, D> {
         self.job
     }
 
-    /// It is one over which a run of the job can begin. Does nothing.
-    pub fn law_is_first(&self)
-        ensures { IsFirst self.now.job (D.device self.now.disk) }
+    /// The disk.
+    pub fn disk(&self) -> &D
+        ensures same { result.now ≡ self.now.disk }
+        ensures first { IsFirst self.now.job (D.device self.now.disk) }
     {
-        let _ = &self.disk;
+        &self.disk
     }
 
     /// The job and the disk.
@@ -109,9 +122,11 @@ impl<'a, D: SteadyDisk + Drop> FirstDisk<'a, D> {
 /// Disarms a disk, as by a crash, and has all of it there for good.
 fn settled<D: SteadyDisk + Drop>(disk: D) -> Result<D, (StoreError, D)>
     ensures still { IfOk result (λ d. IsStill (D.device d)) }
+    ensures passed { IfOk result (λ d. (D.device d).failures ≡ (D.device disk).failures) }
     ensures only { IfOk result (λ d. Only (bytes_of (D.device d).file) (CrashLeaves (D.device d).file)) }
     ensures leaves { IfOk result (λ d. Shrinks (CrashLeaves (D.device disk).file) (CrashLeaves (D.device d).file)) }
     ensures refused { IfErr result (λ e. e.0 ≡ StoreError.Device) }
+    ensures failed { IfErr result (λ e. HasFailed (D.device disk) (D.device e.1)) }
 {
     let mut disk = disk;
     disk.crash();

@@ -91,7 +91,7 @@ impl<'a, D: SteadyDisk + Drop> World<'a, D> {
         let flat = Flat::of(alloc, job.checked())?;
         let nodes = no_nodes(alloc)?;
         let counts = RunCounts::boxed(alloc)?;
-        first.law_is_first();
+        let _disk = first.disk();
         Ok(World {
             job,
             flat,

@@ -1,7 +1,7 @@
 use Rattle.std.proofs.Common.{ap, ◌∙◌}
 use Rattle.checkpoint.specs.Commit.{formatting}
 use Rattle.disk.specs.Device.{Device}
-use Rattle.job_store.proofs.Failing.{after_failures, failed_made, stopped_failed}
+use Rattle.job_store.proofs.Failing.{after_failures, failed_made, passed_opened, stopped_failed}
 use Rattle.job_store.proofs.Opening.{made_keeps, made_reads, opened_keeps, opened_made, refused_made}
 use Rattle.job_store.proofs.open.make_store.Goals as goal
 
@@ -28,6 +28,14 @@ returns-in-Ok-clause-failed g c =
     let same = ap (λ (x : Device). x.failures) passed.2.made ∙ after_failures (formatting passed.0) old in
     let reads = made_reads mid c.args.job c.in-Ok.ensures.left in
     failed_made g.D.Disk.device old mid (g.D.Disk.planned c.format.new.disk) c.open.result same (refused_made mid c.args.job c.open.result reads c.open.ensures.alone) c.open.ensures.stopped
+
+pub returns-in-Ok-clause-passed : goal.returns-in-Ok-clause-passed
+returns-in-Ok-clause-passed g c =
+    let passed = c.in-Ok.ensures.calls in
+    let old = g.D.Disk.device c.args.disk in
+    let mid = g.D.Disk.device c.format.new.disk in
+    let same = ap (λ (x : Device). x.failures) passed.2.made ∙ after_failures (formatting passed.0) old in
+    passed_opened g.D.Disk.device old mid (g.D.Disk.planned c.format.new.disk) c.open.result same c.open.ensures.calls
 
 pub returns-in-Err-clause-failed : goal.returns-in-Err-clause-failed
 returns-in-Err-clause-failed g c =

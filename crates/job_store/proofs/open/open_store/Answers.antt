@@ -1,7 +1,7 @@
 use Rattle.std.proofs.Common.{ap, vec_len}
 use Rattle.disk.specs.Device.{Device}
 use Rattle.disk.specs.File.{bytes_of}
-use Rattle.job_store.proofs.Failing.{failed_found}
+use Rattle.job_store.proofs.Failing.{failed_found, passed_opened}
 use Rattle.job_store.proofs.Opening.{found_keeps, found_made, none_first, opened_found, refused_found}
 use Rattle.job_store.proofs.open.open_store.Goals as goal
 
@@ -27,3 +27,8 @@ pub returns-in-Ok-2-clause-failed : goal.returns-in-Ok-2-clause-failed
 returns-in-Ok-2-clause-failed g c =
     let same = ap (λ (x : Device). x.failures) c.in-Ok-2.ensures.ok in
     failed_found g.D.Disk.device (g.D.Disk.device c.args.disk) (g.D.Disk.device c.read.new.self) (g.D.Disk.planned c.read.new.self) c.open.result same c.open.ensures.stopped
+
+pub returns-in-Ok-2-clause-passed : goal.returns-in-Ok-2-clause-passed
+returns-in-Ok-2-clause-passed g c =
+    let same = ap (λ (x : Device). x.failures) c.in-Ok-2.ensures.ok in
+    passed_opened g.D.Disk.device (g.D.Disk.device c.args.disk) (g.D.Disk.device c.read.new.self) (g.D.Disk.planned c.read.new.self) c.open.result same c.open.ensures.calls

@@ -1,16 +1,54 @@
-use Rattle.std.proofs.Common.{◌≡◌, IfErr, None, Option, Some, ap, rules, subst, sym, ◌∙◌}
+use Rattle.std.proofs.Common.{◌≡◌, ◌≢◌, IfErr, None, Option, Some, ap, rules, subst, sym, ◌∙◌}
 use Rattle.ids.specs.declared.outcome.Outcome.{Outcome}
 use Rattle.disk.specs.Crash.{Shrinks}
-use Rattle.disk.specs.File.{CrashLeaves}
+use Rattle.disk.specs.Device.{Device as DeviceOf}
+use Rattle.disk.specs.File.{CrashLeaves, bytes_of}
+use Rattle.checkpoint.specs.Store.{IsRefused}
 use Rattle.checkpoint.specs.declared.record.CheckpointRecord.{CheckpointRecord}
 use Rattle.checkpoint.specs.declared.record.StoreError.TheVariants.{Device}
-use Rattle.world_steps.proofs.FirstDisks.{by_device, kept_of}
+use Rattle.job_store.specs.Failed.{HasFailed}
+use Rattle.world_steps.proofs.FirstDisks.{by_device, failed_since, kept_of, refused_by_device, refused_settled}
 use Rattle.world_steps.proofs.first_disk.FirstDisk.found.Goals as goal
 
 pub returns-in_err-disk-2-clause-unchanged : goal.returns-in_err-disk-2-clause-unchanged
 returns-in_err-disk-2-clause-unchanged g c =
     let is : IfErr c.from_residual-in_err-disk-2.result (λ e. e.0 ≡ Device) = search rules in
     by_device g.D.Disk.device (g.D.Disk.device c.args.disk) c.from_residual-in_err-disk-2.result is
+
+pub returns-in_err-disk-clause-refused : goal.returns-in_err-disk-clause-refused
+returns-in_err-disk-clause-refused g c =
+    let is : IfErr c.from_residual.result (λ e. e.0 ≡ Device) = search rules in
+    refused_by_device (g.D.Disk.device c.args.disk).file c.args.job.now.number c.from_residual.result is
+
+pub returns-in_err-disk-clause-failed : goal.returns-in_err-disk-clause-failed
+returns-in_err-disk-clause-failed g c =
+    let device = g.D.Disk.device in
+    let is : IfErr c.from_residual.result (λ e. e.0 ≡ Device → HasFailed (device c.args.disk) (device e.1)) = search rules in
+    is
+
+pub returns-in_err-store-clause-refused : goal.returns-in_err-store-clause-refused
+returns-in_err-store-clause-refused g c =
+    let device = g.D.Disk.device in
+    let is : IfErr c.from_residual-in_err-store.result (λ e. e.0 ≢ Device → IsRefused e.0 (bytes_of (device c.in_ok-disk.disk).file) c.number.result) = search rules in
+    refused_settled (device c.args.disk) (device c.in_ok-disk.disk) c.args.job.now.number c.from_residual-in_err-store.result c.in_ok-disk.ensures.leaves (rw (← c.number.ensures) is)
+
+pub returns-in_err-store-clause-failed : goal.returns-in_err-store-clause-failed
+returns-in_err-store-clause-failed g c =
+    let device = g.D.Disk.device in
+    let is : IfErr c.from_residual-in_err-store.result (λ e. e.0 ≡ Device → HasFailed (device c.in_ok-disk.disk) (device e.1)) = search rules in
+    failed_since device (device c.args.disk) (device c.in_ok-disk.disk) c.from_residual-in_err-store.result c.in_ok-disk.ensures.passed is
+
+pub returns-in_err-disk-2-clause-refused : goal.returns-in_err-disk-2-clause-refused
+returns-in_err-disk-2-clause-refused g c =
+    let is : IfErr c.from_residual-in_err-disk-2.result (λ e. e.0 ≡ Device) = search rules in
+    refused_by_device (g.D.Disk.device c.args.disk).file c.args.job.now.number c.from_residual-in_err-disk-2.result is
+
+pub returns-in_err-disk-2-clause-failed : goal.returns-in_err-disk-2-clause-failed
+returns-in_err-disk-2-clause-failed g c =
+    let device = g.D.Disk.device in
+    let is : IfErr c.from_residual-in_err-disk-2.result (λ e. e.0 ≡ Device → HasFailed (device c.into_disk.result) (device e.1)) = search rules in
+    let same = ap (λ (x : DeviceOf). x.failures) (ap device c.into_disk.ensures) ∙ (c.in_ok-store.ensures.passed ∙ c.in_ok-disk.ensures.passed) in
+    failed_since device (device c.args.disk) (device c.into_disk.result) c.from_residual-in_err-disk-2.result same is
 
 pub invariant_of-result : goal.invariant_of-result
 invariant_of-result g c =
