@@ -10,6 +10,7 @@ use Rattle.codec.specs.declared.body.TaskResult.{TaskResult}
 use Rattle.serial_meaning.specs.Job.{JobOf, IsJob}
 use Rattle.victim_records.specs.Records.{record_in}
 use Rattle.sub_rules.specs.Carrying.{exec_content as carried_out}
+use Rattle.sub_rules.specs.Resuming.{nothing_known}
 use Rattle.sub_rules.specs.Changes.{closed}
 use Rattle.sub_rules.specs.declared.change.ContentChange.{ContentChange}
 use Rattle.sub_rules.specs.declared.change.Filling.{Filling}
@@ -88,10 +89,10 @@ module _ (job : JobOf) (n : NodeOf) (right : NodeIsRight job n) where
   -- a frame is carried out by an end that it comes to
   ended_right : IsJob job → (d : DoneOf) (g : Grant) (f : ℕ) → EndsRight job n g f d → AnswerIsRight job (calls.exec job d g f n)
   unfolding calls.exec
-  ended_right accepted d g f end = in_state job n.state _ _ _ _ tt (λ r. if_there job (sub_in g n.subs) _ _ tt (λ s e. by_change s (λ x at. end s x e at) (found_among _ s n.subs e) (carried_out d f s.content) refl)) (λ r heir. tt) tt
+  ended_right accepted d g f end = in_state job n.state _ _ _ _ tt (λ r. if_there job (sub_in g n.subs) _ _ tt (λ s e. by_change s (λ x at. end s x e at) (found_among _ s n.subs e) (carried_out nothing_known d f s.content) refl)) (λ r heir. tt) tt
     where
-      by_change : (s : SubOf) → ((x : Frame) → frame_in f s.content.frames ≡ Some x → Comes job.program x.place d.thread d.numbers d.turn) → s ∈ n.subs → (o : Result ContentChange SubError) → carried_out d f s.content ≡ o → AnswerIsRight job (calls.changed job s n o)
-      by_change s ends held (Ok c) is = changes_right s c (executed_right job s.content d f c accepted ends (right.subs s held) is)
+      by_change : (s : SubOf) → ((x : Frame) → frame_in f s.content.frames ≡ Some x → Comes job.program x.place d.thread d.numbers d.turn) → s ∈ n.subs → (o : Result ContentChange SubError) → carried_out nothing_known d f s.content ≡ o → AnswerIsRight job (calls.changed job s n o)
+      by_change s ends held (Ok c) is = changes_right s c (executed_right job nothing_known s.content d f c accepted (λ place v known. cc) ends (right.subs s held) is)
       by_change s ends held (Err sub.Stale) is = tt
       by_change s ends held (Err sub.Spent) is = tt
       by_change s ends held (Err sub.Memory) is = tt

@@ -30,7 +30,11 @@ use Rattle.run_tables.specs.View.{Sub, View}
 use Rattle.run_tables.specs.Facts.{Live, RecordOf, result_to}
 use Rattle.run_tables.specs.Meaning.{Meaning}
 use Rattle.run_tables.specs.Program.{part_of, end_of, program_meaning}
-use Rattle.run_tables.specs.Causes.{TakesTurn, GivesNumber, Ends, Cause, sends, joins, is_deep, hears, hears_deep}
+use Rattle.run_tables.specs.Causes.{TakesTurn, GivesNumber, Ends, PartsStand, Cause, sends, joins, is_deep, hears, hears_deep}
+use Rattle.sub_rules.specs.Resuming.{Known, slot_by, resumed, resumed_slots}
+use Rattle.kind_check.specs.declared.turn.Slot.TheVariants.{Filled, Awaits}
+use Rattle.kind_check.specs.declared.turn.Kid.{Kid}
+use Rattle.serial_meaning.specs.Places.{value_at}
 use Rattle.run_tables.proofs.SounderJoins.{cause_records}
 use Rattle.run_tables.proofs.Lists.{none_some}
 use Rattle.content_moves.specs.Shown.{return_of, outcome_number, outcome_of, ShowsNothing, Shows}
@@ -49,6 +53,20 @@ all_settled t c o kept shows = record {
   had = λ k listed. listed_shown t c k kept shows listed;
   lost = λ k listed at. none_some refl at.is;
 }
+
+-- what is known is the value of its place
+abbrev pub IsKnownOf : Program → List ℤ → Known → Type 0
+IsKnownOf p input known = (place : List ℕ) (v : ℤ) → known place ≡ Some v → value_at p input place ≡ Some v
+
+-- the slots of a join by what is known stand for its own
+parts_stand : (p : Program) (input : List ℤ) (known : Known) (place : List ℕ) (slots : List Slot) → IsKnownOf p input known → PartsStand (program_meaning p input) place (map part_of slots) (map part_of (resumed_slots known place slots))
+parts_stand p input known place [] right = tt
+parts_stand p input known place (Filled v ∷ slots) right = (refl, parts_stand p input known place slots right)
+parts_stand p input known place (Awaits kid ∷ slots) right = by_value (known (kid.hole ∷ place)) (right (kid.hole ∷ place)) (parts_stand p input known place slots right)
+  where
+    by_value : (o : Option ℤ) → ((v : ℤ) → o ≡ Some v → value_at p input (kid.hole ∷ place) ≡ Some v) → PartsStand (program_meaning p input) place (map part_of slots) (map part_of (resumed_slots known place slots)) → PartsStand (program_meaning p input) place (map part_of (Awaits kid ∷ slots)) (map part_of (slot_by kid o ∷ resumed_slots known place slots))
+    by_value None is rest = (refl, rest)
+    by_value (Some v) is rest = (is v refl, rest)
 
 -- a ready frame of a content that is shown, and the numbers in its slots
 pub record Turning (t : Tables) (c : Content) (f : Frame) (numbers : List ℤ) : Type 0 where
@@ -115,12 +133,15 @@ module _ (p : Program) (input : List ℤ) (v : View) (i : ℕ) (g : Grant) (s : 
       moved (program_meaning p input) v i g s c (arrives f.returns x rest).after (arrives f.returns x rest).fill (grants_of_records (arrives f.returns x rest).dropped) came.content live is.shows came.shown (arrives_parent f.returns x rest) (arrives_task f.returns x rest) (sends f.number x (gives_number x gives) came.comes) came.settles
 
   -- it joins, and there is a place below its own
-  join_moves : (u : ℕ) (slots : List Slot) → turn_of p f.thread numbers ≡ Some (Joins u slots) → length f.place < 1024 → IsMove (program_meaning p input) v i g s (replaced f.number (joined f u slots c.next) c).after None []
-  join_moves u slots end short =
+  join_moves : (known : Known) (u : ℕ) (slots : List Slot) → IsKnownOf p input known → turn_of p f.thread numbers ≡ Some (Joins u slots) → length f.place < 1024 → IsMove (program_meaning p input) v i g s (replaced f.number (joined f u (resumed_slots known f.place slots) c.next) c).after None []
+  join_moves known u slots right end short =
       let place = (is.shows.frames f.number f is.there).place in
-      let d = joined_tables s.content f u slots place less active above bare in
-      moved (program_meaning p input) v i g s c (replaced f.number (joined f u slots c.next) c).after None [] d live is.shows shown refl refl (joins f.number u (map part_of slots) (takes_turn (Joins u slots) end) (rw place short) (join_is s.content f u slots place less active above bare) refl) (settles_none s.content d)
+      let d = joined_tables s.content f u xs place less active above bare in
+      moved (program_meaning p input) v i g s c (replaced f.number (joined f u xs c.next) c).after None [] d live is.shows shown refl refl (joins f.number u (map part_of slots) (map part_of xs) (takes_turn (Joins u slots) end) (rw place (parts_stand p input known f.place slots right)) (rw place short) (join_is s.content f u xs place less active above bare) refl) (settles_none s.content d)
     where
+      xs : List Slot
+      xs = resumed_slots known f.place slots
+
       less : f.number < s.content.next
       less = rw is.shows.next (all_found name_of_frame (λ (x : Frame). x.number < c.next) (f.number, 0) f c.frames is.kept.sound.below is.there)
 
@@ -130,11 +151,11 @@ module _ (p : Program) (input : List ℤ) (v : View) (i : ℕ) (g : Grant) (s : 
       bare : (k : ℕ) → s.content.returns k ≡ None → ShowsNothing s.content k
       bare k none = returns_bare s.content c is.kept is.shows k none
 
-      shown : Shows (with_made (cleared s.content f.number) (joined f u slots s.content.next) (s.content.next + length (joined f u slots s.content.next))) (replaced f.number (joined f u slots c.next) c).after
+      shown : Shows (with_made (cleared s.content f.number) (joined f u xs s.content.next) (s.content.next + length (joined f u xs s.content.next))) (replaced f.number (joined f u xs c.next) c).after
       shown = subst
-          (λ (k : ℕ). Shows (with_made (cleared s.content f.number) (joined f u slots k) (k + length (joined f u slots k))) (replaced f.number (joined f u slots c.next) c).after)
+          (λ (k : ℕ). Shows (with_made (cleared s.content f.number) (joined f u xs k) (k + length (joined f u xs k))) (replaced f.number (joined f u xs c.next) c).after)
           (sym is.shows.next)
-          (made_shown (cleared s.content f.number) rest (joined f u slots c.next) (c.next + length (joined f u slots c.next)) (frame_cleared s.content c f is.shows is.there) (all_filtered (λ x. x.number < c.next) _ c.frames is.kept.sound.below) is.kept.sound.stolen_below (joined_numbered f u slots c.next))
+          (made_shown (cleared s.content f.number) rest (joined f u xs c.next) (c.next + length (joined f u xs c.next)) (frame_cleared s.content c f is.shows is.there) (all_filtered (λ x. x.number < c.next) _ c.frames is.kept.sound.below) is.kept.sound.stolen_below (joined_numbered f u xs c.next))
 
   -- it joins at the last place
   deep_moves : (u : ℕ) (slots : List Slot) → turn_of p f.thread numbers ≡ Some (Joins u slots) → 1024 ≤ length f.place → IsMove (program_meaning p input) v i g s (ends TooDeep c).after None (grants_of_records c.records)
@@ -142,19 +163,19 @@ module _ (p : Program) (input : List ℤ) (v : View) (i : ℕ) (g : Grant) (s : 
       let place = (is.shows.frames f.number f is.there).place in
       moved (program_meaning p input) v i g s c (ends TooDeep c).after None (grants_of_records c.records) (ended s.content None) live is.shows (end_shown s.content c TooDeep is.shows) refl refl (is_deep f.number u (map part_of slots) (takes_turn (Joins u slots) end) (rw place long) (all_ends s.content None)) (all_settled s.content c None is.kept is.shows)
 
-  -- whatever the end of its turn
-  pub turn_moves : (turn : Turn) → turn_of p f.thread numbers ≡ Some turn → IsMove (program_meaning p input) v i g s (turned f turn c).after (turned f turn c).fill (grants_of_records (turned f turn c).dropped)
-  turn_moves (Sends x) end = given_moves x (sent_is_given p (room f.place) f.thread numbers x end)
-  turn_moves (Joins u slots) end = by_depth (nat_lt (length f.place) 1024) refl
+  -- whatever the end of its turn, by what is known of kids' values
+  pub turn_moves : (known : Known) (turn : Turn) → IsKnownOf p input known → turn_of p f.thread numbers ≡ Some turn → IsMove (program_meaning p input) v i g s (turned f (resumed known f.place turn) c).after (turned f (resumed known f.place turn) c).fill (grants_of_records (turned f (resumed known f.place turn) c).dropped)
+  turn_moves known (Sends x) right end = given_moves x (sent_is_given p (room f.place) f.thread numbers x end)
+  turn_moves known (Joins u slots) right end = by_depth (nat_lt (length f.place) 1024) refl
     where
-      by_depth : (b : Bool) → nat_lt (length f.place) 1024 ≡ b → (let change = if b then replaced f.number (joined f u slots c.next) c else ends TooDeep c in IsMove (program_meaning p input) v i g s change.after change.fill (grants_of_records change.dropped))
-      by_depth true short = join_moves u slots end (ltb-true (length f.place) 1024 short)
+      by_depth : (b : Bool) → nat_lt (length f.place) 1024 ≡ b → (let change = if b then replaced f.number (joined f u (resumed_slots known f.place slots) c.next) c else ends TooDeep c in IsMove (program_meaning p input) v i g s change.after change.fill (grants_of_records change.dropped))
+      by_depth true short = join_moves known u slots right end (ltb-true (length f.place) 1024 short)
       by_depth false long = deep_moves u slots end (ltb-false (length f.place) 1024 long)
 
   -- whatever the end that it comes to
-  pub ended_moves : (turn : Turn) → Comes p f.place f.thread numbers turn → IsMove (program_meaning p input) v i g s (turned f turn c).after (turned f turn c).fill (grants_of_records (turned f turn c).dropped)
-  ended_moves (Sends x) end = given_moves x end
-  ended_moves (Joins u slots) end = turn_moves (Joins u slots) end
+  pub ended_moves : (known : Known) (turn : Turn) → IsKnownOf p input known → Comes p f.place f.thread numbers turn → IsMove (program_meaning p input) v i g s (turned f (resumed known f.place turn) c).after (turned f (resumed known f.place turn) c).fill (grants_of_records (turned f (resumed known f.place turn) c).dropped)
+  ended_moves known (Sends x) right end = given_moves x end
+  ended_moves known (Joins u slots) right end = turn_moves known (Joins u slots) right end
 
 -- an outcome comes for a record
 module _ (m : Meaning) (v : View) (i : ℕ) (g : Grant) (s : Sub) (c : Content) (r : Record) (live : Live v i g s) (kept : IsKept c) (shows : Shows s.content c) (there : record_in r.grant c.records ≡ Some r) where

@@ -5,6 +5,7 @@ use Rattle.body_eval.specs.Done.{DoneOf}
 use Rattle.codec.specs.declared.body.Roster.{Roster}
 use Rattle.serial_meaning.specs.Job.{JobOf}
 use Rattle.sub_rules.specs.Carrying.{exec_content as carry}
+use Rattle.sub_rules.specs.Resuming.{nothing_known}
 use Rattle.sub_rules.specs.declared.change.ContentChange.{ContentChange}
 use Rattle.sub_rules.specs.declared.change.SubError.{SubError}
 use Rattle.subcomputation.specs.Subs.{SubOf, sub_in}
@@ -32,13 +33,13 @@ at_sub : (job : JobOf) (d : DoneOf) (g : Grant) (f : ℕ) (n : NodeOf) (s : SubO
 at_sub job d g f n s c (Ok change) is = let equal : changed s change ≡ c = cc in ap (λ k. Does (changes_of job k n)) equal
 at_sub job d g f n s c (Err e) is = cc
 
-pub found : (job : JobOf) (d : DoneOf) (g : Grant) (f : ℕ) (n : NodeOf) (s : SubOf) (a : Answer) → sub_in g n.subs ≡ Some s → calls.changed job s n (carry d f s.content) ≡ a → by_option (sub_in g n.subs) (Refused error.Stale) (λ t. calls.changed job t n (carry d f t.content)) ≡ a
+pub found : (job : JobOf) (d : DoneOf) (g : Grant) (f : ℕ) (n : NodeOf) (s : SubOf) (a : Answer) → sub_in g n.subs ≡ Some s → calls.changed job s n (carry nothing_known d f s.content) ≡ a → by_option (sub_in g n.subs) (Refused error.Stale) (λ t. calls.changed job t n (carry nothing_known d f t.content)) ≡ a
 unfolding by_option
 found job d g f n s a there is = rw there is
 
-pub exec_known : (job : JobOf) (d : DoneOf) (g : Grant) (f : ℕ) (n : NodeOf) (s : SubOf) (c : SubChange) → IsMember n.state → sub_in g n.subs ≡ Some s → carried_out s (carry d f s.content) ≡ Ok c → calls.exec job d g f n ≡ Does (changes_of job c n)
+pub exec_known : (job : JobOf) (d : DoneOf) (g : Grant) (f : ℕ) (n : NodeOf) (s : SubOf) (c : SubChange) → IsMember n.state → sub_in g n.subs ≡ Some s → carried_out s (carry nothing_known d f s.content) ≡ Ok c → calls.exec job d g f n ≡ Does (changes_of job c n)
 unfolding calls.exec
-exec_known job d g f n s c member there is = joined n.state _ _ (Refused error.NotJoined) (Does (changes_of job c n)) member (λ r. found job d g f n s (Does (changes_of job c n)) there (at_sub job d g f n s c (carry d f s.content) is))
+exec_known job d g f n s c member there is = joined n.state _ _ (Refused error.NotJoined) (Does (changes_of job c n)) member (λ r. found job d g f n s (Does (changes_of job c n)) there (at_sub job d g f n s c (carry nothing_known d f s.content) is))
 
 -- what is answered with nothing sent before
 pub meets_alone : (s : StepOf) (result : Result Step NodeError) (old new : NodeOn) → MeetsBehind [] s result old new → Meets (Does s) result old new

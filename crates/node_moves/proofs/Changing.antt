@@ -12,6 +12,7 @@ use Rattle.codec.specs.Table.{PacketOf}
 use Rattle.codec.specs.declared.body.Roster.{Roster}
 use Rattle.serial_meaning.specs.Job.{JobOf}
 use Rattle.sub_rules.specs.Carrying.{exec_content as carried_out}
+use Rattle.sub_rules.specs.Resuming.{nothing_known, resumed}
 use Rattle.sub_rules.specs.declared.change.ContentChange.{ContentChange}
 use Rattle.sub_rules.specs.declared.change.Filling.{Filling}
 use Rattle.sub_rules.specs.declared.change.SubError.{SubError}
@@ -119,30 +120,30 @@ EndsRight job n g f d = (s : SubOf) (x : Frame) → sub_in g n.subs ≡ Some s �
 
 -- a frame is carried out by an end that it comes to
 module _ (job : JobOf) (v : View) (n : NodeOf) (r : Roster) (run : Run (program_meaning job.program job.input) v) (is : n.state ≡ Member r) (shown : NodeShown v n) where
-  turned_shown : (d : DoneOf) (s : SubOf) (f : ℕ) (c : ContentChange) → ((x : Frame) → frame_in f s.content.frames ≡ Some x → Comes job.program x.place d.thread d.numbers d.turn) → sub_in s.grant n.subs ≡ Some s → carried_out d f s.content ≡ Ok c → StepShown (program_meaning job.program job.input) job.number v n (changes job s c n)
+  turned_shown : (d : DoneOf) (s : SubOf) (f : ℕ) (c : ContentChange) → ((x : Frame) → frame_in f s.content.frames ≡ Some x → Comes job.program x.place d.thread d.numbers d.turn) → sub_in s.grant n.subs ≡ Some s → carried_out nothing_known d f s.content ≡ Ok c → StepShown (program_meaning job.program job.input) job.number v n (changes job s c n)
   turned_shown d s f c end there ok =
       let h = member_shown v n r is shown in
       let held : HeldAt (v.subs n.incarnation s.grant) s = held_at (v.subs n.incarnation s.grant) (sub_in s.grant n.subs) s (h.parts.subs s.grant) there in
       let live : Live v n.incarnation s.grant held.sub = record { member = h.mode; holds = held.is } in
-      let x : IsCarried d f s.content c = carried d f s.content c ok in
+      let x : IsCarried nothing_known d f s.content c = carried nothing_known d f s.content c ok in
       let turn : Comes job.program x.frame.place x.frame.thread d.numbers d.turn = rw x.thread (end x.frame x.at) in
-      let move : IsMove (program_meaning job.program job.input) v n.incarnation s.grant held.sub c.after c.fill (grants_of_records c.dropped) = rw (← x.is) (ended_moves job.program job.input v n.incarnation s.grant held.sub s.content x.frame d.numbers live (record { kept = held.shown.kept; shows = held.shown.content; there = x.there; full = x.full }) d.turn turn) in
-      let kept : IsKept c.after = rw (← x.is) (turn_kept s.content x.frame d.numbers held.shown.kept x.there x.full d.turn) in
+      let move : IsMove (program_meaning job.program job.input) v n.incarnation s.grant held.sub c.after c.fill (grants_of_records c.dropped) = rw (← x.is) (ended_moves job.program job.input v n.incarnation s.grant held.sub s.content x.frame d.numbers live (record { kept = held.shown.kept; shows = held.shown.content; there = x.there; full = x.full }) nothing_known d.turn (λ place y known. cc) turn) in
+      let kept : IsKept c.after = rw (← x.is) (turn_kept s.content x.frame d.numbers held.shown.kept x.there x.full (resumed nothing_known x.frame.place d.turn)) in
       changes_shown (program_meaning job.program job.input) job v n run shown h.parts s c (grants_of_records c.dropped) held move kept (λ g y. y)
 
-  pub exec_member_shown : (d : DoneOf) (g : Grant) (f : ℕ) → EndsRight job n g f d → AnswerShown (program_meaning job.program job.input) job.number v n (by_option (sub_in g n.subs) (Refused error.Stale) (λ s. calls.changed job s n (carried_out d f s.content)))
+  pub exec_member_shown : (d : DoneOf) (g : Grant) (f : ℕ) → EndsRight job n g f d → AnswerShown (program_meaning job.program job.input) job.number v n (by_option (sub_in g n.subs) (Refused error.Stale) (λ s. calls.changed job s n (carried_out nothing_known d f s.content)))
   unfolding by_option
   exec_member_shown d g f end = by_sub (sub_in g n.subs) refl
     where
-      by_change : (s : SubOf) → ((x : Frame) → frame_in f s.content.frames ≡ Some x → Comes job.program x.place d.thread d.numbers d.turn) → sub_in s.grant n.subs ≡ Some s → (o : Result ContentChange SubError) → carried_out d f s.content ≡ o → AnswerShown (program_meaning job.program job.input) job.number v n (calls.changed job s n o)
+      by_change : (s : SubOf) → ((x : Frame) → frame_in f s.content.frames ≡ Some x → Comes job.program x.place d.thread d.numbers d.turn) → sub_in s.grant n.subs ≡ Some s → (o : Result ContentChange SubError) → carried_out nothing_known d f s.content ≡ o → AnswerShown (program_meaning job.program job.input) job.number v n (calls.changed job s n o)
       by_change s ends there (Ok c) ok = turned_shown d s f c ends there ok
       by_change s ends there (Err sub.Stale) e = tt
       by_change s ends there (Err sub.Spent) e = tt
       by_change s ends there (Err sub.Memory) e = tt
 
-      by_sub : (o : Option SubOf) → sub_in g n.subs ≡ o → AnswerShown (program_meaning job.program job.input) job.number v n (by_option o (Refused error.Stale) (λ s. calls.changed job s n (carried_out d f s.content)))
+      by_sub : (o : Option SubOf) → sub_in g n.subs ≡ o → AnswerShown (program_meaning job.program job.input) job.number v n (by_option o (Refused error.Stale) (λ s. calls.changed job s n (carried_out nothing_known d f s.content)))
       by_sub None none = tt
-      by_sub (Some s) there = by_change s (λ x at. end s x there at) (rw (own_sub g s n.subs there) at there) (carried_out d f s.content) refl
+      by_sub (Some s) there = by_change s (λ x at. end s x there at) (rw (own_sub g s n.subs there) at there) (carried_out nothing_known d f s.content) refl
 
 -- a ready frame that sends its whole value comes to that
 pub whole_ends : (job : JobOf) (n : NodeOf) (g : Grant) (f : ℕ) (x : ReadyFrame) (v : ℤ) → ReadyThere n.subs g f x → whole_value job.program x.ready ≡ Some v → EndsRight job n g f (sends_it job.program x.ready v)
@@ -158,7 +159,7 @@ module _ (job : JobOf) (v : View) (n : NodeOf) (run : Run (program_meaning job.p
   unfolding calls.exec by_state
   ended_shown d g f end = by_where n.state refl
     where
-      by_where : (x : State) → n.state ≡ x → AnswerShown (program_meaning job.program job.input) job.number v n (by_state x (Refused error.NotJoined) (λ y. by_option (sub_in g n.subs) (Refused error.Stale) (λ s. calls.changed job s n (carried_out d f s.content))) (λ y heir. Refused error.Stale) (Refused error.NotJoined))
+      by_where : (x : State) → n.state ≡ x → AnswerShown (program_meaning job.program job.input) job.number v n (by_state x (Refused error.NotJoined) (λ y. by_option (sub_in g n.subs) (Refused error.Stale) (λ s. calls.changed job s n (carried_out nothing_known d f s.content))) (λ y heir. Refused error.Stale) (Refused error.NotJoined))
       by_where Joining e = tt
       by_where (Member y) e = exec_member_shown job v n y run e shown d g f end
       by_where (Leaving y heir) e = tt

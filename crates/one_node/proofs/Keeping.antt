@@ -1,5 +1,5 @@
 -- What a turn keeps of a run that goes on.
-use Rattle.std.proofs.Common.{◌≡◌, ℕ, ℤ, ◌+◌, Bool, true, false, cond, not, nat_lt, List, [], ◌∷◌, map, length, Option, Some, None, IsSome, Ok, Err, refl, sym, add-one, ap, ◌∙◌}
+use Rattle.std.proofs.Common.{◌≡◌, ℕ, ℤ, ◌+◌, Bool, true, false, cond, not, nat_lt, List, [], ◌∷◌, map, length, Option, Some, None, IsSome, Ok, Err, refl, sym, subst, add-one, ap, ◌∙◌}
 use Rattle.std.specs.List.{filter}
 use Rattle.std.proofs.lemmas.List.Kept.{IsStrictlySortedBy-filter}
 use Rattle.std.specs.Ordering.{eq_by_cmp}
@@ -27,13 +27,15 @@ use Rattle.sub_rules.specs.declared.change.ContentChange.{ContentChange}
 use Rattle.sub_rules.specs.declared.change.SubError.TheVariants.{Spent}
 use Rattle.sub_rules.specs.declared.content.Content.{Content}
 use Rattle.sub_rules.specs.Carrying.{exec_content}
+use Rattle.sub_rules.specs.Resuming.{Known, nothing_known, resumed}
+use Rattle.sub_rules.proofs.KnownJoins.{nothing_changes}
 use Rattle.sub_rules.specs.Changes.{arrives, ends, filled_in, joined, replaced, turned}
 use Rattle.sub_rules.specs.Debts.{IsSound}
 use Rattle.sub_rules.specs.Leaving.{LacksDebtor}
 use Rattle.sub_rules.proofs.Arrivals.{awaited}
 use Rattle.sub_rules.proofs.Departures.{frame_leaves, frame_number}
 use Rattle.sub_rules.proofs.Slots.{numbers_full}
-use Rattle.agreement.specs.Agreement.{ContentAgrees}
+use Rattle.agreement.specs.Agreement.{ContentAgrees, KnownAgrees}
 use Rattle.one_node.specs.declared.fault.RunFault.{RunFault}
 use Rattle.one_node.specs.declared.fault.RunFault.TheVariants.{TurnsSpent, NumbersSpent, Memory}
 use Rattle.one_node.specs.Runs.{RunOf, after, one_turn, own_grant, posted_readied, with_change}
@@ -114,6 +116,14 @@ still_posted f (Joins s slots) c posts sound order there full active are = by_te
 abbrev pub KeepsAgreement : JobOf → Type 0
 KeepsAgreement job = (c : Content) (f : Frame) (numbers : List ℤ) (turn : Turn) → IsAccepted job.program → IsSound c → AreInOrder name_of_frame c.frames → ContentAgrees job c → frame_in f.number c.frames ≡ Some f → numbers_in f.slots ≡ Some numbers → turn_of job.program f.thread numbers ≡ Some turn → ContentAgrees job (turned f turn c).after
 
+abbrev pub KnownKeeps : JobOf → Type 0
+KnownKeeps job = (known : Known) (c : Content) (f : Frame) (numbers : List ℤ) (turn : Turn) → IsAccepted job.program → KnownAgrees job known → IsSound c → AreInOrder name_of_frame c.frames → ContentAgrees job c → frame_in f.number c.frames ≡ Some f → numbers_in f.slots ≡ Some numbers → turn_of job.program f.thread numbers ≡ Some turn → ContentAgrees job (turned f (resumed known f.place turn) c).after
+
+-- also where nothing is known
+pub by_nothing : (job : JobOf) → KnownKeeps job → KeepsAgreement job
+by_nothing job law c f numbers turn accepted sound order agrees there full reached =
+    subst (λ t. ContentAgrees job (turned f t c).after) (nothing_changes f.place turn) (law nothing_known c f numbers turn accepted (λ place v is. absurd cc) sound order agrees there full reached)
+
 -- the run after the turn of a frame
 follows : (job : JobOf) (run : RunOf) (n : ℕ) (f : Frame) (numbers : List ℤ) (t : Turn) → KeepsAgreement job → Holds job run → frame_in n run.content.frames ≡ Some f → numbers_in f.slots ≡ Some numbers → turn_of job.program f.thread numbers ≡ Some t → IsSound (turned f t run.content).after → AreInOrder name_of_frame (turned f t run.content).after.frames → Follows job (with_change n (turned f t run.content) run)
 follows job run n f numbers t law holds there full reached sound order = record {
@@ -144,26 +154,26 @@ follows job run n f numbers t law holds there full reached sound order = record 
     rooted = ap (λ (task : Task). task.place) (stays f t run.content).task ∙ holds.rooted
 
 -- a frame that was carried out is a turn of the run
-pub turn_taken : (job : JobOf) (run : RunOf) (post : Post) (d : DoneOf) (t : IsTurnOf run.content post.frame d) (change : ContentChange) → deepest run.posts ≡ Some post → d.program ≡ job.program → exec_content d post.frame run.content ≡ Ok change → one_turn job.program run ≡ Some (with_change post.frame change run)
+pub turn_taken : (job : JobOf) (run : RunOf) (post : Post) (d : DoneOf) (t : IsTurnOf run.content post.frame d) (change : ContentChange) → deepest run.posts ≡ Some post → d.program ≡ job.program → exec_content nothing_known d post.frame run.content ≡ Ok change → one_turn job.program run ≡ Some (with_change post.frame change run)
 turn_taken job run post d t change first program done =
     let same : turned t.frame d.turn run.content ≡ change = within_is (turned t.frame d.turn run.content) change (sym (carried_is run.content post.frame d t) ∙ done) in
     turn_is job run post t.frame d.numbers d.turn first t.there t.full (rw (program, t.thread) at t.evaluated.reached)
     ∙ ap (λ (x : ContentChange). Some (with_change post.frame x run)) same
 
-pub turn_follows : (job : JobOf) (run : RunOf) (post : Post) (d : DoneOf) (t : IsTurnOf run.content post.frame d) (change : ContentChange) → KeepsAgreement job → Holds job run → d.program ≡ job.program → exec_content d post.frame run.content ≡ Ok change → IsSound change.after → AreInOrder name_of_frame change.after.frames → Follows job (with_change post.frame change run)
+pub turn_follows : (job : JobOf) (run : RunOf) (post : Post) (d : DoneOf) (t : IsTurnOf run.content post.frame d) (change : ContentChange) → KeepsAgreement job → Holds job run → d.program ≡ job.program → exec_content nothing_known d post.frame run.content ≡ Ok change → IsSound change.after → AreInOrder name_of_frame change.after.frames → Follows job (with_change post.frame change run)
 turn_follows job run post d t change law holds program done sound order =
     let same : turned t.frame d.turn run.content ≡ change = within_is (turned t.frame d.turn run.content) change (sym (carried_is run.content post.frame d t) ∙ done) in
     rw same at (follows job run post.frame t.frame d.numbers d.turn law holds t.there t.full (rw (program, t.thread) at t.evaluated.reached) (rw same sound) (rw same order))
 
 -- a frame that isn't carried out since numbers run out
-pub turn_spent : (job : JobOf) (run : RunOf) (post : Post) (d : DoneOf) (t : IsTurnOf run.content post.frame d) → deepest run.posts ≡ Some post → d.program ≡ job.program → exec_content d post.frame run.content ≡ Err Spent → IsSpent job run
+pub turn_spent : (job : JobOf) (run : RunOf) (post : Post) (d : DoneOf) (t : IsTurnOf run.content post.frame d) → deepest run.posts ≡ Some post → d.program ≡ job.program → exec_content nothing_known d post.frame run.content ≡ Err Spent → IsSpent job run
 turn_spent job run post d t first program refused = record {
   next = with_change post.frame (turned t.frame d.turn run.content) run;
   turn = turn_is job run post t.frame d.numbers d.turn first t.there t.full (rw (program, t.thread) at t.evaluated.reached);
   spent = spent_is (turned t.frame d.turn run.content) (sym (carried_is run.content post.frame d t) ∙ refused);
 }
 
-pub turn_fails : (job : JobOf) (run : RunOf) (post : Post) (d : DoneOf) (t : IsTurnOf run.content post.frame d) (e : RunFault) → deepest run.posts ≡ Some post → d.program ≡ job.program → (after : Content) → IsCarried (exec_content d post.frame run.content) after (Err e) → TurnFails job run e
+pub turn_fails : (job : JobOf) (run : RunOf) (post : Post) (d : DoneOf) (t : IsTurnOf run.content post.frame d) (e : RunFault) → deepest run.posts ≡ Some post → d.program ≡ job.program → (after : Content) → IsCarried (exec_content nothing_known d post.frame run.content) after (Err e) → TurnFails job run e
 turn_fails job run post d t TurnsSpent first program after refused = refused
 turn_fails job run post d t NumbersSpent first program after refused = turn_spent job run post d t first program refused
 turn_fails job run post d t Memory first program after refused = tt

@@ -19,9 +19,11 @@ use Rattle.sub_rules.specs.declared.change.ContentChange.{ContentChange}
 use Rattle.sub_rules.specs.declared.change.SubError.TheVariants.{Spent, Stale}
 use Rattle.sub_rules.specs.declared.content.Content.{Content}
 use Rattle.sub_rules.specs.Carrying.{exec_content, executed, holds_numbers, is_turn_of, within_numbers}
+use Rattle.sub_rules.specs.Resuming.{nothing_known, resumed}
 use Rattle.sub_rules.specs.Changes.{turned}
 use Rattle.sub_rules.specs.Content.{Ready, is_ready, ready, ready_in}
 use Rattle.sub_rules.specs.Debts.{one_if}
+use Rattle.sub_rules.proofs.KnownJoins.{nothing_changes}
 use Rattle.sub_rules.proofs.Contents.{has_ready, test_ready}
 use Rattle.sub_rules.proofs.Departures.{frame_number}
 use Rattle.sub_rules.proofs.Slots.{full_numbers}
@@ -46,10 +48,11 @@ holds_same (Some v ∷ slots) numbers full = by_rest (λ vs is. holds_same slots
         ap (holds_numbers (Some v ∷ slots)) (sym same) ∙ rw ((Decides-int_eq v v).1 refl, rest vs is) refl
 
 -- a turn of a frame carries it out
-pub carried_is : (c : Content) (n : ℕ) (d : DoneOf) (t : IsTurnOf c n d) → exec_content d n c ≡ within_numbers (turned t.frame d.turn c)
+pub carried_is : (c : Content) (n : ℕ) (d : DoneOf) (t : IsTurnOf c n d) → exec_content nothing_known d n c ≡ within_numbers (turned t.frame d.turn c)
 carried_is c n d t =
     let is : is_turn_of d t.frame ≡ true = rw (eq-eqb t.frame.thread d.thread (sym t.thread), holds_same t.frame.slots d.numbers t.full) refl in
-    ap (executed d c) t.there ∙ ap (λ b. cond b (within_numbers (turned t.frame d.turn c)) (Err Stale)) is
+    ap (executed nothing_known d c) t.there ∙ ap (λ b. cond b (within_numbers (turned t.frame (resumed nothing_known t.frame.place d.turn) c)) (Err Stale)) is
+    ∙ ap (λ u. within_numbers (turned t.frame u c)) (nothing_changes t.frame.place d.turn)
 
 -- so it isn't refused as stale
 pub never_stale : (change : ContentChange) → within_numbers change ≡ Err Stale → ⊥

@@ -1,5 +1,6 @@
 ghost use Rattle.std.specs.Prelude.{◌≡◌, IfErr, IfOk, OnOk, Some};
 ghost use Rattle.sub_rules.specs.Carrying.{exec_content};
+ghost use Rattle.sub_rules.specs.Resuming.{nothing_known};
 ghost use Rattle.sub_rules.specs.Debts.{IsSound};
 ghost use Rattle.one_node.specs.Runs.{one_turn, posted_readied, run_of};
 ghost use Rattle.one_node.specs.Holding.{Follows, Holds, IsCarried, IsFrame, IsTurnOf, TurnFails};
@@ -12,7 +13,9 @@ use ids::FrameNo;
 use level_deques::Posts;
 use serial_meaning::{CountsTurns, Job};
 use std::alloc::{AllocError, Global};
-use sub_rules::{Content, Prepared, Readied, ReadyList, SubError, numbers_in, prepare_exec};
+use sub_rules::{
+    Content, NothingKnown, Prepared, Readied, ReadyList, SubError, numbers_in, prepare_exec,
+};
 
 /// One turn of a run that goes on, where it stands: the newest ready frame of the greatest level runs, and is counted.
 pub fn turn<C: CountsTurns>(
@@ -63,10 +66,10 @@ fn carry_out(
 ) -> Result<ReadyList, RunFault>
     requires sound { IsSound content.old }
     requires turn { IsTurnOf content.old frame done.now }
-    ensures answer { IsCarried (exec_content done.now frame content.old) content.new result }
+    ensures answer { IsCarried (exec_content nothing_known done.now frame content.old) content.new result }
     ensures sound { OnOk result (IsSound content.new) }
 {
-    let prepared = match prepare_exec(alloc, content, frame, done) {
+    let prepared = match prepare_exec(alloc, content, frame, done, &NothingKnown) {
         Ok(prepared) => prepared,
         Err(SubError::Spent) => return Err(RunFault::NumbersSpent),
         Err(SubError::Memory) => return Err(RunFault::Memory),

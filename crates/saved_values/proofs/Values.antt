@@ -145,7 +145,7 @@ all_take P zero saved all = tt
 all_take P (suc n) [] all = tt
 all_take P (suc n) (y ∷ saved) all = (all.0, all_take P n saved all.1)
 
-rise_take : (n : ℕ) (saved : List SavedValue) → Rise saved → Rise (take n saved)
+pub rise_take : (n : ℕ) (saved : List SavedValue) → Rise saved → Rise (take n saved)
 unfolding IsStrictlySortedBy
 rise_take zero saved rise = tt
 rise_take (suc n) [] rise = tt

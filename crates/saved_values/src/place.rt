@@ -1,4 +1,4 @@
-ghost use Rattle.std.specs.Prelude.{◌≡◌, ◌≤◌, ◌<◌, ◌∷◌, [], length, reverse, Some, None, true, if◌then◌else◌};
+ghost use Rattle.std.specs.Prelude.{◌≡◌, ◌≤◌, ◌<◌, ◌∷◌, [], IsTrue, length, reverse, Some, None, true, if◌then◌else◌};
 ghost use Rattle.std.specs.Ordering.{eq_by_cmp};
 ghost use Rattle.saved_values.specs.Places.{is_saved_place, is_under, place_cmp, stripped};
 
@@ -84,6 +84,7 @@ impl SavedPlace {
     pub fn steps(&self) -> &[u8]
         ensures steps { result.now ≡ reverse self.now }
         ensures few { length result.now ≤ 23 }
+        ensures kid { IsTrue (is_saved_place self.now) }
     {
         &self.steps[..usize::from(self.len)]
     }

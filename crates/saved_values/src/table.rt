@@ -1,4 +1,4 @@
-ghost use Rattle.std.specs.Prelude.{◌≡◌, ◌∷◌, ℕ, [], List, false, true, is_some, length, IfNone, IfOk, IfSome};
+ghost use Rattle.std.specs.Prelude.{◌≡◌, ◌∷◌, ◌++◌, ℕ, [], List, false, true, is_some, length, IfNone, IfOk, IfSome};
 ghost use Rattle.std.specs.declared.cmp.Ordering.TheVariants.{Equal};
 ghost use Rattle.std.specs.Cmp.{IsTotalOrder};
 ghost use Rattle.saved_values.specs.Places.{place_cmp};
@@ -84,6 +84,26 @@ impl SavedTable {
         values[at] = value;
         self.count = end as u8 + 1;
         true
+    }
+
+    /// Puts one more behind all others, and tells whether it is taken. It isn't, and nothing changes, where 64 are there, or where its
+    /// place doesn't stand behind that of the last one.
+    pub fn append(&mut self, value: SavedValue) -> bool
+        ensures taken { result ≡ true → self.new ≡ self.old ++ value ∷ [] }
+        ensures refused { result ≡ false → (IsSavedList (self.old ++ value ∷ []) → ⊥) }
+        ensures unchanged { result ≡ false → self.new ≡ self.old }
+    {
+        let count = usize::from(self.count);
+        if count >= MOST_SAVED {
+            return false;
+        }
+        let Some(at) = position(&self.values[..count], &value.place) else {
+            return false;
+        };
+        if at < count {
+            return false;
+        }
+        self.put(value)
     }
 
     /// The value that is saved of the kid of a hole at a place.

@@ -5,13 +5,14 @@ ghost use Rattle.frames.specs.Frames.{frame_in};
 ghost use Rattle.sub_rules.specs.Carrying as carrying;
 ghost use Rattle.sub_rules.specs.Carrying.{IsAnswerTo, ended, is_stale_of, holds_numbers};
 ghost use Rattle.sub_rules.specs.Debts.{IsSound};
+ghost use Rattle.sub_rules.specs.Resuming.{nothing_known};
 ghost use Rattle.sub_rules.specs.Turning.{TurnFew};
 ghost use Rattle.sub_rules.specs.Updates.{change_by, IsPreparedFor, MayUpdate};
 
 use crate::arriving::prepare_arrival;
 use crate::change::{ContentChange, SubError};
 use crate::content::Content;
-use crate::joining::prepare_join;
+use crate::resuming::{Knows, NothingKnown, prepare_known_join};
 use crate::updates::{Leaver, Prepared};
 use body_eval::{Done, Turn};
 use ids::{Frame, FrameNo};
@@ -29,22 +30,25 @@ pub fn exec(
     done: &Done,
 ) -> Result<ContentChange, SubError>
     requires sound { IsSound content }
-    ensures answer { IsAnswerTo (carrying.exec_content done.now number content) result }
+    ensures answer { IsAnswerTo (carrying.exec_content nothing_known done.now number content) result }
     ensures sound { IfOk result (λ change. IsSound change.after) }
 {
-    let prepared = prepare_exec(alloc, &content, number, done)?;
+    let prepared = prepare_exec(alloc, &content, number, done, &NothingKnown)?;
     Ok(carried_out(alloc, content, prepared)?)
 }
 
-/// Prepares what `exec` does, with what memory it takes, and changes nothing. It is refused where `exec` is.
-pub fn prepare_exec(
+/// Prepares what `exec` does, with what memory it takes, and changes nothing; but a kid whose value is known isn't made, and the slot
+/// that awaits it is given the value. It is refused where `exec` is.
+pub fn prepare_exec<K: Knows>(
     alloc: Global,
     content: &Content,
     number: FrameNo,
     done: &Done,
+    known: &K,
 ) -> Result<Prepared, SubError>
     requires sound { IsSound content.now }
-    ensures { IsPreparedFor content.now (carrying.exec_content done.now number content.now) result }
+    ensures { IsPreparedFor content.now
+        (carrying.exec_content (K.known_of known.now) done.now number content.now) result }
 {
     law_turn_is_few(done);
     prepare_turn(
@@ -54,21 +58,23 @@ pub fn prepare_exec(
         done.thread(),
         done.numbers(),
         done.turn(),
+        known,
     )
 }
 
 /// The same, by the end to which that thread comes on these numbers, whoever found it.
-pub fn prepare_turn(
+pub fn prepare_turn<K: Knows>(
     alloc: Global,
     content: &Content,
     number: FrameNo,
     thread: u8,
     numbers: &[i64],
     turn: &Turn,
+    known: &K,
 ) -> Result<Prepared, SubError>
     requires sound { IsSound content.now }
     requires few { TurnFew turn.now }
-    ensures { (p : Program) → IsPreparedFor content.now (carrying.exec_content
+    ensures { (p : Program) → IsPreparedFor content.now (carrying.exec_content (K.known_of known.now)
         (ended p thread numbers.now turn.now) number content.now) result }
 {
     let Some(frame) = content.frames.get(number) else {
@@ -85,7 +91,7 @@ pub fn prepare_turn(
             Ok(prepare_arrival(alloc, content, leaver, frame.returns, *value)?)
         }
         Turn::Joins(thread, slots) => {
-            prepare_join(alloc, content, frame, *thread, slots.as_slice())
+            prepare_known_join(alloc, content, frame, *thread, slots.as_slice(), known)
         }
     }
 }

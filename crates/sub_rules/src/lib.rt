@@ -10,6 +10,7 @@ mod joining;
 mod laws;
 mod leaving;
 mod readiness;
+mod resuming;
 mod updates;
 
 pub use change::{
@@ -27,4 +28,5 @@ pub use readiness::{
     law_ready_frames_are_listed_once, law_renaming_makes_nothing_ready,
     law_results_tell_what_is_ready, law_turns_tell_what_is_ready,
 };
+pub use resuming::{Knows, NothingKnown};
 pub use updates::{Leaver, Prepared, Replacement, Update};

@@ -13,6 +13,7 @@ use Rattle.body_eval.specs.Done.{DoneOf}
 use Rattle.frames.specs.Frames.{frame_in, without_frame}
 use Rattle.victim_records.specs.Records.{record_in, without_record}
 use Rattle.sub_rules.specs.Carrying.{exec_content, executed, is_turn_of, within_numbers}
+use Rattle.sub_rules.specs.Resuming.{Known, resumed}
 use Rattle.sub_rules.specs.Changes.{arrives, closed, closed_in, ends, filled_in, joined, replaced, turned}
 use Rattle.sub_rules.specs.declared.change.ContentChange.{ContentChange}
 use Rattle.sub_rules.specs.declared.change.SubError.{SubError}
@@ -44,20 +45,20 @@ turned_begun f (Joins t slots) c begun = by_length (nat_lt (length f.place) 1024
     by_length false = begun
 
 -- after a frame is carried out
-pub exec_begun : (c x : Content) (d : DoneOf) (n : ℕ) (change : ContentChange) → x ≡ c → exec_content d n x ≡ Ok change → 0 < c.next → 0 < change.after.next
-exec_begun c x d n change same is begun = by_frame (frame_in n c.frames) (rw same at is)
+pub exec_begun : (known : Known) (c x : Content) (d : DoneOf) (n : ℕ) (change : ContentChange) → x ≡ c → exec_content known d n x ≡ Ok change → 0 < c.next → 0 < change.after.next
+exec_begun known c x d n change same is begun = by_frame (frame_in n c.frames) (rw same at is)
   where
-    by_next : (f : Frame) (b : Bool) → cond {A = Result ContentChange SubError} b (Ok (turned f d.turn c)) (Err Spent) ≡ Ok change → Begun change.after
+    by_next : (f : Frame) (b : Bool) → cond {A = Result ContentChange SubError} b (Ok (turned f (resumed known f.place d.turn) c)) (Err Spent) ≡ Ok change → Begun change.after
     by_next f true at =
-        let equal : turned f d.turn c ≡ change = cc in
-        rw (← equal) (turned_begun f d.turn c begun)
+        let equal : turned f (resumed known f.place d.turn) c ≡ change = cc in
+        rw (← equal) (turned_begun f (resumed known f.place d.turn) c begun)
     by_next f false at = absurd cc
 
-    by_turn : (f : Frame) (b : Bool) → cond {A = Result ContentChange SubError} b (within_numbers (turned f d.turn c)) (Err Stale) ≡ Ok change → Begun change.after
-    by_turn f true at = by_next f (nat_lt (turned f d.turn c).after.next (2 ^ 32)) at
+    by_turn : (f : Frame) (b : Bool) → cond {A = Result ContentChange SubError} b (within_numbers (turned f (resumed known f.place d.turn) c)) (Err Stale) ≡ Ok change → Begun change.after
+    by_turn f true at = by_next f (nat_lt (turned f (resumed known f.place d.turn) c).after.next (2 ^ 32)) at
     by_turn f false at = absurd cc
 
-    by_frame : (o : Option Frame) → executed d c o ≡ Ok change → Begun change.after
+    by_frame : (o : Option Frame) → executed known d c o ≡ Ok change → Begun change.after
     by_frame None at = absurd cc
     by_frame (Some f) at = by_turn f (is_turn_of d f) at
 

@@ -16,7 +16,7 @@ use Rattle.ids.specs.declared.work.Frame.{Frame}
 use Rattle.ids.specs.declared.work.Record.{Record}
 use Rattle.ids.specs.declared.work.Task.{Task}
 use Rattle.task_tree.specs.declared.tree.Program.{Program}
-use Rattle.kind_check.specs.Total.{SlotsFit, Takes, TurnFits, arity_of}
+use Rattle.kind_check.specs.Total.{SlotFits, SlotsFit, Takes, TurnFits, arity_of}
 use Rattle.kind_check.specs.declared.turn.Slot.{Slot}
 use Rattle.kind_check.specs.declared.turn.Slot.TheVariants.{Filled, Awaits}
 use Rattle.kind_check.specs.declared.turn.Turn.{Turn}
@@ -26,6 +26,7 @@ use Rattle.frames.specs.Frames.{frame_in, with_slot, without_frame}
 use Rattle.victim_records.specs.Records.{record_in, with_holder, without_record}
 use Rattle.sub_rules.specs.Carrying.{exec_content, executed, is_turn_of, within_numbers}
 use Rattle.sub_rules.specs.Changes.{arrives, closed, closed_in, done_again, ends, filled_in, frame_of, given_away, granted_out, joined, kids, readied, record_of, redone, replaced, turned, with_parent, with_thief}
+use Rattle.sub_rules.specs.Resuming.{Known, slot_by, resumed, resumed_slots}
 use Rattle.sub_rules.specs.Content.{Ready, granted_content, ready, ready_in, task_of}
 use Rattle.sub_rules.specs.declared.change.ContentChange.{ContentChange}
 use Rattle.sub_rules.specs.declared.change.ContentRedo.{ContentRedo}
@@ -163,21 +164,39 @@ granted_fits p g thief r c fits here = record {
   records = all_put name_of_record (RecordFits p) (record_of g thief r) c.records here fits.records;
 }
 
--- what a call leaves fits
-pub exec_fits : (p : Program) (c x : Content) (d : DoneOf) (n : ℕ) (change : ContentChange) → x ≡ c → exec_content d n x ≡ Ok change → Fits p c → TurnFits p d.turn → Fits p change.after
-exec_fits p c x d n change same is fits turn = by_frame (frame_in n c.frames) (rw same at is)
+-- so does a turn where values of kids are known
+resumed_length : (known : Known) (place : List ℕ) (slots : List Slot) → length (resumed_slots known place slots) ≡ length slots
+resumed_length known place [] = refl
+resumed_length known place (slot ∷ slots) = ap suc (resumed_length known place slots)
+
+resumed_slots_fit : (p : Program) (known : Known) (place : List ℕ) (slots : List Slot) → SlotsFit p slots → SlotsFit p (resumed_slots known place slots)
+resumed_slots_fit p known place [] fit = tt
+resumed_slots_fit p known place (Filled v ∷ slots) fit = (tt, resumed_slots_fit p known place slots fit.1)
+resumed_slots_fit p known place (Awaits kid ∷ slots) fit = (by_value (known (kid.hole ∷ place)), resumed_slots_fit p known place slots fit.1)
   where
-    by_next : (f : Frame) (b : Bool) → cond {A = Result ContentChange SubError} b (Ok (turned f d.turn c)) (Err Spent) ≡ Ok change → Fits p change.after
+    by_value : (o : Option ℤ) → SlotFits p (slot_by kid o)
+    by_value None = fit.0
+    by_value (Some v) = tt
+
+resumed_fits : (p : Program) (known : Known) (place : List ℕ) (t : Turn) → TurnFits p t → TurnFits p (resumed known place t)
+resumed_fits p known place (Sends v) fits = tt
+resumed_fits p known place (Joins t slots) fits = (subst (Takes p t) (sym (resumed_length known place slots)) fits.0, resumed_slots_fit p known place slots fits.1)
+
+-- what a call leaves fits
+pub exec_fits : (known : Known) (p : Program) (c x : Content) (d : DoneOf) (n : ℕ) (change : ContentChange) → x ≡ c → exec_content known d n x ≡ Ok change → Fits p c → TurnFits p d.turn → Fits p change.after
+exec_fits known p c x d n change same is fits turn = by_frame (frame_in n c.frames) (rw same at is)
+  where
+    by_next : (f : Frame) (b : Bool) → cond {A = Result ContentChange SubError} b (Ok (turned f (resumed known f.place d.turn) c)) (Err Spent) ≡ Ok change → Fits p change.after
     by_next f true at =
-        let equal : turned f d.turn c ≡ change = cc in
-        rw (← equal) (turned_fits p f d.turn c fits turn)
+        let equal : turned f (resumed known f.place d.turn) c ≡ change = cc in
+        rw (← equal) (turned_fits p f (resumed known f.place d.turn) c fits (resumed_fits p known f.place d.turn turn))
     by_next f false at = absurd cc
 
-    by_turn : (f : Frame) (b : Bool) → cond {A = Result ContentChange SubError} b (within_numbers (turned f d.turn c)) (Err Stale) ≡ Ok change → Fits p change.after
-    by_turn f true at = by_next f (nat_lt (turned f d.turn c).after.next (2 ^ 32)) at
+    by_turn : (f : Frame) (b : Bool) → cond {A = Result ContentChange SubError} b (within_numbers (turned f (resumed known f.place d.turn) c)) (Err Stale) ≡ Ok change → Fits p change.after
+    by_turn f true at = by_next f (nat_lt (turned f (resumed known f.place d.turn) c).after.next (2 ^ 32)) at
     by_turn f false at = absurd cc
 
-    by_frame : (o : Option Frame) → executed d c o ≡ Ok change → Fits p change.after
+    by_frame : (o : Option Frame) → executed known d c o ≡ Ok change → Fits p change.after
     by_frame None at = absurd cc
     by_frame (Some f) at = by_turn f (is_turn_of d f) at
 

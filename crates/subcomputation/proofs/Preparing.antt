@@ -18,6 +18,7 @@ use Rattle.sub_rules.specs.declared.change.SubError.TheVariants.{Stale}
 use Rattle.sub_rules.specs.declared.content.Content.{Content}
 use Rattle.sub_rules.specs.declared.updates.Prepared.{Prepared}
 use Rattle.sub_rules.specs.Carrying.{exec_content, executed}
+use Rattle.sub_rules.specs.Resuming.{Known}
 use Rattle.sub_rules.specs.Changes.{closed_in}
 use Rattle.sub_rules.specs.Debts.{IsSound}
 use Rattle.sub_rules.specs.Readiness.{TellsReady}
@@ -51,24 +52,24 @@ by_change s p change Turned active leads tells begun fits = record {
 }
 
 -- ---- a frame is carried out
-exec_active : (c : Content) (d : DoneOf) (n : ℕ) (change : ContentChange) → IsSound c → exec_content d n c ≡ Ok change → c.progress ≡ Active
-exec_active c d n change sound is = by_frame (frame_in n c.frames) refl is
+exec_active : (known : Known) (c : Content) (d : DoneOf) (n : ℕ) (change : ContentChange) → IsSound c → exec_content known d n c ≡ Ok change → c.progress ≡ Active
+exec_active known c d n change sound is = by_frame (frame_in n c.frames) refl is
   where
-    by_frame : (o : Option Frame) → frame_in n c.frames ≡ o → executed d c o ≡ Ok change → c.progress ≡ Active
+    by_frame : (o : Option Frame) → frame_in n c.frames ≡ o → executed known d c o ≡ Ok change → c.progress ≡ Active
     by_frame None there at = cc
     by_frame (Some f) there at = (frame_goes_on c.progress n f c.frames c.records there sound.owed).0
 
-pub exec_prepares : (s : SubOf) (d : DoneOf) (n : ℕ) (p : Prepared) → IsSound s.content → 0 < s.content.next → AreInOrder name_of_frame s.content.frames → IsPreparedFor s.content (exec_content d n s.content) (Ok p) → Prepares s p (λ q. TurnFits q d.turn)
-exec_prepares s d n p sound begun order prepared =
+pub exec_prepares : (known : Known) (s : SubOf) (d : DoneOf) (n : ℕ) (p : Prepared) → IsSound s.content → 0 < s.content.next → AreInOrder name_of_frame s.content.frames → IsPreparedFor s.content (exec_content known d n s.content) (Ok p) → Prepares s p (λ q. TurnFits q d.turn)
+exec_prepares known s d n p sound begun order prepared =
     let change = prepared.0 in
     let is = prepared.1 in
-    by_change s p change (λ q. TurnFits q d.turn) (exec_active s.content d n change sound is) prepared.2
-    (exec_tells s.content s.content d n change refl sound order is)
-    (exec_begun s.content s.content d n change refl is begun)
-    (λ q fits turn. exec_fits q s.content s.content d n change refl is fits turn)
+    by_change s p change (λ q. TurnFits q d.turn) (exec_active known s.content d n change sound is) prepared.2
+    (exec_tells known s.content s.content d n change refl sound order is)
+    (exec_begun known s.content s.content d n change refl is begun)
+    (λ q fits turn. exec_fits known q s.content s.content d n change refl is fits turn)
 
-pub exec_answers : (s : SubOf) (d : DoneOf) (n : ℕ) (p : Prepared) → IsPreparedFor s.content (exec_content d n s.content) (Ok p) → carried_out s (exec_content d n s.content) ≡ Ok (changed_of s p)
-exec_answers s d n p prepared = ap (carried_out s) prepared.1 ∙ ap (λ (ch : ContentChange). Ok (changed s ch)) (sym prepared.2.same)
+pub exec_answers : (known : Known) (s : SubOf) (d : DoneOf) (n : ℕ) (p : Prepared) → IsPreparedFor s.content (exec_content known d n s.content) (Ok p) → carried_out s (exec_content known d n s.content) ≡ Ok (changed_of s p)
+exec_answers known s d n p prepared = ap (carried_out s) prepared.1 ∙ ap (λ (ch : ContentChange). Ok (changed s ch)) (sym prepared.2.same)
 
 -- ---- an outcome comes
 pub record ResultIs (s : SubOf) (g : Grant) (o : Outcome) (p : Prepared) : Type 0 where

@@ -16,6 +16,7 @@ use Rattle.body_eval.specs.Done.{DoneOf}
 use Rattle.frames.specs.Frames.{frame_in, missing_in, without_frame}
 use Rattle.victim_records.specs.Records.{record_in, without_record}
 use Rattle.sub_rules.specs.Carrying.{exec_content, executed, holds_numbers, is_turn_of, within_numbers}
+use Rattle.sub_rules.specs.Resuming.{Known, resumed}
 use Rattle.sub_rules.specs.Changes.{arrives, closed, closed_in, done_again, ends, filled_in, frame_of, given_away, granted_out, joined, readied, record_of, redone, replaced, turned}
 use Rattle.sub_rules.specs.Content.{Ready, ready_in, task_of}
 use Rattle.sub_rules.specs.Debts.{IsSound}
@@ -95,23 +96,23 @@ turn_is_ready d f is = by_count (missing_in f.slots) refl
         let none = empty_holds_none f.slots d.numbers k count in
         cc
 
-pub exec_tells : (c x : Content) (d : DoneOf) (n : ℕ) (change : ContentChange) → x ≡ c → IsSound c → AreInOrder name_of_frame c.frames → exec_content d n x ≡ Ok change → Tells c change
-exec_tells c x d n change same sound order is = by_frame (frame_in n c.frames) refl (rw same at is)
+pub exec_tells : (known : Known) (c x : Content) (d : DoneOf) (n : ℕ) (change : ContentChange) → x ≡ c → IsSound c → AreInOrder name_of_frame c.frames → exec_content known d n x ≡ Ok change → Tells c change
+exec_tells known c x d n change same sound order is = by_frame (frame_in n c.frames) refl (rw same at is)
   where
-    by_next : (f : Frame) → frame_in n c.frames ≡ Some f → is_turn_of d f ≡ true → (b : Bool) → cond {A = Result ContentChange SubError} b (Ok (turned f d.turn c)) (Err Spent) ≡ Ok change → Tells c change
+    by_next : (f : Frame) → frame_in n c.frames ≡ Some f → is_turn_of d f ≡ true → (b : Bool) → cond {A = Result ContentChange SubError} b (Ok (turned f (resumed known f.place d.turn) c)) (Err Spent) ≡ Ok change → Tells c change
     by_next f there turn true at =
-        let equal : turned f d.turn c ≡ change = cc in
+        let equal : turned f (resumed known f.place d.turn) c ≡ change = cc in
         let name = found_name name_of_frame (n, 0) f c.frames there in
         let number : n ≡ f.number = ap (λ k. k.0) name in
         let found : frame_in f.number c.frames ≡ Some f = rw number at there in
-        rw (← equal) (record { ready = turned_tells c f d.turn sound order found (ready_test f (turn_is_ready d f turn)); records = turned_less f d.turn c })
+        rw (← equal) (record { ready = turned_tells c f (resumed known f.place d.turn) sound order found (ready_test f (turn_is_ready d f turn)); records = turned_less f (resumed known f.place d.turn) c })
     by_next f there turn false at = cc
 
-    by_turn : (f : Frame) → frame_in n c.frames ≡ Some f → (b : Bool) → is_turn_of d f ≡ b → cond {A = Result ContentChange SubError} b (within_numbers (turned f d.turn c)) (Err Stale) ≡ Ok change → Tells c change
-    by_turn f there true turn at = by_next f there turn (nat_lt (turned f d.turn c).after.next (2 ^ 32)) at
+    by_turn : (f : Frame) → frame_in n c.frames ≡ Some f → (b : Bool) → is_turn_of d f ≡ b → cond {A = Result ContentChange SubError} b (within_numbers (turned f (resumed known f.place d.turn) c)) (Err Stale) ≡ Ok change → Tells c change
+    by_turn f there true turn at = by_next f there turn (nat_lt (turned f (resumed known f.place d.turn) c).after.next (2 ^ 32)) at
     by_turn f there false turn at = cc
 
-    by_frame : (o : Option Frame) → frame_in n c.frames ≡ o → executed d c o ≡ Ok change → Tells c change
+    by_frame : (o : Option Frame) → frame_in n c.frames ≡ o → executed known d c o ≡ Ok change → Tells c change
     by_frame None there at = cc
     by_frame (Some f) there at = by_turn f there (is_turn_of d f) refl at
 

@@ -24,7 +24,7 @@ use ids::{
 };
 use std::alloc::{AllocError, Global};
 use std::marker::Model;
-use sub_rules::{Content, Opening, Prepared, Readied, SubError, Update};
+use sub_rules::{Content, Knows, Opening, Prepared, Readied, SubError, Update};
 use victim_records::Records;
 
 /// A subcomputation: the grant under which its task came, how often it had moved when it came here, and its content, in
@@ -144,16 +144,18 @@ impl Sub {
         }
     }
 
-    /// Prepares that the frame `number` is carried out by a turn that was evaluated. E40 exactly where the frame isn't ready with
-    /// that thread and those numbers, E62 where the number that is next after a join would pass 2^32 - 1, E9 where there is no
-    /// memory.
-    pub fn prepare_exec(
+    /// Prepares that the frame `number` is carried out by a turn that was evaluated; a kid whose value is known isn't made, and the
+    /// slot that awaits it is given the value. E40 exactly where the frame isn't ready with that thread and those numbers, E62
+    /// where the number that is next after a join would pass 2^32 - 1, E9 where there is no memory.
+    pub fn prepare_exec<K: Knows>(
         &self,
         alloc: Global,
         number: FrameNo,
         done: &Done,
+        known: &K,
     ) -> Result<Prepared, SubError>
-        ensures answer { IsPreparedAs self.now (exec_content done.now number self.now.content) result }
+        ensures answer { IsPreparedAs self.now
+            (exec_content (K.known_of known.now) done.now number self.now.content) result }
         ensures out_of_memory { IsErrOf result Memory → is_stale_of done.now
             (frame_in number self.now.content.frames) ≡ false }
         ensures may { IfOk result (λ p. MayChange self.now p) }
@@ -164,20 +166,28 @@ impl Sub {
             → IfOk result (λ q. Fits p (changed_of self.now q).after.content) }
     {
         sub_rules::law_turn_is_few(done);
-        self.prepare_turn(alloc, number, done.thread(), done.numbers(), done.turn())
+        self.prepare_turn(
+            alloc,
+            number,
+            done.thread(),
+            done.numbers(),
+            done.turn(),
+            known,
+        )
     }
 
     /// The same, by the end to which that thread comes on these numbers, whoever found it.
-    pub fn prepare_turn(
+    pub fn prepare_turn<K: Knows>(
         &self,
         alloc: Global,
         number: FrameNo,
         thread: u8,
         numbers: &[i64],
         turn: &Turn,
+        known: &K,
     ) -> Result<Prepared, SubError>
         requires { TurnFew turn.now }
-        ensures answer { (p : Program) → IsPreparedAs self.now (exec_content
+        ensures answer { (p : Program) → IsPreparedAs self.now (exec_content (K.known_of known.now)
             (ended p thread numbers.now turn.now) number self.now.content) result }
         ensures out_of_memory { (p : Program) → IsErrOf result Memory → is_stale_of
             (ended p thread numbers.now turn.now) (frame_in number self.now.content.frames) ≡ false }
@@ -199,6 +209,7 @@ impl Sub {
             thread,
             numbers,
             turn,
+            known,
         )?;
         Ok(prepared)
     }

@@ -4,7 +4,7 @@ use Rattle.std.proofs.lemmas.Result.{err_from_is_err_and}
 use Rattle.level_deques.specs.Posts.{deepest, without_post}
 use Rattle.one_node.specs.Runs.{posted_readied, run_of}
 use Rattle.one_node.proofs.Turning.{next_frame}
-use Rattle.one_node.proofs.Keeping.{turn_fails, turn_follows, turn_taken}
+use Rattle.one_node.proofs.Keeping.{by_nothing, turn_fails, turn_follows, turn_taken}
 use Rattle.one_node.proofs.Taking.{taken_is}
 use Rattle.one_node.proofs.turn.turn.Goals as goal
 
@@ -41,4 +41,4 @@ returns-clause-follows g c =
     let led = c.in_ok-ready.ensures.answer in
     let taken : c.post_all.new.posts ≡ posted_readied c.in_ok-ready.ready (without_post c.unwrap-newest.result c.args.run.now.posts) = search rules in
     let posts = taken ∙ ap (posted_readied c.in_ok-ready.ready) (taken_is c.args.run.now.content.frames c.args.run.now.posts c.unwrap-newest.result c.requires.order c.requires.posted first) in
-    rw posts (rw (led.led, led.told) at (turn_follows c.args.job.now (run_of c.args.run.now) c.unwrap-newest.result c.in_ok-done.done c.in_ok-done.ensures.turn led.change (c.turn_keeps_agreement.ensures.content c.args.job.now) c.requires c.in_ok-done.ensures.program led.done (rw led.led c.in_ok-ready.ensures.sound) (rw led.led c.law_stand_in_order-2.ensures)))
+    rw posts (rw (led.led, led.told) at (turn_follows c.args.job.now (run_of c.args.run.now) c.unwrap-newest.result c.in_ok-done.done c.in_ok-done.ensures.turn led.change (by_nothing c.args.job.now (c.turn_keeps_agreement.ensures.content c.args.job.now)) c.requires c.in_ok-done.ensures.program led.done (rw led.led c.in_ok-ready.ensures.sound) (rw led.led c.law_stand_in_order-2.ensures)))
