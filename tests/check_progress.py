@@ -24,8 +24,9 @@ from common import EXAMPLES, TOP, Tally
 
 CILKNOW, NOWSIM = map(os.path.abspath, [*sys.argv[1:], *[f"{TOP}/bin/{it}" for it in ("cilknow", "nowsim")][len(sys.argv) - 1:]])
 FIB = f"{EXAMPLES}/fib.ck"
-# So many workers start, so that a roster of them is long, and it is delivered so many times at first. A replay is to take so many seconds.
-WORKERS, TIMES, SECONDS, LEAST = 300, 10_000, 3.0, 2.5
+# So many workers start, so that a roster of them is long, and it is delivered so many times at first. A replay is to take so many seconds,
+# of which it reads for some, and tells nothing for the first two of the others.
+WORKERS, TIMES, SECONDS, LEAST = 300, 10_000, 5.0, 4.0
 LINE = rb"\r(\d+) events, (\d+) a second, (\d+) packets\x1b\[K"
 WIPED = rb"\r\x1b\[K"
 
