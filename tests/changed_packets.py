@@ -25,7 +25,6 @@ import subprocess
 import sys
 from concurrent.futures import ThreadPoolExecutor
 
-import broken_stores
 from common import TOP
 
 LIMIT = 600
@@ -670,7 +669,7 @@ def node(name, state, lines):
 def house(name, lines, is_own=is_of_house):
     # (a Beat of another epoch is told who is listed, a request that comes again gets its answer again; both change nothing)
     view = ["house outcome", "house hear Beat from=9 version=1 to=house:2 job=7", "house hear Steal from=3 seq=1 to=house:1 job=7"]
-    return Receiver(name, HOUSES, lines, view, ["house close", "disk read 200"], "house hear bytes ", is_own, HOUSE_SENDS)
+    return Receiver(name, HOUSES, lines, view, ["house close", f"store open {JOB}"], "house hear bytes ", is_own, HOUSE_SENDS)
 
 
 TOLD = "house hear Result from=3 grant=house:1/1 outcome=8 to=house:1 job=7"
@@ -752,10 +751,9 @@ def fault_at(receiver, found, before, answer, after):
     return None if after == before else "it changes something"
 
 
-def stored_outcome(hexed):
-    """The outcome in a checkpoint's bytes, as a clearinghouse tells it."""
-    found = broken_stores.read_store(bytes.fromhex(hexed))
-    return found if isinstance(found, int) else [f"outcome {(None, found.value, 'deep')[found.tag] if found.tag else 'none'}"]
+def stored_outcome(record):
+    """The outcome in a checkpoint's record, as a clearinghouse tells it; the number where there is none."""
+    return [f"outcome {fields_of(record)['outcome']}"] if record.startswith("record ") else record
 
 
 def faults_at(program, receiver, drawn):

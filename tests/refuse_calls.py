@@ -8,7 +8,8 @@ A small library that stands in front of the C library's calls on files counts th
 and on their folder, and of each run refuses one: it fails, before or after it was carried out, is interrupted, carries out a part of what it was asked for (each part of what is written), with
 or without a failure behind, or the run is killed before it, after it, or behind each part. Each run has to give the right outcome, or to say
 E72 and end with status 3, or say that the file can't be had (status 4), which it hasn't written to then. No run changes a store but to the next
-record or the one behind it, none touches one with an outcome, and no outcome is told that isn't kept. The next run with no refusal gives the
+record or the one behind it, none touches one with an outcome, but that one of the older form becomes one of the newer form, and no outcome is told that isn't kept. What a run refuses by
+the record or by the file beside it stays as it is. The next run with no refusal gives the
 right outcome, unless a store was cut off while it was made: then it is no store (E71), which has to be removed.
 
 Then come files that can be no longer than so many bytes, a device that is full, and files that can't be had. The last line counts; the status
@@ -172,11 +173,14 @@ PARTLY(pwrite64, 1, (int fd, const void *bytes, size length, off from), (fd, byt
 
 
 NONE, IS_VALUE, VALUE, JOB = broken_stores.NONE, broken_stores.IS_VALUE, broken_stores.VALUE, broken_stores.JOB
+SMALL, LARGE, SIZE = broken_stores.SMALL, broken_stores.LARGE, broken_stores.SIZE
 RIGHT = (0, f"value {VALUE}\n", "")
 NO_DEVICE, NO_STORE, NO_FILE, NO_TURNS = (*(broken_stores.refusal(number) for number in (72, 71)), (4, "", "cilknow: file\n"), broken_stores.refusal(95))
 OTHER_JOB = broken_stores.refusal(70)
 UNTOLD = (0, "", "the store's line isn't told")
 KILLED = (-signal.SIGKILL, "", "")
+# The scenes that are tried with files that can't be longer.
+LIMITED = "a new store", "a store without outcome", "a store with the outcome", "a store of the older form"
 # What a run refuses with where a call on the file fails.
 REFUSALS = (NO_DEVICE, NO_FILE)
 
@@ -187,8 +191,14 @@ Scene = collections.namedtuple("Scene", "name content line front behind answer p
 Refusal = collections.namedtuple("Refusal", "at name on length how part")
 
 
+def is_near(place, some, by):
+    return any(it - by <= place <= it + by for it in some)
+
+
 def each_part(length):
-    return range(1, length)
+    """Each part of what is short; of what is longer those that end near something, and some others."""
+    ends = 0, 8, 72, 136, 2248, length
+    return [it for it in range(1, length) if length <= 64 or it % 97 == 0 or is_near(it, ends, 3)]
 
 
 def few_parts(length):
@@ -201,28 +211,34 @@ def record_of(content):
     return None if isinstance(found, int) else found
 
 
+def moved(record):
+    """A record as the newer form has it."""
+    return record if record.form == LARGE else record._replace(form=LARGE, sequence=0)
+
+
 def nexts(record):
     """What a run makes of a record: the record itself, the one of the next epoch, and the one with the outcome."""
+    record = moved(record)
     begun = record._replace(epoch=record.epoch + 1, sequence=record.sequence + 1)
     return record, begun, begun._replace(tag=IS_VALUE, value=VALUE, sequence=begun.sequence + 1)
 
 
 FRESH = broken_stores.Record(JOB, 0, NONE, 0, 0)
 # What is written first of all into the file of a store.
-FORMATTED = broken_stores.file_of(broken_stores.slot_of(FRESH), bytes(64))
+FORMATTED = broken_stores.file_of(broken_stores.slot_of(FRESH), bytes(LARGE.size))
 
 
 def content_of(path):
     return broken_stores.bytes_of(path) if os.path.exists(path) else None
 
 
-def is_as_allowed(before, after):
+def is_as_allowed(scene, after):
     """Whether a run may leave these bytes, wherever it was cut off."""
-    if before:
-        found = record_of(before)
-        if found is None or found.job != JOB or found.tag != NONE:
-            return after == before
-        return record_of(after) in nexts(found)
+    if scene.content:
+        found = record_of(scene.content)
+        if scene.answer != RIGHT or (found.form, found.tag != NONE) == (LARGE, True):
+            return after == scene.content
+        return record_of(after) in (found, *(nexts(found) if found.tag == NONE else [moved(found)]))
     return after is None or FORMATTED.startswith(after) or record_of(after) in nexts(FRESH)
 
 
@@ -295,7 +311,7 @@ def ways(length, name, parts):
         yield from (("late", length), ("killed", length), ("short", 0))
         yield from ((how, part) for how in ("torn", "killed", "short") for part in parts(length))
     else:
-        yield from (("short", part) for part in sorted({0, 1, 8, 100, min(length, 135)}) if part < length)
+        yield from (("short", part) for part in (0, 1, 8, 100, 135, 136, SIZE - 1) if part < length)
 
 
 def refusals(trial, scene):
@@ -315,7 +331,7 @@ def refusals(trial, scene):
 def wanted_record(before):
     """The record that a run leaves which ends."""
     found = record_of(before) or FRESH
-    return nexts(found)[-1] if found.tag == NONE else found
+    return nexts(found)[-1] if found.tag == NONE else moved(found)
 
 
 def named(answer, scene):
@@ -359,7 +375,7 @@ def tried(trial, scene, refusal):
     if answer not in (scene.answer, *REFUSALS, *([KILLED] if refusal.how == "killed" else []), *([NO_STORE] if is_empty else [])):
         wrong.append(f"it answers {answer}")
     # (what can't be had isn't written to, though it may be made)
-    if not is_as_allowed(before, after) or (answer == NO_FILE and after not in (before, before or b"")):
+    if not is_as_allowed(scene, after) or (answer == NO_FILE and after not in (before, before or b"")):
         wrong.append(f"it leaves {after.hex() if after else after}")
     said = content_of(broken_stores.beside(f"{place}/store"))
     if not is_line_as_allowed(scene, trial.line, after, said):
@@ -390,6 +406,8 @@ def scenes(trial):
     kept = content_of(f"{place}/store")
     if whole != RIGHT or record_of(kept).tag != IS_VALUE:
         raise SystemExit(f"no store with an outcome is made: {whole}")
+    old = broken_stores.Record(JOB, 1, NONE, 0, 1, SMALL)
+    old_begun, old_kept = (broken_stores.file_of(broken_stores.slot_of(it), bytes(SMALL.size)) for it in (old, old._replace(tag=IS_VALUE, value=VALUE)))
     yield scene("a new store", None, front, RIGHT, each_part, line=None)
     yield scene("an empty file", b"", front, RIGHT, line=other)
     yield scene("a store without outcome", begun, front, RIGHT, each_part)
@@ -400,6 +418,11 @@ def scenes(trial):
     yield scene("a store of another input", kept, front, OTHER_JOB, line=other)
     yield scene("a store beside which no line lies", kept, front, NO_STORE, line=trial.line[:-1])
     yield scene("a store that doesn't say whose it is", begun, front, RIGHT, line=None)
+    yield scene("a store of the older form", old_begun, front, RIGHT, each_part)
+    yield scene("one of the older form with the outcome", old_kept, front, RIGHT)
+    yield scene("one of the older form and of another job", old_begun, (*front[:2], "--job", "2", "--store"), OTHER_JOB)
+    yield scene("one of the older form and of another input", old_begun, front, OTHER_JOB, line=other)
+    yield scene("one of the older form that doesn't say whose it is", old_begun, front, RIGHT, line=None)
     yield scene("a store that is shown", kept, ("store",), broken_stores.shown(record_of(kept)), more=())
 
 
@@ -411,9 +434,10 @@ def told(results):
 
 
 def lengths(trial, scene, pool):
-    """Runs over files that can be no longer than so many bytes."""
+    """Runs over files that can be no longer than so many bytes: lengths near which something ends, and some others."""
     nothing = Refusal(1 << 32, "none", "none", 0, "limited", 0)
-    return list(pool.map(lambda length: tried(trial, scene, nothing._replace(part=length)), range(broken_stores.SIZE + 1)))
+    some = [it for it in range(SIZE + 1) if it % 97 == 0 or is_near(it, (0, 72, 136, 2248, SIZE), 12)]
+    return list(pool.map(lambda length: tried(trial, scene, nothing._replace(part=length)), some))
 
 
 def is_well(what, *pairs):
@@ -434,24 +458,28 @@ def has_room(path):
 
 
 def full_device(trial, scene):
-    """Runs on a device of two pages, of which another file fills each, or one."""
+    """Runs on a device of three pages, of which another file fills each, or some: the store needs two, and the file beside it one."""
     place = trial.place()
-    mount = ("mount", "-t", "tmpfs", "-o", "size=8k", "tmpfs", place)
+    mount = ("mount", "-t", "tmpfs", "-o", "size=12k", "tmpfs", place)
     if os.geteuid() or subprocess.run(mount, stdout=subprocess.DEVNULL, stderr=subprocess.DEVNULL).returncode:
         print("a full device: not tried, since nothing may be mounted here")
         return
     try:
         path, rest = f"{place}/store", f"{place}/rest"
-        broken_stores.written(rest, bytes(8192))
+        broken_stores.written(rest, bytes(3 * 4096))
         yield is_well("a full device", (trial.run(scene, place), NO_FILE), (content_of(path), b""), (trial.run(scene, place), NO_FILE))
-        broken_stores.written(rest, bytes(4096))
+        broken_stores.written(rest, bytes(2 * 4096))
         yield is_well("a device with one page", (trial.run(scene, place), NO_DEVICE), (content_of(path), b""), (trial.run(scene, place), NO_DEVICE))
+        broken_stores.written(rest, bytes(4096))
+        part = FORMATTED[:4096]
+        yield is_well("a device with two pages", (trial.run(scene, place), NO_DEVICE), (content_of(path), part), (trial.run(scene, place), NO_STORE))
         os.remove(rest)
+        os.remove(path)
         yield is_well("a device with room again", (trial.run(scene, place), RIGHT))
         os.remove(path)
         few = scene._replace(behind=("--turns", "5", *scene.behind))
         yield is_well("a store on a device with room", (trial.run(few, place), NO_TURNS))
-        # (the store and the file beside it have the device's two pages: they need no other one)
+        # (the store and the file beside it have the device's three pages: they need no other one)
         yield is_well("another file on that device", (has_room(rest), False))
         yield is_well("a store on a device that is full", (trial.run(scene, place), RIGHT), (record_of(content_of(path))[2:4], (IS_VALUE, VALUE)))
     finally:
@@ -542,9 +570,9 @@ def main(words):
             passed, failed, lost = passed + well, failed + len(results) - well, lost + sum(it[2] for it in results)
             # (so that a library that counts nothing is seen)
             failed += calls < 3
-        for scene in all_scenes[0], all_scenes[2], all_scenes[3]:
+        for scene in (it for it in all_scenes if it.name in LIMITED):
             results = lengths(trial, scene, pool)
-            print(f"{scene.name}, files of at most 0 to {broken_stores.SIZE} bytes: {told(results)}")
+            print(f"{scene.name}, files of at most 0 to {SIZE} bytes: {told(results)}")
             well = sum(it[0] for it in results)
             passed, failed, lost = passed + well, failed + len(results) - well, lost + sum(it[2] for it in results)
         rest = [*full_device(trial, all_scenes[0]), *files_that_cannot_be_had(trial, all_scenes[2])]

@@ -28,7 +28,7 @@ DEEP = f"{EXAMPLES}/too_deep.ck"
 # A run of the Fibonacci number of so much takes a few tenths of a second.
 INPUT, VALUE = "18", 2584
 # The tags of an outcome in a record.
-NONE, IS_VALUE, TOO_DEEP = 0, 1, 2
+NONE, IS_VALUE, TOO_DEEP, MOVED = 0, 1, 2, 3
 
 CHECKS = Tally()
 tell = CHECKS.tell
@@ -70,11 +70,11 @@ def number(content):
 
 
 def record(content):
-    """The job, the epoch, and the tag and value of the outcome, by the open slot of the greater sequence; none where it is no store."""
-    if len(content) != 136 or content[:8] != b"CNOWCKP\x01":
+    """The job, the epoch, and the tag and value of the outcome, by the open large slot of the greater sequence; none where it is no store."""
+    if len(content) != 4360 or content[:9] != b"CNOWCKP\x01\xa5" or content[35] != MOVED:
         return None
-    slots = [content[at:at + 64] for at in (8, 72)]
-    slots = [slot for slot in slots if slot[0] == 0xA5 and number(slot[9:11]) == 25 and slot[27] <= TOO_DEEP]
+    slots = [content[at:at + 2112] for at in (136, 2248)]
+    slots = [slot for slot in slots if slot[0] == 0xA5 and number(slot[9:11]) == 2101 and slot[27] <= TOO_DEEP]
     if not slots:
         return None
     slot = max(slots, key=lambda slot: number(slot[1:9]))
@@ -273,9 +273,9 @@ def outputs(folder):
 
 
 def limited():
-    """Files can be no longer than 100 bytes, and a write behind that fails."""
+    """Files can be no longer than 3,000 bytes, and a write behind that fails."""
     signal.signal(signal.SIGXFSZ, signal.SIG_IGN)
-    resource.setrlimit(resource.RLIMIT_FSIZE, (100, 100))
+    resource.setrlimit(resource.RLIMIT_FSIZE, (3000, 3000))
 
 
 def refusals(folder):

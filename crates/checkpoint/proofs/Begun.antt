@@ -1,6 +1,6 @@
 -- The file that `format` writes.
-use Rattle.std.proofs.Common.{◌≡◌, ℕ, ◌+◌, true, false, List, [], ◌∷◌, ◌++◌, length, take, Option, get_or, set, replicate, refl, sym, ◌∙◌, ap, subst, arith, length-append}
-use Rattle.std.proofs.lemmas.List.{take_at, drop_at, drop_all, drop-append-le, append-nil}
+use Rattle.std.proofs.Common.{◌≡◌, ℕ, ◌+◌, true, false, List, [], ◌∷◌, ◌++◌, length, take, drop, Option, get_or, set, replicate, refl, sym, ◌∙◌, ap, subst, arith, append_assoc, length-append}
+use Rattle.std.proofs.lemmas.List.{take_at, drop_at, drop-drop, drop_all, append-nil, length-replicate, replicate-append-replicate}
 use Rattle.std.specs.List.{splice}
 use Rattle.disk.specs.Device.{Device}
 use Rattle.disk.specs.File.{CrashLeaves, synced, written_file}
@@ -8,40 +8,85 @@ use Rattle.disk.proofs.Crashes.{bytes_of-synced, synced-only}
 use Rattle.disk.proofs.Writes.{bytes_of-written}
 use Rattle.checkpoint.specs.Calls.{Passed, after}
 use Rattle.checkpoint.specs.Commit.{formatting}
-use Rattle.checkpoint.specs.Pair.{slot, body}
-use Rattle.checkpoint.specs.Format.{IsSlotBody, IsFormatted, SpellsSlot, name, IsStore, fresh}
-use Rattle.checkpoint.specs.declared.record.CheckpointRecord.{CheckpointRecord}
+use Rattle.checkpoint.specs.Pair.{IsOpen, slot, body}
+use Rattle.checkpoint.specs.Format.{HasMoved, IsBoth, IsFormatted, IsMovedBody, SpellsLarge, SpellsMoved, fresh, name}
+use Rattle.checkpoint.proofs.Splices.{splice_of}
 
-abbrev pub blank : List ℕ → List ℕ
-blank bytes = name ++ (1 ∷ 165 ∷ (bytes ++ replicate 64 0))
+abbrev pub blank : List ℕ → List ℕ → List ℕ
+blank moved both = name ++ (1 ∷ 165 ∷ (moved ++ (replicate 64 0 ++ both)))
 
-blank_is_store : (bytes : List ℕ) (r : CheckpointRecord) → length bytes ≡ 63 → SpellsSlot bytes 0 r → IsStore (blank bytes) false 0 r
-blank_is_store bytes r size says =
-    let whole : length (blank bytes) ≡ 136 = omega (arith, size, length-append bytes (replicate 64 0)) in
-    let here : slot 8 63 false (blank bytes) ≡ 165 ∷ bytes = ap (λ (l : List ℕ). 165 ∷ l) (take_at bytes (replicate 64 0) 63 size) in
-    let there : slot 8 63 true (blank bytes) ≡ replicate 64 0 = ap (λ (l : List ℕ). take 64 l) (drop_at bytes (replicate 64 0) 63 size) in
-    record {
-      size = whole;
-      named = refl;
-      version = refl;
+module _ (moved both : List ℕ) (job : ℕ) (small : IsMovedBody moved 0 job 0) (large : IsBoth both (fresh job)) where
+  abbrev file : List ℕ
+  file = blank moved both
+
+  whole : length file ≡ 4360
+  whole =
+      let all = length-append moved (replicate 64 0 ++ both) in
+      let rest = length-append (replicate 64 0) both in
+      let zeros = length-replicate {A = ℕ} 64 0 in
+      let a = small.size in
+      let b = large.size in
+      omega (arith, all, rest, zeros, a, b)
+
+  behind : drop 136 file ≡ both
+  behind = sym (drop-drop 64 63 (moved ++ (replicate 64 0 ++ both))) ∙ ap (λ (l : List ℕ). drop 64 l) (drop_at moved (replicate 64 0 ++ both) 63 small.size) ∙ drop_at (replicate 64 0) both 64 (length-replicate {A = ℕ} 64 0)
+
+  first : slot 8 63 false file ≡ 165 ∷ moved
+  first = ap (λ (l : List ℕ). 165 ∷ l) (take_at moved (replicate 64 0 ++ both) 63 small.size)
+
+  second : slot 8 63 true file ≡ replicate 64 0
+  second = ap (λ (l : List ℕ). take 64 l) (drop_at moved (replicate 64 0 ++ both) 63 small.size) ∙ take_at (replicate 64 0) both 64 (length-replicate {A = ℕ} 64 0)
+
+  front : HasMoved file
+  front = record {
+    size = whole;
+    named = refl;
+    version = refl;
+    second = false;
+    moves = 0;
+    moved = record {
+      room = (let size = whole in omega (arith, size));
+      gate = refl;
+      content = subst (λ (l : List ℕ). SpellsMoved (body l) 0) (sym first) (record { job = job; epoch = 0; fields = small.fields });
+      other = λ opened. let e : 0 ≡ 165 = ap (λ (l : List ℕ). get_or l 0 0) (sym second) ∙ opened in absurd (omega (arith, e));
+    };
+  }
+
+  large_first : slot 136 2111 false file ≡ take 2112 both
+  large_first = ap (λ (l : List ℕ). take 2112 l) behind
+
+  large_second : slot 136 2111 true file ≡ replicate 2112 0
+  large_second = ap (λ (l : List ℕ). take 2112 l) (sym (drop-drop 2112 136 file) ∙ ap (λ (l : List ℕ). drop 2112 l) behind ∙ large.large)
+
+  pub blank_is_formatted : IsFormatted file job
+  blank_is_formatted = record {
+    store = record {
+      front = front;
       current = record {
-        room = omega (arith, whole);
-        gate = refl;
-        content = subst (λ (l : List ℕ). SpellsSlot (body l) 0 r) (sym here) says;
-        other = λ opened. let e : 0 ≡ 165 = ap (λ (l : List ℕ). get_or l 0 0) (sym there) ∙ opened in absurd (omega (arith, e));
+        room = (let size = whole in omega (arith, size));
+        gate = subst IsOpen (sym large_first) large.gate;
+        content = subst (λ (l : List ℕ). SpellsLarge (body l) 0 (fresh job)) (sym large_first) large.written.spells;
+        other = λ opened. let e : 0 ≡ 165 = ap (λ (l : List ℕ). get_or l 0 0) (sym large_second) ∙ opened in absurd (omega (arith, e));
       };
-    }
-
-pub blank_is_formatted : (bytes : List ℕ) (job : ℕ) → IsSlotBody bytes 0 (fresh job) → IsFormatted (blank bytes) job
-blank_is_formatted bytes job is = record {
-  store = blank_is_store bytes (fresh job) is.size is.fields;
-  zeros = drop-append-le 35 bytes (replicate 64 0) (omega (arith, is.size)) ∙ ap (λ (l : List ℕ). l ++ replicate 64 0) is.zeros;
-}
+    };
+    moved = subst (λ (l : List ℕ). IsMovedBody l 0 job 0) (sym (take_at moved (replicate 64 0 ++ both) 63 small.size)) small;
+    small = second;
+    behind = subst (λ (l : List ℕ). IsBoth l (fresh job)) (sym behind) large;
+  }
 
 -- its parts put into zeros
-pub built : (bytes b1 b2 : List ℕ) → length bytes ≡ 63 → b1 ≡ splice (replicate 136 0) 0 7 name → b2 ≡ splice (set (set b1 7 1) 8 165) 9 (9 + length bytes) bytes → b2 ≡ blank bytes
-built bytes b1 b2 size e1 e2 =
-    e2 ∙ ap (λ n. splice (set (set b1 7 1) 8 165) 9 (9 + n) bytes) size ∙ ap (λ (l : List ℕ). splice (set (set l 7 1) 8 165) 9 72 bytes) e1
+pub built : (moved both b1 b2 b3 : List ℕ) → length moved ≡ 63 → length both ≡ 4224 → b1 ≡ splice (replicate 4360 0) 0 7 name → b2 ≡ splice (set (set b1 7 1) 8 165) 9 (9 + length moved) moved → b3 ≡ splice b2 136 (136 + length both) both → b3 ≡ blank moved both
+built moved both b1 b2 b3 size large e1 e2 e3 =
+    let zeros : List ℕ = replicate 64 0 in
+    let front : List ℕ = name ++ (1 ∷ 165 ∷ (moved ++ zeros)) in
+    let halves : replicate {A = ℕ} 4288 0 ≡ zeros ++ replicate 4224 0 = sym (replicate-append-replicate 64 4224 0) in
+    let shape : b2 ≡ front ++ (replicate 4224 0 ++ []) =
+    e2 ∙ ap (λ n. splice (set (set b1 7 1) 8 165) 9 (9 + n) moved) size ∙ ap (λ (l : List ℕ). splice (set (set l 7 1) 8 165) 9 72 moved) e1
+    ∙ ap (λ (l : List ℕ). name ++ (1 ∷ 165 ∷ (moved ++ l))) halves ∙ ap (λ (l : List ℕ). name ++ (1 ∷ 165 ∷ l)) (sym (append_assoc moved zeros (replicate 4224 0))) ∙ ap (λ (l : List ℕ). front ++ l) (sym (append-nil (replicate 4224 0))) in
+    let begins : length front ≡ 136 = (let a = length-append moved zeros in let b = length-replicate {A = ℕ} 64 0 in omega (arith, a, b, size)) in
+    let ends : length front + length (replicate {A = ℕ} 4224 0) ≡ 4360 = (let b = length-replicate {A = ℕ} 4224 0 in omega (arith, begins, b)) in
+    e3 ∙ ap (λ n. splice b2 136 (136 + n) both) large ∙ ap (λ (l : List ℕ). splice l 136 4360 both) shape ∙ splice_of front (replicate 4224 0) [] both 136 4360 begins ends ∙ ap (λ (l : List ℕ). front ++ l) (append-nil both)
+    ∙ ap (λ (l : List ℕ). name ++ (1 ∷ 165 ∷ l)) (append_assoc moved zeros both)
 
 -- a write over nothing
 over_nothing : (file : List ℕ) → splice [] 0 (0 + length file) file ≡ file

@@ -4,6 +4,7 @@ use mathlib.Core.Path.{fun_ext}
 use Rattle.std.proofs.lemmas.Bool.{cases_lt}
 use Rattle.disk.specs.Device.{Device, passed}
 use Rattle.checkpoint.specs.Calls.{DeviceCall, Fails, Passed, Stopped, after, changed}
+use Rattle.checkpoint.specs.Commit.{opening}
 
 after-append : (d : Device) (a b : List DeviceCall) → after d (a ++ b) ≡ after (after d a) b
 unfolding after
@@ -21,6 +22,16 @@ fails_alone call plan d new fails = inl fails
 pub passes_alone : (call : DeviceCall) (plan : ℕ → Option (List ℕ)) (d new : Device) → plan 0 ≡ None → new ≡ passed d (changed d.file call) → Passed (call ∷ []) plan d new
 unfolding after
 passes_alone call plan d new first is = record { made = is; unplanned = λ i h. let e : i ≡ 0 = omega arith in ap plan e ∙ first }
+
+-- none
+pub none_passed : (plan : ℕ → Option (List ℕ)) (d : Device) → Passed [] plan d d
+unfolding after
+none_passed plan d = record { made = refl; unplanned = λ i h. absurd (omega (arith, h)) }
+
+-- a read leaves the file
+pub read_file : (plan : ℕ → Option (List ℕ)) (d new : Device) → Passed opening plan d new → new.file ≡ d.file
+unfolding after
+read_file plan d new is = ap (λ (x : Device). x.file) is.made
 
 -- one of the first calls failed
 pub stop_first : (a b : List DeviceCall) (plan : ℕ → Option (List ℕ)) (d new : Device) → Stopped a plan d new → Stopped (a ++ b) plan d new

@@ -1,14 +1,19 @@
-ghost use Rattle.std.specs.Prelude.{◌≡◌, ◌+◌, ◌≤◌, ℕ, List, length, IsErrOf, OnErr, OnOk};
+ghost use Rattle.std.specs.Prelude.{◌≡◌, ◌+◌, ◌≤◌, ℕ, List, [], None, length, IsErrOf, OnErr, OnOk};
 ghost use Rattle.std.specs.List.{splice};
 ghost use Rattle.disk.specs.File.{CrashLeaves};
 ghost use Rattle.checkpoint.specs.Calls.{Passed, Stopped};
 ghost use Rattle.checkpoint.specs.Commit.{formatting};
-ghost use Rattle.checkpoint.specs.Format.{IsFormatted};
+ghost use Rattle.checkpoint.specs.Format.{IsBoth, IsFormatted};
 
-use crate::body::spell;
-use crate::look::{NAME, OPEN, SIZE, VERSION};
-use crate::{CheckpointRecord, LastEpoch, StoreError};
+use crate::body::{LARGE_BODY, spell, spell_moved};
+use crate::look::{LARGE, NAME, OPEN, SIZE, SMALL, VERSION};
+use crate::{LastEpoch, StoreError};
 use disk::Disk;
+use ids::Outcome;
+use saved_values::SavedTable;
+
+/// The bytes of both large slots.
+pub const BOTH: usize = 2 + 2 * LARGE_BODY;
 
 fn put_bytes(file: &mut [u8], at: usize, bytes: &[u8])
     requires { at + length bytes.now ≤ length file.old }
@@ -17,21 +22,30 @@ fn put_bytes(file: &mut [u8], at: usize, bytes: &[u8])
     file[at..at + bytes.len()].copy_from_slice(bytes);
 }
 
+/// Both large slots: an open one of sequence 0 with a record of which no values are saved, and zeros.
+pub fn large_slots(job: u64, epoch: LastEpoch, outcome: &Option<Outcome>) -> [u8; BOTH]
+    ensures { IsBoth result (record { job = job; epoch = epoch; outcome = outcome.now; saved = [] }) }
+{
+    let body = spell(0, job, epoch, outcome, &SavedTable::new());
+    let mut both = [0; BOTH];
+    both[0] = OPEN;
+    put_bytes(&mut both, 1, &body);
+    both
+}
+
 // The file of a job that has just begun.
 fn blank(job: u64) -> [u8; SIZE]
     ensures { IsFormatted result job }
 {
-    let begun = CheckpointRecord {
-        job,
-        epoch: LastEpoch::none(),
-        outcome: None,
-    };
-    let body = spell(0, &begun);
+    let epoch = LastEpoch::none();
+    let moved = spell_moved(0, job, epoch);
+    let large = large_slots(job, epoch, &None);
     let mut file = [0; SIZE];
     put_bytes(&mut file, 0, &NAME);
     file[7] = VERSION;
-    file[8] = OPEN;
-    put_bytes(&mut file, 9, &body);
+    file[SMALL] = OPEN;
+    put_bytes(&mut file, SMALL + 1, &moved);
+    put_bytes(&mut file, LARGE, &large);
     file
 }
 

@@ -12,13 +12,14 @@ use disk::Disk;
 use ids::Outcome;
 use std::alloc::Global;
 
-/// What a store keeps: the number of its job, the last epoch of the clearinghouse that began, 0 where none did, and the outcome once there
-/// is one.
+/// What a store keeps: the number of its job, the last epoch of the clearinghouse that began, 0 where none did, the outcome once there is
+/// one, and how many values are saved.
 #[derive(Clone, Copy, Debug, PartialEq, Eq)]
 pub struct Info {
     pub job: u64,
     pub epoch: u64,
     pub outcome: Option<Outcome>,
+    pub saved: usize,
 }
 
 /// What a store keeps, whatever its job is, by one read; nothing is written. Refused in this order: E72; E71 for a file that doesn't begin
@@ -51,10 +52,12 @@ fn told(kept: CheckpointRecord) -> Info
         job,
         epoch,
         outcome,
+        saved,
     } = kept;
     Info {
         job,
         epoch: epoch.number(),
         outcome,
+        saved: saved.as_slice().len(),
     }
 }

@@ -2,6 +2,7 @@ ghost use Rattle.std.specs.Prelude.{◌≡◌, ◌+◌, ◌<◌, ◌^◌, nat_lt
 
 use disk::DeviceFailed;
 use ids::{Epoch, Outcome};
+use saved_values::SavedTable;
 use std::marker::Model;
 use thiserror::Error;
 
@@ -67,12 +68,27 @@ impl LastEpoch {
     }
 }
 
-/// What a checkpoint keeps: the number of the job, the last epoch, and the outcome once there is one.
-#[derive(Clone, Copy, Debug, PartialEq, Eq)]
+/// What a checkpoint keeps: the number of the job, the last epoch, the outcome once there is one, and values of tasks that are saved.
+#[derive(Drop)]
 pub struct CheckpointRecord {
     pub job: u64,
     pub epoch: LastEpoch,
     pub outcome: Option<Outcome>,
+    pub saved: SavedTable,
+}
+
+/// What a small slot of a store says: a record, or that it has moved into a large one.
+#[derive(Drop)]
+pub enum Entry {
+    Here(CheckpointRecord),
+    Moved,
+}
+
+/// A slot of a store: the first or the second one of the small ones, or of the large ones.
+#[derive(Clone, Copy, PartialEq, Eq, Debug)]
+pub enum SlotId {
+    Small(bool),
+    Large(bool),
 }
 
 /// Why a store isn't made or opened, or a record not committed.

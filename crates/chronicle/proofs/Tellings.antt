@@ -138,7 +138,7 @@ module _ (job : JobOf) where
 
   failing_recorded : (e : Event) (w : WorldOf) (o : StepResult) → DeviceFails job e w o → Recorded o
   failing_recorded (AtHouse e) w o (k, bytes, alone, is) = house_halts_recorded e w.house k bytes w o is
-  failing_recorded (Cut c) w o (can, restart, some, (before, halts, is)) = silent_as o _ is (stopped_silent before.answer)
+  failing_recorded (Cut c) w o (can, restart, k, first, some, (before, halts, is)) = silent_as o _ is (stopped_silent before.answer)
   failing_recorded (Start a word) w o never = absurd never
   failing_recorded (AtNode a e) w o never = absurd never
   failing_recorded (Crash a) w o never = absurd never

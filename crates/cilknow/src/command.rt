@@ -158,16 +158,19 @@ fn write_info<O: Write>(out: &mut O, info: Info) -> io::Result<()> {
         job,
         epoch,
         outcome,
+        saved,
     } = info;
     writeln!(out, "job {job}")?;
     writeln!(out, "epoch {epoch}")?;
     match outcome {
         Some(outcome) => {
             write!(out, "outcome ")?;
-            write_outcome(out, outcome)
+            write_outcome(out, outcome)?;
         }
-        None => write_line(out, "outcome none"),
+        None => writeln!(out, "outcome none")?,
     }
+    writeln!(out, "saved {saved}")?;
+    out.flush()
 }
 
 fn write_bytes<O: Write>(out: &mut O, bytes: &[u8]) -> io::Result<()> {

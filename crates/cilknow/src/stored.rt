@@ -37,8 +37,11 @@ pub fn found_in<'a, R: Files<File = File> + AllocGlobal, E: Write>(
         make_beside(rt, path, beside.as_str(), line.as_slice())?;
         return found(alloc, disk, job);
     }
+    // (an opening may write, so what is refused is refused before it)
+    inspect(alloc, &mut disk).map_err(refused)?;
+    let is_said = is_said(rt, beside.as_str(), line.as_slice())?;
     let found = found(alloc, disk, job)?;
-    if !is_said(rt, beside.as_str(), line.as_slice())? {
+    if !is_said {
         let _ = writeln!(err, "cilknow: {path} doesn't say whose it is");
     }
     Ok(found)

@@ -6,7 +6,7 @@ use Rattle.disk.specs.File.{bytes_of}
 use Rattle.checkpoint.specs.Calls.{DeviceCall, Stopped as HasStopped}
 use Rattle.checkpoint.specs.Commit.{IsCommit, next_of}
 use Rattle.checkpoint.specs.Moments.{KeepsEither}
-use Rattle.checkpoint.specs.Store.{IsSpent, KeepsRecord, Opened}
+use Rattle.checkpoint.specs.Store.{IsSpent, KeepsNew, Opened}
 use Rattle.checkpoint.specs.declared.record.CheckpointRecord.{CheckpointRecord as Stored}
 use Rattle.checkpoint.specs.declared.record.StoreError.{StoreError}
 use Rattle.checkpoint.specs.declared.record.StoreError.TheVariants as store_error
@@ -30,7 +30,7 @@ module _ {D : Type 0} (device : D → Device) (planned : D → ℕ → Option (L
       (IsErrOf r store_error.Spent → IsSpent old) →
       (IsErrOf r store_error.Device → new ≡ record old { disk = new.disk; ended = true }) →
       (IsErrOf r store_error.Device → old.ended ≡ false → (calls : List DeviceCall) × IsCommit (bytes_of (device old.disk).file) old.sequence old.«record» next calls × HasStopped calls (planned old.disk) (device old.disk) (device new.disk)) →
-      (KeepsRecord (device old.disk).file old.sequence old.«record» → KeepsEither (device new.disk).file old.sequence old.«record» next) →
+      (KeepsNew (device old.disk).file old.sequence old.«record» → KeepsEither (device new.disk).file old.sequence old.«record» next) →
       Halted device planned next old new
   halted stored counted (inl is) spent ends stopped either =
       let same : old.sequence ≡ sequence = ap (λ (s : Opened D). s.sequence) stored in

@@ -20,7 +20,7 @@ job_of p = record { program = fib p; input = pos 2 ∷ []; number = 1 }
 
 -- the clearinghouse of the first epoch, where a member may be silent for 500
 abbrev pub first : HouseOf
-first = opened 500 (record { sequence = 1; epoch = 1; outcome = None })
+first = opened 500 (record { sequence = 1; epoch = 1; outcome = None; saved = [] })
 
 -- a run: what was committed and sent so far, in the order of these
 pub data Event : Type 0 where

@@ -70,14 +70,14 @@ abbrev aborted : ℕ → ℕ → Event
 aborted i number = to i (body.Abort (record { grant = root number }))
 
 -- the first epoch begins over a checkpoint that was just formatted, and is committed; none begins behind the last
-first_epoch : open_over 500 (record { sequence = 0; epoch = 0; outcome = None }) ≡
-    Does (record { after = first; commits = Some (record { sequence = 1; epoch = 1; outcome = None }); sent = [] })
+first_epoch : open_over 500 (record { sequence = 0; epoch = 0; outcome = None; saved = [] }) ≡
+    Does (record { after = first; commits = Some (record { sequence = 1; epoch = 1; outcome = None; saved = [] }); sent = [] })
 first_epoch = refl
 
-last_epoch : (o : Option Outcome) → open_over 500 (record { sequence = 5; epoch = 2 ^ 63 - 1; outcome = o }) ≡ Refused error.Spent
+last_epoch : (o : Option Outcome) → open_over 500 (record { sequence = 5; epoch = 2 ^ 63 - 1; outcome = o; saved = [] }) ≡ Refused error.Spent
 last_epoch o = refl
 
-last_commit : (o : Option Outcome) → open_over 500 (record { sequence = 2 ^ 64 - 1; epoch = 5; outcome = o }) ≡ Refused error.Spent
+last_commit : (o : Option Outcome) → open_over 500 (record { sequence = 2 ^ 64 - 1; epoch = 5; outcome = o; saved = [] }) ≡ Refused error.Spent
 last_commit o = refl
 
 -- a byte is no packet; a stopped clearinghouse doesn't look at it
@@ -114,7 +114,7 @@ abbrev acknowledged : ℕ → ℕ → Event
 acknowledged i number = to i (body.ResultAck (record { grant = root number }))
 
 abbrev found : ℕ → Kept
-found sequence = record { sequence = sequence; epoch = 1; outcome = Some (Value (pos 1)) }
+found sequence = record { sequence = sequence; epoch = 1; outcome = Some (Value (pos 1)); saved = [] }
 
 abbrev alone : List Call
 alone = join 3 ∷ ask 3 1 ∷ result 3 1 ∷ []

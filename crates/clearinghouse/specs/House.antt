@@ -6,20 +6,23 @@ use Rattle.ids.specs.Names.{Grant, grant_cmp, house_of}
 use Rattle.ids.specs.declared.member.Member.{Member}
 use Rattle.ids.specs.declared.outcome.Outcome.{Outcome}
 use Rattle.codec.specs.declared.body.Roster.{Roster}
+use Rattle.saved_values.specs.declared.value.SavedValue.{SavedValue}
 use Rattle.steal_protocol.specs.declared.replies.Reply.{Reply}
 use Rattle.clearinghouse.specs.declared.parts.Enlisted.{Enlisted}
 use Rattle.clearinghouse.specs.declared.parts.RootGrant.{RootGrant}
 use Rattle.clearinghouse.specs.declared.parts.Stop.{Stop}
 
--- what the checkpoint of a job keeps: the count of its commits, the last epoch that began, and the outcome once there is one
+-- what the checkpoint of a job keeps: the count of its commits, the last epoch that began, the outcome once there is one, and the values
+-- that are saved
 pub record Kept : Type 0 where
   pub sequence : ℕ
   pub epoch : ℕ
   pub outcome : Option Outcome
+  pub saved : List SavedValue
 
 -- an open clearinghouse: its epoch; the version of its roster, and the workers on it by rising incarnation; the last moment that
 -- it was told, and how long a member may be silent; the root's grant while it is out, and how many grants were minted; the last
--- answer to each thief; the outcome; and the count of its checkpoint's commits
+-- answer to each thief; the outcome; the count of its checkpoint's commits; and the values that are saved
 pub record HouseOf : Type 0 where
   pub epoch : ℕ
   pub version : ℕ
@@ -31,6 +34,7 @@ pub record HouseOf : Type 0 where
   pub replies : List Reply
   pub outcome : Option Outcome
   pub sequence : ℕ
+  pub saved : List SavedValue
 
 -- a clearinghouse is open until a call stops it
 pub data State : Type 0 where
@@ -54,11 +58,12 @@ opened limit k = record {
   replies = [];
   outcome = k.outcome;
   sequence = k.sequence;
+  saved = k.saved;
 }
 
 -- what it keeps in its checkpoint
 abbrev pub kept_of : HouseOf → Kept
-kept_of h = record { sequence = h.sequence; epoch = h.epoch; outcome = h.outcome }
+kept_of h = record { sequence = h.sequence; epoch = h.epoch; outcome = h.outcome; saved = h.saved }
 
 -- what it tells of a worker, and its roster
 abbrev pub name_of_enlisted : Enlisted → Name

@@ -15,6 +15,7 @@ use ids::{
     Actor, Count, Epoch, GrantId, Incarnation, ItemChange, Listed, Member, Outcome, SortedMap,
     Status,
 };
+use saved_values::SavedTable;
 use std::alloc::{AllocError, Global};
 use std::marker::Model;
 use steal_protocol::Replies;
@@ -32,6 +33,7 @@ pub struct Book {
     pub replies: Replies,
     pub outcome: Option<Outcome>,
     pub sequence: u64,
+    pub saved: SavedTable,
 }
 
 impl Model for Book {
@@ -50,6 +52,7 @@ impl Model for Book {
       replies = b.replies;
       outcome = b.outcome;
       sequence = b.sequence;
+      saved = b.saved;
     } };
 }
 
@@ -140,8 +143,14 @@ impl Book {
         limit: u64,
         outcome: Option<Outcome>,
         sequence: u64,
+        saved: SavedTable,
     ) -> Book
-        ensures { result ≡ opened limit (record { sequence = sequence; epoch = epoch; outcome = outcome }) }
+        ensures { result ≡ opened limit (record {
+          sequence = sequence;
+          epoch = epoch;
+          outcome = outcome;
+          saved = saved;
+        }) }
     {
         Book {
             epoch,
@@ -154,6 +163,7 @@ impl Book {
             replies: Replies::new(alloc),
             outcome,
             sequence,
+            saved,
         }
     }
 

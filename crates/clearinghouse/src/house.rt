@@ -3,13 +3,12 @@ ghost use Rattle.std.specs.Prelude.{◌≡◌, ◌⊎◌, ◌+◌, ◌<◌, ◌^
 ghost use Rattle.disk.specs.Device.{armed};
 ghost use Rattle.disk.specs.File.{bytes_of};
 ghost use Rattle.checkpoint.specs.Commit.{next_of};
-ghost use Rattle.checkpoint.specs.Moments.{KeepsEither};
-ghost use Rattle.checkpoint.specs.Store.{KeepsRecord, ReadsAsStore};
+ghost use Rattle.checkpoint.specs.Store.{KeepsContent, KeepsRecord, ReadsAsStore};
 ghost use Rattle.checkpoint.specs.declared.record.CheckpointRecord.{CheckpointRecord as Stored};
 ghost use Rattle.clearinghouse.specs.Calls as calls;
 ghost use Rattle.clearinghouse.specs.Errors.{error_of_stop};
 ghost use Rattle.clearinghouse.specs.House.{Stopped};
-ghost use Rattle.clearinghouse.specs.Meeting.{Committed, Halted, IsOpened, IsRefusedOver, HouseMeets};
+ghost use Rattle.clearinghouse.specs.Meeting.{Committed, Halted, IsFoundFor, IsOpened, IsRefusedOver, HouseMeets, KeepsOneOf};
 ghost use Rattle.clearinghouse.specs.declared.parts.Stop.{Stop as StopOf};
 
 use crate::book::Book;
@@ -73,15 +72,15 @@ impl<'a, D: Disk> House<'a, D> {
     /// Opens the clearinghouse of a job over its checkpoint, and commits a new epoch: nobody is listed, and the root isn't
     /// granted. `limit` is how long a member may be silent. Refused, it gives the disk back, in this order: E72; E71 for a file
     /// that doesn't begin as a checkpoint; E73 for another version; E71 for one that is none; E70 for another job; E62 where the
-    /// epochs or the commits are spent; E72 where a call of the commit failed. Takes no memory but for what it reads.
+    /// epochs or the commits are spent, before anything is written; E72 where a call of the commit failed, or one by which a checkpoint of
+    /// the older form becomes one of the newer form. Takes no memory but for what it reads.
     pub fn open(
         alloc: Global,
         disk: D,
         job: &'a Job,
         limit: u64,
     ) -> Result<House<'a, D>, (HouseError, D)>
-        ensures opened { IfOk result (λ h. (n : ℕ) × (r : Stored)
-            × IsOpened D.device D.planned job.now limit disk n r h) }
+        ensures opened { IfOk result (λ h. IsOpened D.device D.planned job.now limit disk h) }
         ensures refused { IfErr result (λ e. IsRefusedOver D.device D.planned e.0 job.now disk e.1) }
 
         // Where a store of this job is read, it is opened, or the device failed, or no epoch or commit is left.
@@ -90,25 +89,11 @@ impl<'a, D: Disk> House<'a, D> {
             → (e.0 ≡ HouseError.Device) ⊎ (e.0 ≡ HouseError.Spent)) }
         // Where whatever a crash leaves has one current record, it has that one or the one of the new epoch.
         ensures kept_back { IfErr result (λ e. (n : ℕ) (r : Stored) → KeepsRecord (D.device disk).file n r
-            → KeepsEither (D.device e.1).file n r (next_of r (r.epoch + 1) r.outcome)) }
+            → KeepsOneOf (D.device e.1).file r (next_of r (r.epoch + 1) r.outcome)) }
     {
-        let mut store = match Store::open(alloc, disk, job.number()) {
-            Ok(store) => store,
-            Err((fault, disk)) => return Err((HouseError::from(fault), disk)),
-        };
-        let kept = store.record();
-        let Some(epoch) = kept.epoch.next() else {
-            return Err((HouseError::Spent, store.into_disk()));
-        };
-        let sequence = store.sequence();
-        match store.commit(LastEpoch::at(epoch), kept.outcome) {
-            Ok(()) => Ok(House {
-                job,
-                book: Book::opened(alloc, epoch, limit, kept.outcome, sequence + 1),
-                store,
-                stop: None,
-            }),
-            Err(fault) => Err((HouseError::from(fault), store.into_disk())),
+        match open_store(alloc, disk, job) {
+            Ok((store, epoch)) => begin_epoch(alloc, store, epoch, job, limit),
+            Err(refused) => Err(refused),
         }
     }
 
@@ -211,6 +196,68 @@ impl<'a, D: Disk> House<'a, D> {
         ensures { result ≡ (D.device self.now.store.disk).can_cut }
     {
         self.store.can_cut()
+    }
+}
+
+/// The store of a job, opened, and the epoch that can begin.
+fn open_store<D: Disk>(
+    alloc: Global,
+    disk: D,
+    job: &Job,
+) -> Result<(Store<D>, Epoch), (HouseError, D)>
+    ensures found { IfOk result (λ x. IsFoundFor D.device D.planned job.now disk x.0 x.1) }
+    ensures refused { IfErr result (λ e. IsRefusedOver D.device D.planned e.0 job.now disk e.1) }
+    ensures alone { IfErr result (λ e. (n : ℕ) (r : Stored)
+        → ReadsAsStore (bytes_of (D.device disk).file) n r → r.job ≡ job.now.number
+        → (e.0 ≡ HouseError.Device) ⊎ (e.0 ≡ HouseError.Spent)) }
+    ensures kept_back { IfErr result (λ e. (n : ℕ) (r : Stored) → KeepsRecord (D.device disk).file n r
+        → KeepsContent (D.device e.1).file r) }
+{
+    let looked = match Store::look(alloc, disk, job.number()) {
+        Ok(looked) => looked,
+        Err((fault, disk)) => return Err((HouseError::from(fault), disk)),
+    };
+    let _sequence = looked.sequence();
+    let Some(epoch) = looked.record().epoch.next() else {
+        return Err((HouseError::Spent, looked.into_disk()));
+    };
+    match looked.open() {
+        Ok(store) => Ok((store, epoch)),
+        Err((fault, disk)) => Err((HouseError::from(fault), disk)),
+    }
+}
+
+/// Commits a new epoch of a job, over its store.
+fn begin_epoch<'a, D: Disk>(
+    alloc: Global,
+    store: Store<D>,
+    epoch: Epoch,
+    job: &'a Job,
+    limit: u64,
+) -> Result<House<'a, D>, (HouseError, D)>
+    requires own { store.record.job ≡ job.now.number }
+    ensures opened { IfOk result (λ h. (disk : D) → IsFoundFor D.device D.planned job.now disk store epoch
+        → IsOpened D.device D.planned job.now limit disk h) }
+    ensures refused { IfErr result (λ e. (disk : D) → IsFoundFor D.device D.planned job.now disk store epoch
+        → IsRefusedOver D.device D.planned e.0 job.now disk e.1) }
+    ensures alone { IfErr result (λ e. (e.0 ≡ HouseError.Device) ⊎ (e.0 ≡ HouseError.Spent)) }
+    ensures kept_back { IfErr result (λ e. (disk : D) → IsFoundFor D.device D.planned job.now disk store epoch
+        → (n : ℕ) (r : Stored) → KeepsRecord (D.device disk).file n r
+        → KeepsOneOf (D.device e.1).file r (next_of r (r.epoch + 1) r.outcome)) }
+{
+    let mut store = store;
+    let sequence = store.sequence();
+    let kept = store.record();
+    let outcome = kept.outcome;
+    let saved = kept.saved.copied();
+    match store.commit(LastEpoch::at(epoch), outcome) {
+        Ok(()) => Ok(House {
+            job,
+            book: Book::opened(alloc, epoch, limit, outcome, sequence + 1, saved),
+            store,
+            stop: None,
+        }),
+        Err(fault) => Err((HouseError::from(fault), store.into_disk())),
     }
 }
 

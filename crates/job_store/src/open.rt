@@ -1,4 +1,4 @@
-ghost use Rattle.std.specs.Prelude.{◌≡◌, ◌≢◌, false, [], IfErr, IfOk};
+ghost use Rattle.std.specs.Prelude.{◌≡◌, ◌≢◌, ℕ, false, [], IfErr, IfOk};
 ghost use Rattle.disk.specs.Crash.{Only};
 ghost use Rattle.disk.specs.File.{CrashLeaves, bytes_of};
 ghost use Rattle.checkpoint.specs.Format.{fresh};
@@ -10,13 +10,14 @@ use disk::Disk;
 use std::alloc::Global;
 
 /// Opens the store of a job on a disk; where the disk is empty, it is made first. Refused, it gives the disk back, in this order: E72; E71 for
-/// a file that doesn't begin as a store; E73 for another version; E71 for one that is no store; E70 for another job. Nothing is written where
-/// a file is there.
+/// a file that doesn't begin as a store; E73 for another version; E71 for one that is no store; E70 for another job; E62 where the sequence of
+/// one of the older form is spent; E72. Where a file is there, nothing is written but what makes a store of the older form one of the newer
+/// form.
 pub fn open_store<D: Disk>(alloc: Global, disk: D, job: u64) -> Result<Store<D>, (StoreError, D)>
     ensures opened { IfOk result (λ s. (s.ended ≡ false) × (s.record.job ≡ job)) }
     ensures made { IfOk result (λ s. bytes_of (D.device disk).file ≡ [] → s.record ≡ fresh job) }
     ensures found { IfOk result (λ s. bytes_of (D.device disk).file ≢ []
-        → ReadsAsStore (bytes_of (D.device disk).file) s.sequence s.record) }
+        → (n : ℕ) × ReadsAsStore (bytes_of (D.device disk).file) n s.record) }
 
     // Where a crash leaves what a read gives, it has the store's record, whatever a crash leaves.
     ensures kept { IfOk result (λ s. Only (bytes_of (D.device disk).file) (CrashLeaves (D.device disk).file)

@@ -53,8 +53,8 @@ pub fn write_found(out: &mut Answers, outcome: Option<Outcome>) {
     }
 }
 
-/// Writes a record, and its sequence.
-pub fn write_kept(out: &mut Answers, kept: CheckpointRecord, sequence: u64) {
+/// Writes a record, its sequence, and how many values are saved.
+pub fn write_kept(out: &mut Answers, kept: &CheckpointRecord, sequence: u64) {
     out.text("> record job=");
     out.number(kept.job);
     out.text(" epoch=");
@@ -63,6 +63,8 @@ pub fn write_kept(out: &mut Answers, kept: CheckpointRecord, sequence: u64) {
     write_found(out, kept.outcome);
     out.text(" sequence=");
     out.number(sequence);
+    out.text(" saved=");
+    out.number(kept.saved.as_slice().len() as u64);
     out.end();
 }
 

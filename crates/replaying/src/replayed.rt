@@ -5,7 +5,7 @@ use crate::fault::ReplayFault;
 use serial_meaning::{Job, Outcome};
 use std::alloc::Global;
 use std::io::{self, Write};
-use world::{RunCounts, Watch, replay_watched};
+use world::{RunCounts, RunEnd, Watch, replay_watched};
 
 /// What a run came to: how many events were carried out, how many packets were sent, how many values were put into slots, the
 /// outcome that an open clearinghouse has recorded, and what was counted.
@@ -29,16 +29,20 @@ pub fn replay_script<W: Watch>(
     ensures run { IfOk result (λ r. IsReplayOf job.now script.now r) }
     ensures refused { IfErr result (IsScriptRefusal script.now) }
 {
-    let end = replay_watched(alloc, job, script, watch)?;
-    if end.stopped.is_some() {
+    let RunEnd {
+        world,
+        done,
+        stopped,
+    } = replay_watched(alloc, job, script, watch)?;
+    if stopped.is_some() {
         return Err(ReplayFault::Memory);
     }
     Ok(Replayed {
-        events: end.done,
-        packets: end.world.packets(),
-        fills: end.world.fills(),
-        outcome: end.world.outcome(),
-        counts: *end.world.counts(),
+        events: done,
+        packets: world.packets(),
+        fills: world.fills(),
+        outcome: world.outcome(),
+        counts: *world.counts(),
     })
 }
 

@@ -7,6 +7,7 @@ use Rattle.checkpoint.specs.declared.record.CheckpointRecord.{CheckpointRecord}
 use Rattle.checkpoint.specs.declared.record.StoreError.{StoreError}
 use Rattle.checkpoint.specs.declared.record.StoreError.TheVariants.{Spent, JobMismatch, Damaged, Device, Version}
 use Rattle.checkpoint.proofs.Opened.{one_kept}
+use Rattle.checkpoint.proofs.Reading.{version_of}
 use Rattle.serial_meaning.specs.Job.{JobOf, IsJob}
 use Rattle.clearinghouse.specs.Errors.{error_of_store}
 use Rattle.clearinghouse.specs.House.{Open, Stopped}
@@ -39,15 +40,15 @@ stopped_finds (House e sent outcome) f = f
 module _ (job : JobOf) (v : View) (w : WorldOf) (disk : DiskShown job v w.disk w.house) where
   -- the file reads as what is kept
   reads : ReadsAsStore (bytes_of w.disk.file) disk.sequence disk.found
-  reads = (disk.keeps.second, disk.keeps.each (bytes_of w.disk.file) (crash-leaves-bytes_of w.disk.file))
+  reads = (disk.keeps.slot, disk.keeps.each (bytes_of w.disk.file) (crash-leaves-bytes_of w.disk.file))
 
   not_refused : (s : StoreError) → IsRefused s (bytes_of w.disk.file) job.number → finds_none (Some (error_of_store s)) ≡ false
-  not_refused Version (named, other) = absurd (other reads.1.version)
+  not_refused Version (named, other) = absurd (other (version_of (bytes_of w.disk.file) disk.keeps.slot disk.sequence disk.found (disk.keeps.each (bytes_of w.disk.file) (crash-leaves-bytes_of w.disk.file))))
   not_refused Damaged (known, none) = absurd (none disk.sequence disk.found reads)
   not_refused JobMismatch (n, r, read, other) =
       let one = one_kept w.disk.file read.0 n disk.sequence r disk.found read.1 disk.keeps in
       absurd (other (ap (λ (x : CheckpointRecord). x.job) one.1 ∙ disk.own))
-  not_refused Spent never = absurd never
+  not_refused Spent spent = refl
   not_refused Device never = absurd never
 
   refused_finds : (e : HouseError) → IsRefusedAs job w.disk e → finds_none (Some e) ≡ false
@@ -98,8 +99,8 @@ module _ (job : JobOf) (v : View) (w : WorldOf) (disk : DiskShown job v w.disk w
   at_cut_fails : (c : CutOf) (o : StepResult) (e : HouseEvent) → c.event ≡ e → DeviceFails job (Cut c) w o → FindsAt e o.answer
   at_cut_fails c o (Deliver i) is fails = tt
   at_cut_fails c o (Tick now) is fails = tt
-  at_cut_fails c o Restart is (can, opens, some, (before, halts, after)) =
-      rw after (stopped_finds before.answer (halts_find w.house 0 c.bytes before (subst (λ (e : HouseEvent). HouseHalts job e w.house 0 c.bytes w before) is halts)))
+  at_cut_fails c o Restart is (can, opens, k, first, some, (before, halts, after)) =
+      rw after (stopped_finds before.answer (halts_find w.house k c.bytes before (subst (λ (e : HouseEvent). HouseHalts job e w.house k c.bytes w before) is halts)))
 
   step_finds : (e : Event) (o : StepResult) → Step job e w o → OpeningFinds e o.answer
   step_finds (Start p word) o step = tt

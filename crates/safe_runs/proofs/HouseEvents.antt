@@ -1,5 +1,5 @@
 -- Each event of the clearinghouse keeps a world tied: it ends, or a call of the disk fails in it.
-use Rattle.std.proofs.Common.{◌≡◌, ◌<◌, ◌⊎◌, ℕ, List, [], ◌++◌, length, inl, inr, Option, None, Some, slice_get, refl, sym, subst}
+use Rattle.std.proofs.Common.{◌≡◌, ◌<◌, ℕ, List, [], ◌++◌, length, inl, inr, Option, None, Some, slice_get, refl, sym, subst}
 use Rattle.codec.specs.Table.{PacketOf}
 use Rattle.disk.specs.Device.{Device}
 use Rattle.checkpoint.specs.Commit.{opening}
@@ -20,13 +20,13 @@ use Rattle.house_moves.specs.Steps.{HouseAnswerShown, HouseStepShown}
 use Rattle.house_moves.proofs.Moments.{passes_shown}
 use Rattle.house_moves.proofs.Table.{packet_shown}
 use Rattle.world_steps.specs.Answers.{StepResult, house_same}
-use Rattle.world_steps.specs.Houses.{Ends, Halts, Opens, RestartHalts, Restarts, calls_of, halted, made}
+use Rattle.world_steps.specs.Houses.{Ends, Halts, IsAttempt, RestartHalts, Restarts, calls_of, halted, made}
 use Rattle.world_steps.specs.Steps.{HouseEnds, HouseHalts}
 use Rattle.world_steps.specs.World.{Down, HouseAt, IsUp, WorldOf}
 use Rattle.safe_runs.specs.Shown.{Closed, DiskShown, HouseShown, TiedSince}
 use Rattle.safe_runs.proofs.Disks.{read_fails, read_keeps}
 use Rattle.safe_runs.proofs.Housing.{own, stepped_tied}
-use Rattle.safe_runs.proofs.Opening.{half_opened, opened_tied}
+use Rattle.safe_runs.proofs.Opening.{half_opened, half_read, opened_tied}
 use Rattle.safe_runs.proofs.Stopping.{IsShut, is_down, is_stopped, halted_tied, net_as, same_record, shut_tied, shuts}
 
 module _ (job : JobOf) (base : View) (w : WorldOf) (tied : TiedSince job base w) where
@@ -101,9 +101,10 @@ module _ (job : JobOf) (base : View) (w : WorldOf) (tied : TiedSince job base w)
         stops : (d : Device) → DiskShown job v d Down → TiedSince job base (record w { house = IsUp (Stopped by.Device); disk = d; net = w.net ++ [] })
         stops d disk = net_as job base w (IsUp (Stopped by.Device)) d (shuts job base v w tied.run tied.since tied.shown (IsUp (Stopped by.Device)) d (is_stopped by.Device) disk)
 
-        by_calls : ((calls ≡ opening) ⊎ ((way : Opens job w.disk) × (calls ≡ calls_of way))) → TiedSince job base (record w { house = IsUp (Stopped by.Device); disk = halted w.disk calls k bytes; net = w.net ++ [] })
+        by_calls : IsAttempt job w.disk calls → TiedSince job base (record w { house = IsUp (Stopped by.Device); disk = halted w.disk calls k bytes; net = w.net ++ [] })
         by_calls (inl reads) = stops (halted w.disk calls k bytes) (same_record job v w.disk (halted w.disk calls k bytes) w.house (λ n r kept. (let one : k < length opening = rw reads at within in rw reads (read_fails w.disk n r kept bytes k one))) tied.shown.disk)
-        by_calls (inr (way, opens)) = stops (halted w.disk calls k bytes) (let some : k < length (calls_of way) = rw opens at within in rw opens (half_opened job base v w tied.run tied.since tied.shown closed way k bytes some))
+        by_calls (inr (inl (way, opens))) = stops (halted w.disk calls k bytes) (let some : k < length way.opens = rw opens at within in rw opens (half_read job v w tied.shown way k bytes some))
+        by_calls (inr (inr (way, opens))) = stops (halted w.disk calls k bytes) (let some : k < length (calls_of way) = rw opens at within in rw opens (half_opened job base v w tied.run tied.since tied.shown closed way k bytes some))
 
   -- an event that ends, wherever the clearinghouse stands
   pub house_ends : (e : HouseEvent) (x : HouseAt) → w.house ≡ x → (o : StepResult) → HouseEnds job e x w o → TiedSince job base o.world

@@ -1,13 +1,14 @@
 -- The clearinghouse opens over its disk: in the epoch after the last one that was committed, with nobody listed.
 use Rattle.std.proofs.Common.{◌≡◌, ◌+◌, ◌<◌, ◌≤◌, ℕ, Bool, true, false, cond, List, [], ◌∷◌, ◌++◌, length, inl, inr, ⊎_elim, None, refl, sym, ap, ◌∙◌, arith}
+use Rattle.disk.specs.Device.{Device}
 use Rattle.checkpoint.specs.Store.{KeepsRecord}
 use Rattle.checkpoint.specs.declared.record.CheckpointRecord.{CheckpointRecord}
 use Rattle.checkpoint.proofs.Opened.{one_kept}
 use Rattle.serial_meaning.specs.Job.{JobOf}
 use Rattle.node_state.specs.Node.{NodeOf}
-use Rattle.clearinghouse.specs.Calls.{begins, next_epoch}
+use Rattle.clearinghouse.specs.Calls.{begins}
 use Rattle.clearinghouse.specs.House.{HouseOf, Kept, Open, name_of}
-use Rattle.clearinghouse.specs.Meeting.{kept_in, record_of}
+use Rattle.clearinghouse.specs.Meeting.{Openable, begun_of, record_of}
 use Rattle.clearinghouse.proofs.Keeping.{opened_house}
 use Rattle.run_tables.specs.Tables.{◌∈◌}
 use Rattle.run_tables.specs.View.{Gone, Joining, Member, House, Leaving, Mode, Works, View}
@@ -30,7 +31,7 @@ use Rattle.house_moves.specs.Steps.{tables_meaning}
 use Rattle.world_steps.specs.Houses.{Opens, calls_of, halted, made, silence}
 use Rattle.world_steps.specs.World.{Down, IsUp, WorldOf}
 use Rattle.safe_runs.specs.Shown.{UpAt, Closed, DiskShown, Shown, TiedSince}
-use Rattle.safe_runs.proofs.Disks.{opening_committed, opening_cut_off}
+use Rattle.safe_runs.proofs.Disks.{opening_committed, opening_cut_off, opens_cut_off}
 use Rattle.safe_runs.proofs.Housing.{kept_as, open_disk}
 
 -- who is lost to a new epoch: all that were used and don't join
@@ -74,14 +75,8 @@ lost_all v (k ∷ js) j m not = by_mode (λ x. lost_all v js j x not) (joins (v.
     by_mode rest false e (inl same) = inl same
     by_mode rest false e (inr m) = inr (rest m)
 
-module _ (job : JobOf) (base v : View) (w : WorldOf) (run : Run (tables_meaning job) v) (since : Leads base v) (shown : Shown job v w) (closed : Closed v) (way : Opens job w.disk) where
-  -- what is read is what is kept
-  abbrev read : Kept
-  read = kept_in way.sequence way.found
-
-  abbrev next : Kept
-  next = next_epoch read
-
+-- what is read is what is kept
+module _ (job : JobOf) (v : View) (w : WorldOf) (shown : Shown job v w) (way : Openable job w.disk) where
   agrees : (way.sequence ≡ shown.disk.sequence) × (way.found ≡ shown.disk.found)
   agrees = one_kept w.disk.file way.reads.0 way.sequence shown.disk.sequence way.found shown.disk.found way.reads.1 shown.disk.keeps
 
@@ -94,12 +89,29 @@ module _ (job : JobOf) (base v : View) (w : WorldOf) (run : Run (tables_meaning 
   pub read_epoch : v.epoch ≤ way.found.epoch
   read_epoch = let old = shown.disk.epoch in rw agrees.1 old
 
+  -- a disk that keeps it, of whatever sequence
+  still_shown : (d : Device) (m : ℕ) → KeepsRecord d.file m way.found → DiskShown job v d Down
+  still_shown d m keeps = record { sequence = m; found = way.found; keeps = keeps; own = way.own; stored = read_stored; epoch = read_epoch; held = tt }
+
+  -- one of the calls by which the store is opened failed
+  pub half_read : (k : ℕ) (bytes : List ℕ) → k < length way.opens → DiskShown job v (halted w.disk way.opens k bytes) Down
+  half_read k bytes within =
+      let kept = opens_cut_off w.disk way.sequence way.found read_kept way.counts way.opens way.opening k bytes within in
+      still_shown (halted w.disk way.opens k bytes) kept.0 kept.1
+
+module _ (job : JobOf) (base v : View) (w : WorldOf) (run : Run (tables_meaning job) v) (since : Leads base v) (shown : Shown job v w) (closed : Closed v) (opens : Opens job w.disk) where
+  abbrev way : Openable job w.disk
+  way = opens.way
+
+  abbrev next : Kept
+  next = begun_of way
+
   -- one of the calls failed
-  pub half_opened : (k : ℕ) (bytes : List ℕ) → k < length (calls_of way) → DiskShown job v (halted w.disk (calls_of way) k bytes) Down
+  pub half_opened : (k : ℕ) (bytes : List ℕ) → k < length (calls_of opens) → DiskShown job v (halted w.disk (calls_of opens) k bytes) Down
   half_opened k bytes within = ⊎_elim
-      (λ old. record { sequence = way.sequence; found = way.found; keeps = old; own = way.own; stored = read_stored; epoch = read_epoch; held = tt })
-      (λ new. record { sequence = way.sequence + 1; found = record_of job next; keeps = new; own = refl; stored = read_stored; epoch = let e = read_epoch in omega (arith, e); held = tt })
-      (opening_cut_off w.disk way.sequence way.found read_kept (record_of job next) way.calls way.commit k bytes within)
+      (λ old. still_shown job v w shown way (halted w.disk (calls_of opens) k bytes) old.0 old.1)
+      (λ new. record { sequence = way.counts + 1; found = record_of job next; keeps = new; own = refl; stored = read_stored job v w shown way; epoch = let e = read_epoch job v w shown way in omega (arith, e); held = tt })
+      (opening_cut_off w.disk way.sequence way.found (read_kept job v w shown way) way.counts way.opens way.opening (record_of job next) opens.calls opens.commit k bytes within)
 
   -- all passed
   abbrev new : HouseOf
@@ -115,7 +127,7 @@ module _ (job : JobOf) (base v : View) (w : WorldOf) (run : Run (tables_meaning 
   lost = without_joining v v.used
 
   later : v.epoch < way.found.epoch + 1
-  later = let e = read_epoch in omega (arith, e)
+  later = let e = read_epoch job v w shown way in omega (arith, e)
 
   may : MayOpen v i lost roster
   may =
@@ -153,7 +165,7 @@ module _ (job : JobOf) (base v : View) (w : WorldOf) (run : Run (tables_meaning 
     replies = λ t. rw (clear_here v.kept i t) tt;
     said = λ t r e. cc;
     root = tt;
-    stored = read_stored;
+    stored = read_stored job v w shown way;
     epoch = refl;
     only = λ j e. ⊎_elim (λ (same : j ≡ i). same) (λ (apart : j ≡ i → ⊥). absurd (closed.nobody j (sym (others j apart).mode ∙ e))) (same_or j i);
   }
@@ -161,7 +173,7 @@ module _ (job : JobOf) (base v : View) (w : WorldOf) (run : Run (tables_meaning 
   no_worker : (n : NodeOf) → of_worker n.incarnation ≡ true → n.incarnation ≡ i → ⊥
   no_worker n worker e = let house : of_worker n.incarnation ≡ false = rw e (house_named (way.found.epoch + 1)) in let two : true ≡ false = sym worker ∙ house in cc
 
-  pub opened_tied : TiedSince job base (record w { house = IsUp (Open new); disk = made w.disk (calls_of way); net = w.net ++ [] })
+  pub opened_tied : TiedSince job base (record w { house = IsUp (Open new); disk = made w.disk (calls_of opens); net = w.net ++ [] })
   unfolding act
   opened_tied =
       let keeps : KeepsSent v x = keeps_one act in
@@ -186,7 +198,7 @@ module _ (job : JobOf) (base v : View) (w : WorldOf) (run : Run (tables_meaning 
               (λ old. shown.words j old of)
               m;
           house = record { shown = own; sound = opened_house silence next };
-          disk = open_disk job x new (made w.disk (calls_of way)) own (opening_committed w.disk way.sequence way.found read_kept (record_of job next) way.calls way.commit);
+          disk = open_disk job x new (made w.disk (calls_of opens)) own (opening_committed w.disk way.sequence way.found (read_kept job v w shown way) way.counts way.opens way.opening (record_of job next) opens.calls opens.commit);
           net = both_shown x w.net [] (all_shown keeps w.net shown.net) (none_shown x);
           sent = λ t m. sent_early w.net [] t (shown.sent t m);
           fills = shown.fills;

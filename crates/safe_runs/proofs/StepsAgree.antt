@@ -5,10 +5,10 @@ use Rattle.codec.specs.declared.body.Body.{Body}
 use Rattle.codec.specs.declared.body.Body.TheVariants as body
 use Rattle.disk.specs.Device.{Device}
 use Rattle.serial_meaning.specs.Job.{JobOf, IsJob}
-use Rattle.clearinghouse.specs.Calls.{begins, next_epoch, passes}
+use Rattle.clearinghouse.specs.Calls.{begins, passes}
 use Rattle.clearinghouse.specs.Cases as house_cases
 use Rattle.clearinghouse.specs.House.{HouseOf, Open, Stopped}
-use Rattle.clearinghouse.specs.Meeting.{kept_in}
+use Rattle.clearinghouse.specs.Meeting.{begun_of}
 use Rattle.clearinghouse.specs.Steps as house
 use Rattle.clearinghouse.specs.declared.parts.Stop.TheVariants as by
 use Rattle.node_state.specs.Node.{NodeOf, by_state}
@@ -185,7 +185,7 @@ module _ (job : JobOf) (w : WorldOf) (ok : IsJob job) (tied : Tied job w) (right
 
   -- an opening begins with no answers
   restarts_right : (o : StepResult) → Restarts job w o → WorldIsRight job o.world
-  restarts_right o (inl (way, e)) = rw e (housed job w right (IsUp (Open (begins silence (next_epoch (kept_in way.sequence way.found))).after)) _ [] (λ r m. absurd m) (none_sent job))
+  restarts_right o (inl (way, e)) = rw e (housed job w right (IsUp (Open (begins silence (begun_of way.way)).after)) _ [] (λ r m. absurd m) (none_sent job))
   restarts_right o (inr (f, refused, e)) = rw e (shut job w right w.house _ right.house)
 
   restart_halts_right : (k : ℕ) (bytes : List ℕ) (o : StepResult) → RestartHalts job k bytes w o → WorldIsRight job o.world

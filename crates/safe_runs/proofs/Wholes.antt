@@ -399,7 +399,7 @@ module _ (job : JobOf) (ok : IsJob job) (base : View) (v : WorldOf) (single : On
   whole_step HouseCrash o (inl is) = rw is (falls_sound v.house refl)
   whole_step (Cut c) o (inl is_cut) = cut_sound c o is_cut
   whole_step (AtHouse e) o (inr (k, bytes, cause, halts)) = halts_sound e k bytes o halts
-  whole_step (Cut c) o (inr (can, restart, some, (before, halts, is))) = stopped_sound c.event 0 c.bytes before o halts is
+  whole_step (Cut c) o (inr (can, restart, k, first, some, (before, halts, is))) = stopped_sound c.event k c.bytes before o halts is
   whole_step HouseCrash o (inr never) = absurd never
   whole_step (Start a word) o (inr never) = absurd never
   whole_step (AtNode a e) o (inr never) = absurd never

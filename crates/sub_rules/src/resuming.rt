@@ -1,7 +1,6 @@
 //! Joins where values of kids are known.
-ghost use Rattle.std.specs.Prelude.{◌≡◌, ◌∷◌, IfOk, IsTrue};
+ghost use Rattle.std.specs.Prelude.{◌≡◌, ◌<◌, ◌^◌, ◌∷◌, Bool, true, IfOk, IsTrue};
 ghost use Rattle.sub_rules.specs.Resuming.{nothing_known, resumed_slot, resumed_slots};
-ghost use Rattle.std.specs.Prelude.{◌<◌, ◌^◌};
 ghost use Rattle.frames.specs.Frames.{AreBelow};
 ghost use Rattle.sub_rules.specs.Carrying.{within_numbers};
 ghost use Rattle.sub_rules.specs.Leaving.{LacksDebtor, join_left};
@@ -23,13 +22,17 @@ pub trait Knows {
 
     ghost known_of: { Self → Known };
 
+    /// Whether it says so where nothing is known.
+    ghost tells_nothing: { Self → Bool };
+
     /// The value of the kid of a hole, of the task at a place, if it is known. Takes no memory.
     fn value_at(&self, place: &Place, hole: u8) -> Option<i64>
         ensures { result ≡ known_of self.now (hole ∷ place.now) };
 
-    /// Whether nothing is known. Takes no memory.
+    /// Whether it says that nothing is known. Takes no memory.
     fn knows_nothing(&self) -> bool
-        ensures { IsTrue result → known_of self.now ≡ nothing_known };
+        ensures tells { result ≡ tells_nothing self.now }
+        ensures nothing { IsTrue result → known_of self.now ≡ nothing_known };
 }
 
 /// Who knows nothing.
@@ -38,6 +41,8 @@ pub struct NothingKnown;
 
 impl Knows for NothingKnown {
     ghost known_of = { λ _. nothing_known };
+
+    ghost tells_nothing = { λ _. true };
 
     fn value_at(&self, _place: &Place, _hole: u8) -> Option<i64> {
         None

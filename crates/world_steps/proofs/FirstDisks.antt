@@ -1,11 +1,12 @@
 -- What is found on a disk.
-use Rattle.std.proofs.Common.{◌≡◌, ◌≢◌, ℕ, Bool, IsTrue, true, false, List, [], Option, Result, Ok, Err, IfErr, ap, refl, ◌∙◌}
+use Rattle.std.proofs.Common.{◌≡◌, ◌≢◌, ℕ, Bool, IsTrue, true, false, List, [], Option, Result, Ok, Err, IfErr, ap, refl}
 use Rattle.ids.specs.declared.outcome.Outcome.{Outcome}
 use Rattle.disk.specs.Crash.{Only, Shrinks}
 use Rattle.disk.specs.Device.{Device, crashed}
 use Rattle.disk.specs.declared.cells.Cell.{Cell}
 use Rattle.disk.specs.File.{CrashLeaves, bytes_of}
 use Rattle.disk.proofs.Crashes.{crash-leaves-bytes_of}
+use Rattle.checkpoint.proofs.Opened.{new_kept}
 use Rattle.checkpoint.specs.Format.{fresh}
 use Rattle.checkpoint.specs.Store.{IsRefused, KeepsItself, Opened, ReadsAsStore}
 use Rattle.checkpoint.specs.declared.record.StoreError.{StoreError}
@@ -17,7 +18,7 @@ use Rattle.world_steps.proofs.Meeting.{keeps_less}
 
 -- a store that was opened over a settled disk, and whose disk was settled again
 pub kept_of : {D : Type 0} (device : D → Device) (old mid : Device) (number : ℕ) (s : Opened D) (disk : D) (o : Option Outcome) → Shrinks (CrashLeaves old.file) (CrashLeaves mid.file) → Only (bytes_of mid.file) (CrashLeaves mid.file)
-    → (bytes_of mid.file ≡ [] → s.«record» ≡ fresh number) → (bytes_of mid.file ≢ [] → ReadsAsStore (bytes_of mid.file) s.sequence s.«record») → (Only (bytes_of mid.file) (CrashLeaves mid.file) → KeepsItself device s)
+    → (bytes_of mid.file ≡ [] → s.«record» ≡ fresh number) → (bytes_of mid.file ≢ [] → (n : ℕ) × ReadsAsStore (bytes_of mid.file) n s.«record») → (Only (bytes_of mid.file) (CrashLeaves mid.file) → KeepsItself device s)
     → s.«record».job ≡ number → s.«record».outcome ≡ o → Shrinks (CrashLeaves (device s.disk).file) (CrashLeaves (device disk).file) → IsKeptOf old number o (device disk).file
 kept_of device old mid number s disk o left only made read kept own told less = record {
   content = bytes_of mid.file;
@@ -26,7 +27,7 @@ kept_of device old mid number s disk o left only made read kept own told less = 
   found = s.«record»;
   read = read;
   made = made;
-  kept = keeps_less (device s.disk).file (device disk).file s.sequence s.«record» less (kept only);
+  kept = keeps_less (device s.disk).file (device disk).file s.sequence s.«record» less (new_kept (kept only));
   own = own;
   told = told;
 }

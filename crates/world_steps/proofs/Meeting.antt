@@ -12,6 +12,7 @@ use Rattle.checkpoint.specs.Commit.{formatting}
 use Rattle.checkpoint.specs.Format.{IsFormatted, fresh}
 use Rattle.checkpoint.specs.Store.{KeepsRecord}
 use Rattle.checkpoint.specs.declared.record.CheckpointRecord.{CheckpointRecord}
+use Rattle.checkpoint.specs.declared.record.SlotId.TheVariants.{Large}
 use Rattle.event_script.specs.declared.event.Cut.{Cut as CutOf}
 use Rattle.serial_meaning.specs.Job.{JobOf}
 use Rattle.world_steps.specs.First.{IsFirst}
@@ -142,7 +143,7 @@ can_begin job d is = record {
   unarmed = is.unarmed;
   sequence = 0;
   found = fresh job.number;
-  kept = record { second = false; each = λ c crash. (is.formatted c crash).store };
+  kept = record { slot = Large false; each = λ c crash. (is.formatted c crash).store };
   own = refl;
   meant = λ o there. absurd (no_outcome o there);
 }
@@ -153,7 +154,7 @@ formatted_first job d still is = record {
   still = still;
   sequence = 0;
   found = fresh job.number;
-  kept = record { second = false; each = λ c crash. (is.formatted c crash).store };
+  kept = record { slot = Large false; each = λ c crash. (is.formatted c crash).store };
   own = refl;
   no_outcome = refl;
 }
@@ -171,4 +172,4 @@ first_can job d is = record {
 
 -- what a crash leaves of a disk of which less is left keeps its record
 pub keeps_less : (old new : List Cell) (n : ℕ) (r : CheckpointRecord) → Shrinks (CrashLeaves old) (CrashLeaves new) → KeepsRecord old n r → KeepsRecord new n r
-keeps_less old new n r less keeps = record { second = keeps.second; each = λ c h. keeps.each c (less c h) }
+keeps_less old new n r less keeps = record { slot = keeps.slot; each = λ c h. keeps.each c (less c h) }

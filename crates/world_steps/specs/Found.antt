@@ -12,14 +12,14 @@ use Rattle.serial_meaning.specs.Job.{JobOf}
 use Rattle.world_steps.specs.declared.first_disk.Found.{Found}
 use Rattle.world_steps.specs.declared.first_disk.Found.TheVariants.{Kept, Begins}
 
--- a file keeps the record that was read of one that a crash may leave of a disk, or that of a job that has just begun where that one
--- was empty; it is the job's, with this outcome or none
+-- a file keeps the record that was read of one that a crash may leave of a disk, of whatever sequence, or that of a job that has just
+-- begun where that one was empty; it is the job's, with this outcome or none
 pub record IsKeptOf (old : Device) (number : ℕ) (outcome : Option Outcome) (file : List Cell) : Type 0 where
   pub content : List ℕ
   pub left : CrashLeaves old.file content
   pub sequence : ℕ
   pub found : CheckpointRecord
-  pub read : content ≢ [] → ReadsAsStore content sequence found
+  pub read : content ≢ [] → (n : ℕ) × ReadsAsStore content n found
   pub made : content ≡ [] → found ≡ fresh number
   pub kept : KeepsRecord file sequence found
   pub own : found.job ≡ number

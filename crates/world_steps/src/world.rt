@@ -181,8 +181,8 @@ impl<'a, D: SteadyDisk + Drop> World<'a, D> {
 
     /// An event is carried out. For an Exec a turn may be at hand, of the job's program: one that is the ready frame's own, of its
     /// thread on its numbers, is used, and another one is put aside. What doesn't apply, or is refused, changes nothing. A device call
-    /// that fails stops the clearinghouse; only the read of an opening does by itself, when out of memory. E9 where the event finds
-    /// no memory: the world is as it was, but a clearinghouse that was to answer is stopped.
+    /// that fails stops the clearinghouse; by itself only one of an opening does, when out of memory. E9 where the event finds no memory:
+    /// the world is as it was, but a clearinghouse that was to answer is stopped.
     pub fn step(
         &mut self,
         alloc: Global,

@@ -2,7 +2,7 @@ use Rattle.std.proofs.Common.{ap, ◌∙◌}
 use Rattle.checkpoint.specs.Commit.{formatting}
 use Rattle.disk.specs.Device.{Device}
 use Rattle.job_store.proofs.Failing.{after_failures, failed_made, passed_opened, stopped_failed}
-use Rattle.job_store.proofs.Opening.{made_keeps, made_reads, opened_keeps, opened_made, refused_made}
+use Rattle.job_store.proofs.Opening.{made_keeps, opened_keeps, opened_made, refused_made}
 use Rattle.job_store.proofs.open.make_store.Goals as goal
 
 pub returns-in-Ok-clause-made : goal.returns-in-Ok-clause-made
@@ -17,8 +17,7 @@ returns-in-Ok-clause-kept g c =
 
 pub returns-in-Ok-clause-refused : goal.returns-in-Ok-clause-refused
 returns-in-Ok-clause-refused g c =
-    let reads = made_reads (g.D.Disk.device c.format.new.disk) c.args.job c.in-Ok.ensures.left in
-    refused_made (g.D.Disk.device c.format.new.disk) c.args.job c.open.result reads c.open.ensures.alone
+    refused_made g.D.Disk.device (g.D.Disk.device c.format.new.disk) (g.D.Disk.planned c.format.new.disk) c.args.job c.open.result c.in-Ok.ensures.left c.open.ensures.refused c.open.ensures.alone
 
 pub returns-in-Ok-clause-failed : goal.returns-in-Ok-clause-failed
 returns-in-Ok-clause-failed g c =
@@ -26,8 +25,7 @@ returns-in-Ok-clause-failed g c =
     let old = g.D.Disk.device c.args.disk in
     let mid = g.D.Disk.device c.format.new.disk in
     let same = ap (λ (x : Device). x.failures) passed.2.made ∙ after_failures (formatting passed.0) old in
-    let reads = made_reads mid c.args.job c.in-Ok.ensures.left in
-    failed_made g.D.Disk.device old mid (g.D.Disk.planned c.format.new.disk) c.open.result same (refused_made mid c.args.job c.open.result reads c.open.ensures.alone) c.open.ensures.stopped
+    failed_made g.D.Disk.device old mid (g.D.Disk.planned c.format.new.disk) c.open.result same (refused_made g.D.Disk.device mid (g.D.Disk.planned c.format.new.disk) c.args.job c.open.result c.in-Ok.ensures.left c.open.ensures.refused c.open.ensures.alone) c.open.ensures.stopped
 
 pub returns-in-Ok-clause-passed : goal.returns-in-Ok-clause-passed
 returns-in-Ok-clause-passed g c =
@@ -35,7 +33,7 @@ returns-in-Ok-clause-passed g c =
     let old = g.D.Disk.device c.args.disk in
     let mid = g.D.Disk.device c.format.new.disk in
     let same = ap (λ (x : Device). x.failures) passed.2.made ∙ after_failures (formatting passed.0) old in
-    passed_opened g.D.Disk.device old mid (g.D.Disk.planned c.format.new.disk) c.open.result same c.open.ensures.calls
+    passed_opened g.D.Disk.device g.D.Disk.planned old mid (g.D.Disk.planned c.format.new.disk) c.open.result same c.open.ensures.calls
 
 pub returns-in-Err-clause-failed : goal.returns-in-Err-clause-failed
 returns-in-Err-clause-failed g c =

@@ -11,12 +11,12 @@ returns-in-Ok-clause-found g c = found_made (bytes_of (g.D.Disk.device c.args.di
 pub returns-in-Ok-2-clause-found : goal.returns-in-Ok-2-clause-found
 returns-in-Ok-2-clause-found g c =
     let same = ap (λ (x : Device). x.file) c.in-Ok-2.ensures.ok in
-    opened_found g.D.Disk.device (g.D.Disk.device c.args.disk) (g.D.Disk.device c.read.new.self) (g.D.Disk.planned c.read.new.self) c.args.job c.open.result same c.open.ensures.opened c.open.ensures.calls
+    opened_found g.D.Disk.device g.D.Disk.planned (g.D.Disk.device c.args.disk) (g.D.Disk.device c.read.new.self) (g.D.Disk.planned c.read.new.self) same c.open.result c.open.ensures.calls
 
 pub returns-in-Ok-2-clause-kept : goal.returns-in-Ok-2-clause-kept
 returns-in-Ok-2-clause-kept g c =
     let same = ap (λ (x : Device). x.file) c.in-Ok-2.ensures.ok in
-    found_keeps g.D.Disk.device (g.D.Disk.device c.args.disk) (g.D.Disk.device c.read.new.self) (g.D.Disk.planned c.read.new.self) c.args.job c.open.result same c.open.ensures.opened c.open.ensures.calls c.open.ensures.kept
+    found_keeps g.D.Disk.device g.D.Disk.planned (g.D.Disk.device c.args.disk) (g.D.Disk.device c.read.new.self) (g.D.Disk.planned c.read.new.self) same c.open.result c.open.ensures.calls c.open.ensures.kept
 
 pub returns-in-Ok-2-clause-unchanged : goal.returns-in-Ok-2-clause-unchanged
 returns-in-Ok-2-clause-unchanged g c =
@@ -31,4 +31,4 @@ returns-in-Ok-2-clause-failed g c =
 pub returns-in-Ok-2-clause-passed : goal.returns-in-Ok-2-clause-passed
 returns-in-Ok-2-clause-passed g c =
     let same = ap (λ (x : Device). x.failures) c.in-Ok-2.ensures.ok in
-    passed_opened g.D.Disk.device (g.D.Disk.device c.args.disk) (g.D.Disk.device c.read.new.self) (g.D.Disk.planned c.read.new.self) c.open.result same c.open.ensures.calls
+    passed_opened g.D.Disk.device g.D.Disk.planned (g.D.Disk.device c.args.disk) (g.D.Disk.device c.read.new.self) (g.D.Disk.planned c.read.new.self) c.open.result same c.open.ensures.calls

@@ -1,4 +1,4 @@
-use Rattle.std.proofs.Common.{◌≡◌, ◌∙◌, ℕ, List, refl, subst, sym, false, Option, None, Some, is_some}
+use Rattle.std.proofs.Common.{◌≡◌, ℕ, List, refl, subst, false, Option, None, Some, is_some, rules}
 use Rattle.event_script.specs.declared.event.Event.{Event}
 use Rattle.serial_meaning.specs.Job.{JobOf}
 use Rattle.world.specs.Runs.{IsReplay, IsRun}
@@ -18,13 +18,15 @@ whole job events done stopped v none replay =
 
 pub returns-clause-run : goal.returns-clause-run
 returns-clause-run g c =
-    let run = c.in_ok-end.ensures.run in
+    let end = c.in_ok-world.field-0 in
+    let run = c.in_ok-world.ensures.run in
+    let none : is_some end.stopped ≡ false = search rules in
     record {
       events = run.0;
       read = run.1;
-      on = c.in_ok-end.end.world;
-      run = whole c.args.job.now run.0 c.in_ok-end.end.done c.in_ok-end.end.stopped c.in_ok-end.end.world (none_is c.in_ok-end.end.stopped (sym c.is_some.ensures ∙ c.if-is_some.false)) run.2;
-      packets = c.packets.ensures;
-      fills = c.fills.ensures;
-      outcome = c.outcome.ensures;
+      on = end.world;
+      run = whole c.args.job.now run.0 end.done end.stopped end.world (none_is end.stopped none) run.2;
+      packets = search rules;
+      fills = search rules;
+      outcome = search rules;
     }

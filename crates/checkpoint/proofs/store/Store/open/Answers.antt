@@ -1,62 +1,67 @@
-use Rattle.std.proofs.Common.{inr, refl, sym, ◌∙◌, subst}
-use Rattle.disk.specs.Device.{Device}
+use Rattle.std.proofs.Common.{◌∙◌, ◌++◌, inl, inr, ℕ, ap, arith, subst, sym}
 use Rattle.disk.specs.File.{bytes_of}
-use Rattle.checkpoint.specs.Calls.{Read}
-use Rattle.checkpoint.specs.Format.{IsStore}
-use Rattle.checkpoint.specs.Store.{IsHeld, KeepsRecord}
-use Rattle.checkpoint.specs.declared.record.StoreError.TheVariants.{JobMismatch}
-use Rattle.checkpoint.proofs.Chains.{fails_alone, passes_alone}
-use Rattle.checkpoint.proofs.Opened.{device_alone, held_read, kept_read, not_by_device, refused_read}
+use Rattle.checkpoint.specs.Calls.{Passed}
+use Rattle.checkpoint.specs.Commit.{IsOpening, opening}
+use Rattle.checkpoint.specs.Store.{KeepsContent, IsRefused}
+use Rattle.checkpoint.specs.declared.record.CheckpointRecord.{CheckpointRecord}
+use Rattle.checkpoint.specs.declared.record.StoreError.{StoreError}
+use Rattle.checkpoint.specs.declared.record.StoreError.TheVariants.{Spent}
+use Rattle.checkpoint.proofs.Chains.{passed_both, read_file, stop_later}
+use Rattle.checkpoint.proofs.Results.{if_err_both, if_err_weaker, if_ok_both}
 use Rattle.checkpoint.proofs.store.Store.open.Goals as goal
 
-pub returns-in-Err-clause-stopped : goal.returns-in-Err-clause-stopped
-returns-in-Err-clause-stopped g c _ =
-    fails_alone (Read 137) (g.D.Disk.planned c.args.disk) _ _ (record { failed = c.in-Err.ensures.err; settled = c.in-Err.ensures.settled; torn = c.read.ensures.crash; cause = c.in-Err.ensures.cause })
+pub returns-in-Ok-clause-calls : goal.returns-in-Ok-clause-calls
+returns-in-Ok-clause-calls g c =
+    let plan = g.D.Disk.planned in
+    let device = g.D.Disk.device in
+    let looked = c.in-Ok.looked in
+    let same = read_file (plan c.args.disk) (device c.args.disk) (device looked.disk) c.in-Ok.ensures.calls in
+    if_ok_both c.open.result (λ s opened made. (
+      looked.sequence,
+      opening ++ made.0,
+      subst (λ (r : CheckpointRecord). IsOpening (bytes_of (device c.args.disk).file) looked.sequence r s.sequence (opening ++ made.0)) (sym opened.1)
+          (subst (λ f. IsOpening (bytes_of f) looked.sequence looked.«record» s.sequence (opening ++ made.0)) same made.1),
+      passed_both opening made.0 (plan c.args.disk) (plan looked.disk) _ _ _ c.in-Ok.ensures.calls c.in-Ok.ensures.plan made.2,
+      (λ i. made.3 i ∙ c.in-Ok.ensures.plan _ ∙ ap (plan c.args.disk) (omega arith)),
+    )) c.open.ensures.opened c.open.ensures.calls
 
-pub returns-in-Ok-look-clause-refused : goal.returns-in-Ok-look-clause-refused
-returns-in-Ok-look-clause-refused g c _ =
-    let file = bytes_of (g.D.Disk.device c.args.disk).file in
-    let found = c.in-Ok-look.found in
-    let held = held_read file c.deref.result.now found.second found.sequence found.«record» found.gate (c.deref.ensures.value ∙ c.in-Ok.ensures.bytes) c.in-Ok-look.ensures.ok in
-    ((found.sequence, found.«record», (found.second, held.store), c.if-found-job.true), passes_alone (Read 137) (g.D.Disk.planned c.args.disk) _ _ c.in-Ok.ensures.passes c.in-Ok.ensures.ok)
+pub returns-in-Ok-clause-kept : goal.returns-in-Ok-clause-kept
+returns-in-Ok-clause-kept g c =
+    if_ok_both c.open.result (λ s opened kept n r keeps. (let found = c.in-Ok.ensures.kept n r keeps in (kept found.0, opened.1 ∙ found.1))) c.open.ensures.opened c.open.ensures.kept
 
-pub invariant_of-result : goal.invariant_of-result
-invariant_of-result g c _ =
-    let file = bytes_of (g.D.Disk.device c.args.disk).file in
-    let found = c.in-Ok-look.found in
-    let held = held_read file c.deref.result.now found.second found.sequence found.«record» found.gate (c.deref.ensures.value ∙ c.in-Ok.ensures.bytes) c.in-Ok-look.ensures.ok in
-    subst (λ (d : Device). IsHeld (bytes_of d.file) found.second found.sequence found.«record» found.gate) (sym c.in-Ok.ensures.ok) held
+pub returns-in-Ok-clause-kept_back : goal.returns-in-Ok-clause-kept_back
+returns-in-Ok-clause-kept_back g c =
+    if_err_weaker c.open.result (λ e back n r keeps. (let found = c.in-Ok.ensures.kept n r keeps in subst (λ (x : CheckpointRecord). KeepsContent (g.D.Disk.device e.1).file x) found.1 (back found.0))) c.open.ensures.kept_back
 
-pub returns-in-Ok-2-clause-opened : goal.returns-in-Ok-2-clause-opened
-returns-in-Ok-2-clause-opened g c =
-    let file = bytes_of (g.D.Disk.device c.args.disk).file in
-    let found = c.in-Ok-look.found in
-    let held = held_read file c.deref.result.now found.second found.sequence found.«record» found.gate (c.deref.ensures.value ∙ c.in-Ok.ensures.bytes) c.in-Ok-look.ensures.ok in
-    (refl, (found.second, subst (λ (d : Device). IsStore (bytes_of d.file) found.second found.sequence found.«record») (sym c.in-Ok.ensures.ok) held.store), c.if-found-job.false)
+pub returns-in-Ok-clause-refused : goal.returns-in-Ok-clause-refused
+returns-in-Ok-clause-refused g c =
+    let plan = g.D.Disk.planned in
+    let device = g.D.Disk.device in
+    let looked = c.in-Ok.looked in
+    let same = read_file (plan c.args.disk) (device c.args.disk) (device looked.disk) c.in-Ok.ensures.calls in
+    if_err_both c.open.result (λ e why spent other. elim why [
+      | inl is ↦ (
+          let said = spent is in
+          let in_file : IsRefused Spent (bytes_of (device c.args.disk).file) looked.«record».job = subst (λ f. IsRefused Spent (bytes_of f) looked.«record».job) same said.0 in
+          let of_job : IsRefused Spent (bytes_of (device c.args.disk).file) c.args.job = subst (λ (j : ℕ). IsRefused Spent (bytes_of (device c.args.disk).file) j) c.in-Ok.ensures.found.1 in_file in
+          (subst (λ (x : StoreError). IsRefused x (bytes_of (device c.args.disk).file) c.args.job) (sym is) of_job, subst (λ d. Passed opening (plan c.args.disk) (device c.args.disk) (device d)) (sym said.1) c.in-Ok.ensures.calls))
+      | inr is ↦ absurd (other is)
+    ]) c.open.ensures.refused c.open.ensures.spent
 
-pub returns-in-Ok-2-clause-calls : goal.returns-in-Ok-2-clause-calls
-returns-in-Ok-2-clause-calls g c = passes_alone (Read 137) (g.D.Disk.planned c.args.disk) _ _ c.in-Ok.ensures.passes c.in-Ok.ensures.ok
+pub returns-in-Ok-clause-stopped : goal.returns-in-Ok-clause-stopped
+returns-in-Ok-clause-stopped g c =
+    let plan = g.D.Disk.planned in
+    let device = g.D.Disk.device in
+    let looked = c.in-Ok.looked in
+    let same = read_file (plan c.args.disk) (device c.args.disk) (device looked.disk) c.in-Ok.ensures.calls in
+    if_err_weaker c.open.result (λ e stopped is. (let made = stopped is in inr (
+      looked.sequence,
+      made.0,
+      looked.«record»,
+      opening ++ made.1,
+      subst (λ f. IsOpening (bytes_of f) looked.sequence looked.«record» made.0 (opening ++ made.1)) same made.2,
+      stop_later opening made.1 (plan c.args.disk) (plan looked.disk) _ _ _ c.in-Ok.ensures.calls c.in-Ok.ensures.plan made.3,
+    ))) c.open.ensures.stopped
 
-pub returns-in-Ok-2-clause-kept : goal.returns-in-Ok-2-clause-kept
-returns-in-Ok-2-clause-kept g c n r keeps =
-    let file = (g.D.Disk.device c.args.disk).file in
-    let found = c.in-Ok-look.found in
-    let held = held_read (bytes_of file) c.deref.result.now found.second found.sequence found.«record» found.gate (c.deref.ensures.value ∙ c.in-Ok.ensures.bytes) c.in-Ok-look.ensures.ok in
-    let kept = kept_read file found.second found.sequence n found.«record» r held.store keeps in
-    (subst (λ (d : Device). KeepsRecord d.file found.sequence found.«record») (sym c.in-Ok.ensures.ok) kept.0, kept.1)
-
-pub returns-clause-refused : goal.returns-clause-refused
-returns-clause-refused g c _ =
-    let file = bytes_of (g.D.Disk.device c.args.disk).file in
-    (refused_read c.in-Err-look.fault file c.deref.result.now c.args.job (c.deref.ensures.value ∙ c.in-Ok.ensures.bytes) (c.in-Err-look.ensures.refused c.args.job), passes_alone (Read 137) (g.D.Disk.planned c.args.disk) _ _ c.in-Ok.ensures.passes c.in-Ok.ensures.ok)
-
-pub returns-clause-stopped : goal.returns-clause-stopped
-returns-clause-stopped g c is = absurd (not_by_device c.in-Err-look.fault c.deref.result.now 0 (c.in-Err-look.ensures.refused 0) is)
-
-pub returns-in-Ok-look-clause-alone : goal.returns-in-Ok-look-clause-alone
-returns-in-Ok-look-clause-alone g c n r reads mine =
-    device_alone JobMismatch (bytes_of (g.D.Disk.device c.args.disk).file) c.args.job n r mine reads (λ e. (returns-in-Ok-look-clause-refused g c e).0)
-
-pub returns-clause-alone : goal.returns-clause-alone
-returns-clause-alone g c n r reads mine =
-    device_alone c.in-Err-look.fault (bytes_of (g.D.Disk.device c.args.disk).file) c.args.job n r mine reads (λ e. (returns-clause-refused g c e).0)
+pub returns-in-Err-clause-kept_back : goal.returns-in-Err-clause-kept_back
+returns-in-Err-clause-kept_back g c n r keeps content left = let kept = c.in-Err.ensures.kept_back n r keeps in (n, (kept.slot, kept.each content left))

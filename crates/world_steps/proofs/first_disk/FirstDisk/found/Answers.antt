@@ -1,5 +1,4 @@
-use Rattle.std.proofs.Common.{◌≡◌, ◌≢◌, IfErr, None, Option, Some, ap, rules, subst, sym, ◌∙◌}
-use Rattle.ids.specs.declared.outcome.Outcome.{Outcome}
+use Rattle.std.proofs.Common.{◌≡◌, ◌≢◌, IfErr, None, Some, ap, rules, subst, sym, ◌∙◌}
 use Rattle.disk.specs.Crash.{Shrinks}
 use Rattle.disk.specs.Device.{Device as DeviceOf}
 use Rattle.disk.specs.File.{CrashLeaves, bytes_of}
@@ -55,7 +54,7 @@ invariant_of-result g c =
     let device = g.D.Disk.device in
     let s = c.in_ok-store.store in
     let less = subst (λ (x : g.row.D.Denot). Shrinks (CrashLeaves (device x).file) (CrashLeaves (device c.in_ok-disk-2.disk).file)) c.into_disk.ensures c.in_ok-disk-2.ensures.leaves in
-    let told : s.«record».outcome ≡ None = sym (ap (λ (r : CheckpointRecord). r.outcome) c.record-kept.ensures.same) ∙ c.in-None.is in
+    let told : s.«record».outcome ≡ None = sym (ap (λ (r : CheckpointRecord). r.outcome) c.«record».ensures.same) ∙ c.in-None.is in
     let k = kept_of device (device c.args.disk) (device c.in_ok-disk.disk) c.args.job.now.number s c.in_ok-disk-2.disk None c.in_ok-disk.ensures.leaves c.in_ok-disk.ensures.only (search rules) c.in_ok-store.ensures.found c.in_ok-store.ensures.kept (c.in_ok-store.ensures.opened.1 ∙ c.number.ensures) told less in
     record { still = c.in_ok-disk-2.ensures.still; sequence = k.sequence; found = k.found; kept = k.kept; own = k.own; no_outcome = k.told }
 
@@ -64,7 +63,7 @@ returns-in-Some-clause-found g c =
     let device = g.D.Disk.device in
     let s = c.in_ok-store.store in
     let less = subst (λ (x : g.row.D.Denot). Shrinks (CrashLeaves (device x).file) (CrashLeaves (device c.in_ok-disk-2.disk).file)) c.into_disk.ensures c.in_ok-disk-2.ensures.leaves in
-    let told : s.«record».outcome ≡ Some c.in-Some.outcome = sym (ap (λ (r : CheckpointRecord). r.outcome) c.record-kept.ensures.same) ∙ c.in-Some.is in
+    let told : s.«record».outcome ≡ Some c.in-Some.outcome = sym (ap (λ (r : CheckpointRecord). r.outcome) c.«record».ensures.same) ∙ c.in-Some.is in
     kept_of device (device c.args.disk) (device c.in_ok-disk.disk) c.args.job.now.number s c.in_ok-disk-2.disk (Some c.in-Some.outcome) c.in_ok-disk.ensures.leaves c.in_ok-disk.ensures.only (search rules) c.in_ok-store.ensures.found c.in_ok-store.ensures.kept (c.in_ok-store.ensures.opened.1 ∙ c.number.ensures) told less
 
 pub returns-in-None-clause-found : goal.returns-in-None-clause-found
@@ -72,5 +71,5 @@ returns-in-None-clause-found g c =
     let device = g.D.Disk.device in
     let s = c.in_ok-store.store in
     let less = subst (λ (x : g.row.D.Denot). Shrinks (CrashLeaves (device x).file) (CrashLeaves (device c.in_ok-disk-2.disk).file)) c.into_disk.ensures c.in_ok-disk-2.ensures.leaves in
-    let told : s.«record».outcome ≡ None = sym (ap (λ (r : CheckpointRecord). r.outcome) c.record-kept.ensures.same) ∙ c.in-None.is in
+    let told : s.«record».outcome ≡ None = sym (ap (λ (r : CheckpointRecord). r.outcome) c.«record».ensures.same) ∙ c.in-None.is in
     (search rules, kept_of device (device c.args.disk) (device c.in_ok-disk.disk) c.args.job.now.number s c.in_ok-disk-2.disk None c.in_ok-disk.ensures.leaves c.in_ok-disk.ensures.only (search rules) c.in_ok-store.ensures.found c.in_ok-store.ensures.kept (c.in_ok-store.ensures.opened.1 ∙ c.number.ensures) told less)

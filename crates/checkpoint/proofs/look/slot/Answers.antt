@@ -1,7 +1,0 @@
-use Rattle.std.proofs.Common.{List, ℕ, refl, subst, sym, rules}
-use Rattle.std.proofs.lemmas.List.{take_rest}
-use Rattle.checkpoint.specs.Format.{SpellsSlot}
-use Rattle.checkpoint.proofs.look.slot.Goals as goal
-
-pub returns-in-None-clause-err : goal.returns-in-None-clause-err
-returns-in-None-clause-err c = (refl, search rules, λ n r says. c.in-None.ensures.none n r (subst (λ (l : List ℕ). SpellsSlot l n r) (sym (take_rest c.args.bytes.now 1)) says))
