@@ -18,9 +18,9 @@ use world_steps::{FirstDisk, Found};
 /// text is the one of the job's program. Before a store is made, the file beside it says whose it is; where that is missing beside another
 /// store, this is told on `err`. What is found is the job's outcome, or that a run can begin over the file.
 ///
-/// A fault of a file where one of both can't be opened, or another run has the store; E70 to E73, as `FirstDisk::found` says; and E70 where
-/// the file beside the store names another program or input, E71 where it names none, also where there is no store yet. Nothing is written
-/// to a store that is there, nor over a file of another kind.
+/// A fault of a file where one of both can't be opened, or another run has the store; E62 and E70 to E73, as `FirstDisk::found` says; and E70
+/// where the file beside the store names another program or input, E71 where it names none, also where there is no store yet. But for E72 a
+/// store that is refused isn't written to; nor is a file of another kind.
 pub fn found_in<'a, R: Files<File = File> + AllocGlobal, E: Write>(
     rt: &R,
     path: &str,
