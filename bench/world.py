@@ -20,6 +20,8 @@ STARTS = (500, 1_000, 2_000, 4_000)
 PLACES = 16
 HOUSE = 2**63
 RECENT = 40
+# The most steps of a place whose value is handed to the clearinghouse to be saved.
+MOST_SAVED_STEPS = 23
 
 
 class Sub:
@@ -336,6 +338,13 @@ class Model:
             if held:
                 node.subs[own].fill(held[2][2])
                 self.result(node, own)
+                # (a kid has as many steps as its level, and the sum of a task has its value)
+                self.saves(node, held[2][1])
+
+    def saves(self, node, steps):
+        """The value of a place of so many steps goes to the clearinghouse."""
+        if 1 <= steps <= MOST_SAVED_STEPS:
+            self.send("Save", HOUSE + 1, node.word)
 
     def on_resultack(self, node, grant):
         if grant in node.subs and node.subs[grant].over and not node.gone:
@@ -349,8 +358,9 @@ class Model:
         return self.at - 1 - min(int(self.dice.expovariate(1 / 6)), RECENT, max(self.at - 1, 0))
 
     def pass_on(self, i):
-        to = self.net.get(i, ("", 0, None))[1]
-        if to >= HOUSE:
+        kind, to, _ = self.net.get(i, ("", 0, None))
+        # (no Save comes to the clearinghouse, so that each kid is made)
+        if to >= HOUSE and kind != "Save":
             return self.to_house(i)
         places = [a for a, node in self.nodes.items() if node.word == to]
         return self.deliver(places[0] if places else self.dice.randrange(PLACES), i)

@@ -189,6 +189,11 @@ def ran(content, found):
         moved = found = found._replace(form=LARGE, sequence=0)
     if found.tag != NONE:
         return (0, f"{outcome_line(found)}\n", ""), moved
+    if found.saved:
+        # (what is saved is dropped by a commit of its own)
+        if found.sequence == LAST_SEQUENCE:
+            return refusal(62), moved
+        moved = found = found._replace(saved=(), sequence=found.sequence + 1)
     if found.epoch == LAST_EPOCH or found.sequence == LAST_SEQUENCE:
         return refusal(62), moved
     begun = found._replace(epoch=found.epoch + 1, sequence=found.sequence + 1)

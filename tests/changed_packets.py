@@ -179,6 +179,23 @@ class Fields:
             shown.append(f" record={grant_words(grant)};{holder};{frame};{place};{thread};{numbers};{self.goes_to(bound)}")
         return "".join(shown)
 
+    def saved_place(self):
+        """The steps of a place whose value is saved."""
+        self.counts.append((self.at, 2, 23))
+        count = self.checked(2, lambda it: 1 <= it <= 23)
+        return [self.checked(1, lambda it, least=at == count: least <= it <= 8) for at in range(1, count + 1)]
+
+    def saved_values(self):
+        shown, last = [], []
+        self.counts.append((self.at, 1, 64))
+        for _ in range(self.checked(1, lambda it: 1 <= it <= 64)):
+            place = self.saved_place()
+            if (len(place), place) <= (len(last), last):
+                raise Refused(35)
+            last = place
+            shown.append(f"{'.'.join(map(str, place))}:{self.signed()}")
+        return ",".join(shown)
+
     def say_task(self):
         place, thread, numbers = self.task()
         self.say("thread", str(thread))
@@ -269,6 +286,17 @@ def say_piece(it):
     it.say("bytes", it.part(number == pieces - 1))
 
 
+def say_save(it):
+    it.say("from", str(it.worker()))
+    it.say("at", it.place())
+    it.say("value", str(it.signed()))
+
+
+def say_saved_grant(it):
+    say_grant(it)
+    it.say("saved", it.saved_values())
+
+
 def is_any_house(to):
     return to == ANY_HOUSE
 
@@ -300,9 +328,11 @@ KINDS = (
     ("Abort", is_worker, say_named),
     ("Beat", is_house, say_workers_count("version")),
     ("Piece", is_worker, say_piece),
+    ("Save", is_house, say_save),
+    ("SavedGrant", is_worker, say_saved_grant),
 )
 # The versions of packets, and the kinds of each.
-VERSIONS = {1: range(1, 13), 2: range(13, 14)}
+VERSIONS = {1: range(1, 13), 2: range(13, 16)}
 
 
 def taken(it):
@@ -462,6 +492,9 @@ RUN = [
     *(f"make OfferAck from=8 grant={it} hop=1 to=4 job=7" for it in ("3/1", "3/2", "5/1")),
     "make Piece from=7 grant=5/1 hop=2 pieces=2 number=1 bytes=000102 to=4 job=7",
     "make Piece from=3 grant=house:1/1 hop=1 pieces=16384 number=16383 bytes=ff*9 to=4 job=7",
+    "make SavedGrant seq=4 grant=7/9 thread=0 at=2 on=3 saved=2.1:1,2.2:-1 to=4 job=7",
+    "make SavedGrant seq=2 grant=3/2 thread=0 at=1 on=5 saved=1.2:1,1.0.1:2,1.1.2:3 to=4 job=7",
+    "make Save from=4 at=2.1 value=5 to=house:1 job=7",
     "make Result from=7 grant=4/3 outcome=5 to=4 job=7",
     "make Result from=3 grant=house:1/1 outcome=8 to=house:1 job=7",
     "house hear Result from=3 grant=house:1/1 outcome=8 to=house:1 job=7",
@@ -619,22 +652,24 @@ NODE_SENDS = {
         "Roster": {"Abort"},
         "Steal": {"Grant", "Refuse"},
         "Grant": {"OfferAck"},
+        "SavedGrant": {"OfferAck"},
         "Refuse": set(),
-        "Result": {"ResultAck", "Abort", "Result"},
+        "Result": {"ResultAck", "Abort", "Result", "Save"},
         "ResultAck": set(),
         "Offer": {"OfferAck", "Abort"},
         "Piece": {"OfferAck"},
         "Abort": {"Abort"},
     },
-    "leaving": {"Roster": set(), "Steal": {"Grant", "Refuse"}, "Grant": {"OfferAck"}, "Offer": {"OfferAck"}, "OfferAck": {"Leave"}, "Piece": {"OfferAck"}},
+    "leaving": {"Roster": set(), "Steal": {"Grant", "Refuse"}, "Grant": {"OfferAck"}, "SavedGrant": {"OfferAck"}, "Offer": {"OfferAck"}, "OfferAck": {"Leave"}, "Piece": {"OfferAck"}},
     "ended": {},
 }
 # The same of a clearinghouse.
-HOUSE_SENDS = {"Join": {"Roster"}, "Steal": {"Grant", "Refuse"}, "Result": {"ResultAck"}, "Leave": {"Roster", "Abort"}, "Beat": {"Roster"}}
+HOUSE_SENDS = {"Save": set(), "Join": {"Roster"}, "Steal": {"Grant", "Refuse"}, "Result": {"ResultAck"}, "Leave": {"Roster", "Abort"}, "Beat": {"Roster"}}
 # What is answered first, unless a packet is ignored; and the kinds at which nothing may be answered.
 FIRST = {
     "Steal": {"Grant", "Refuse"},
     "Grant": {"OfferAck"},
+    "SavedGrant": {"OfferAck"},
     "Result": {"ResultAck"},
     "Offer": {"OfferAck"},
     "Piece": {"OfferAck"},
@@ -642,7 +677,7 @@ FIRST = {
     "Leave": {"Roster"},
     "Beat": {"Roster"},
 }
-QUIET = {"Roster", "Grant", "Refuse", "ResultAck", "OfferAck", "Abort", "Beat", "Piece"}
+QUIET = {"Roster", "Grant", "SavedGrant", "Save", "Refuse", "ResultAck", "OfferAck", "Abort", "Beat", "Piece"}
 
 # Somebody who gets packets: the lines that make it, once and each time anew, that show it, and that end it; the words before a packet's bytes;
 # which packets are its own; what it may send.

@@ -27,8 +27,8 @@ MOST_ARROWS, MOST_WIDTH, LEAST_FOLD, MOST_TOLD = 400, 4000, 40, 1000
 # lengths in tenths of a pixel: a screen, the legend, and a character of a lane's name and of a mark's words
 SCREEN, LEGEND, CHAR = 12_000, 9600, 67
 # which kinds of packets have arrows: all, with `--work`, and where these are too many still
-ALL = {"Join", "Roster", "Steal", "Grant", "Refuse", "Result", "ResultAck", "Offer", "OfferAck", "Leave", "Abort", "Beat", "Piece"}
-SHOWN = [ALL, ALL - {"Join", "Roster", "Beat"}, {"Grant", "Offer", "Piece", "Result"}, set()]
+ALL = {"Join", "Roster", "Steal", "Grant", "Refuse", "Result", "ResultAck", "Offer", "OfferAck", "Leave", "Abort", "Beat", "Piece", "Save", "SavedGrant"}
+SHOWN = [ALL, ALL - {"Join", "Roster", "Beat"}, {"Grant", "SavedGrant", "Offer", "Piece", "Result"}, set()]
 WORDS = re.compile(r"[\x20-\x7e\n]*")
 
 CHECKS = Tally()

@@ -165,6 +165,22 @@ class Ready(list):
         return copy
 
 
+class Steps(int):
+    """How many steps a place has, and up to the last one that goes to a kid."""
+
+    kept = 0
+
+    def to_successor(self):
+        steps = Steps(self + 1)
+        steps.kept = self.kept
+        return steps
+
+    def to_kid(self):
+        steps = Steps(self + 1)
+        steps.kept = int(steps)
+        return steps
+
+
 class Sub:
     """A subcomputation: its frames, as (task, level, where its value goes), a task being (thread, numbers, steps of its place). `beside` has the
     number that a frame has in the other script."""
@@ -198,10 +214,10 @@ class Sub:
             self.fill(to, came.value)
             return
         first = self.next
-        self.add((came.next[0], list(came.next[1]), steps + 1), level, to)
+        self.add((came.next[0], list(came.next[1]), steps.to_successor()), level, to)
         slots = [slot for slot, it in enumerate(came.next[1]) if it is None]
         for slot, kid in zip(slots, came.kids):
-            self.add((kid[0], list(kid[1]), steps + 1), level + 1, (first, slot))
+            self.add((kid[0], list(kid[1]), steps.to_kid()), level + 1, (first, slot))
 
     def add(self, task, level, to):
         number = self.next
@@ -258,7 +274,7 @@ class Model(world.Model):
         return super().wants_root() and self.outcome is None
 
     def root_task(self):
-        return "main", list(self.inputs), 0
+        return "main", list(self.inputs), Steps()
 
     def on_grant(self, node, what):
         seq, minter, grant, task, level = what
@@ -301,6 +317,7 @@ class Model(world.Model):
             if held:
                 node.subs[own].fill(held[2][2], value)
                 self.result(node, own)
+                self.saves(node, held[2][0][2].kept)
 
     # events
     def turn(self, place):
@@ -376,8 +393,9 @@ class Model(world.Model):
         self.result(node, grant)
 
     def pass_on(self, i):
-        to = self.net.get(i, ("", 0, None))[1]
-        if to >= world.HOUSE:
+        kind, to, _ = self.net.get(i, ("", 0, None))
+        # (no Save comes to the clearinghouse, so that each kid is made)
+        if to >= world.HOUSE and kind != "Save":
             return self.to_house(i)
         places = [a for a, node in self.nodes.items() if node.word == to]
         return self.deliver(places[0] if places else self.dice.randrange(PLACES), i)

@@ -18,6 +18,9 @@ const SILENCE: u64 = 500;
 const MOST_MEMBERS: usize = 4_096;
 const MOST_STEPS: usize = 1_024;
 const MOST_BYTES: usize = 1_048_576;
+/// How many values are saved, and of places of how many steps.
+const MOST_SAVED: usize = 64;
+const MOST_SAVED_STEPS: usize = 23;
 
 #[derive(Clone, Copy, PartialEq, Eq, PartialOrd, Ord, Hash)]
 struct GrantId {
@@ -180,11 +183,12 @@ struct Sub {
     next: u32,
     frames: BTreeMap<u32, Frame>,
     records: BTreeMap<GrantId, Record>,
+    saved: Saved,
 }
 
 impl Sub {
     /// What a granted task begins.
-    fn new(grant: GrantId, task: &Task) -> Sub {
+    fn new(grant: GrantId, task: &Task, saved: &Saved) -> Sub {
         Sub {
             grant,
             hop: 0,
@@ -194,6 +198,7 @@ impl Sub {
             next: 1,
             frames: BTreeMap::from([(0, Frame::of(task, Return::Whole))]),
             records: BTreeMap::new(),
+            saved: saved.clone(),
         }
     }
 
@@ -237,9 +242,15 @@ impl Sub {
     fn join(&mut self, frame: Frame, thread: Thread, kids: &[(Thread, i64)], ready: &mut Ready) {
         let successor = self.next;
         self.next += 1;
+        let mut slots = vec![None; kids.len()];
         for (slot, (thread, n)) in kids.iter().enumerate() {
+            let place = child(&frame.place, slot as u8 + 1);
+            if let Ok(at) = saved_at(&self.saved, &place) {
+                slots[slot] = Some(self.saved[at].1);
+                continue;
+            }
             let kid = Frame {
-                place: child(&frame.place, slot as u8 + 1),
+                place,
                 thread: *thread,
                 slots: vec![Some(*n)],
                 returns: Return::Slot(successor, slot),
@@ -249,7 +260,10 @@ impl Sub {
             self.next += 1;
         }
         let after =
-            Frame { place: child(&frame.place, 0), thread, slots: vec![None; kids.len()], returns: frame.returns };
+            Frame { place: child(&frame.place, 0), thread, slots, returns: frame.returns };
+        if after.is_ready() {
+            ready.post(self.grant, successor, after.level());
+        }
         self.frames.insert(successor, after);
     }
 
@@ -286,6 +300,26 @@ impl Sub {
             + self.frames.values().map(frame).sum::<usize>()
             + self.records.values().map(|it| 28 + task(&it.task) + returns(it.returns)).sum::<usize>()
     }
+}
+
+// Saved values.
+
+/// Values of places, the shorter ones first, and those of one length by their steps.
+type Saved = Vec<(Vec<u8>, i64)>;
+
+fn saved_at(saved: &[(Vec<u8>, i64)], place: &[u8]) -> Result<usize, usize> {
+    saved.binary_search_by(|it| (it.0.len(), it.0.as_slice()).cmp(&(place.len(), place)))
+}
+
+/// The place whose value a task's is, if it is one whose value is saved.
+fn saved_place(place: &[u8]) -> Option<&[u8]> {
+    let steps = place.iter().rposition(|step| *step != 0)? + 1;
+    Some(&place[..steps]).filter(|it| it.len() <= MOST_SAVED_STEPS)
+}
+
+/// Those below a place.
+fn saved_below(saved: &[(Vec<u8>, i64)], place: &[u8]) -> Saved {
+    saved.iter().filter(|it| it.0.len() > place.len() && it.0.starts_with(place)).cloned().collect()
 }
 
 // Rosters and packets.
@@ -364,7 +398,7 @@ enum Body {
     Join { from: u64 },
     Roster(Rc<Roster>),
     Steal { from: u64, seq: u64 },
-    Grant { seq: u64, grant: GrantId, task: Task },
+    Grant { seq: u64, grant: GrantId, task: Task, saved: Saved },
     Refuse { seq: u64 },
     Result { from: u64, grant: GrantId, outcome: Outcome },
     ResultAck { grant: GrantId },
@@ -373,6 +407,7 @@ enum Body {
     Leave { from: u64, heir: u64 },
     Abort { grant: GrantId },
     Beat { from: u64, version: u64 },
+    Save { from: u64, place: Vec<u8>, value: i64 },
 }
 
 #[derive(Clone)]
@@ -514,7 +549,7 @@ impl Node {
 
     fn offer_all(&self, heir: u64, out: &mut Out) {
         for sub in self.subs.values() {
-            let sub = Box::new(Sub { hop: sub.hop + 1, ..sub.clone() });
+            let sub = Box::new(Sub { hop: sub.hop + 1, saved: Vec::new(), ..sub.clone() });
             out.send(heir, Body::Offer { from: self.word, sub });
         }
     }
@@ -605,7 +640,7 @@ impl Node {
                 let frame = self.ready.shallowest();
                 self.on_steal(*from, *seq, frame, roster, out);
             }
-            Body::Grant { seq, grant, task } => self.on_grant(*seq, *grant, task, out),
+            Body::Grant { seq, grant, task, saved } => self.on_grant(*seq, *grant, task, saved, out),
             Body::Refuse { seq } => {
                 if self.pending.is_some_and(|it| it.1 == *seq) {
                     self.pending = None;
@@ -672,19 +707,21 @@ impl Node {
         self.minted += 1;
         let grant = GrantId { minter: self.word, number: self.minted };
         let numbers = frame.numbers().expect("it is ready");
+        let saved = saved_below(&sub.saved, &frame.place);
         let task = Task { place: frame.place, thread: frame.thread, numbers };
         let record = Record { holder: thief, frame: number, task: task.clone(), returns: frame.returns };
         sub.records.insert(grant, record);
-        Body::Grant { seq, grant, task }
+        Body::Grant { seq, grant, task, saved }
     }
 
-    fn on_grant(&mut self, seq: u64, grant: GrantId, task: &Task, out: &mut Out) {
+    fn on_grant(&mut self, seq: u64, grant: GrantId, task: &Task, saved: &Saved, out: &mut Out) {
         if self.pending == Some((grant.minter, seq))
             && !self.seen.contains_key(&grant)
             && task.numbers.len() == arity(task.thread)
+            && saved.iter().all(|it| it.0.len() > task.place.len() && it.0.starts_with(&task.place))
         {
             self.pending = None;
-            self.hold(Sub::new(grant, task));
+            self.hold(Sub::new(grant, task, saved));
         } else {
             self.confirm_grant(grant, out);
         }
@@ -709,6 +746,9 @@ impl Node {
 
     fn on_result(&mut self, from: u64, grant: GrantId, outcome: Outcome, out: &mut Out) {
         out.send(from, Body::ResultAck { grant });
+        let State::Member(roster) = &self.state else {
+            return;
+        };
         let Some(sub) = self.subs.values_mut().find(|it| it.records.contains_key(&grant)) else {
             return;
         };
@@ -718,6 +758,9 @@ impl Node {
             Outcome::TooDeep => sub.finish(outcome, &mut self.ready, out),
         }
         out.result(self.word, sub);
+        if let (Outcome::Value(value), Some(place)) = (outcome, saved_place(&record.task.place)) {
+            out.send(HOUSE + roster.epoch, Body::Save { from: self.word, place: place.to_vec(), value });
+        }
     }
 
     fn has_seen(&self, sub: &Sub) -> bool {
@@ -784,49 +827,59 @@ impl Node {
 
 // The clearinghouse.
 
-/// A checkpoint: two slots, each with a gate, the sequence, the epoch and the outcome; docs/FORMATS.md.
+/// A checkpoint: two large slots, each with a gate, the sequence, the epoch, the outcome and the saved values; docs/FORMATS.md.
 struct Disk {
-    bytes: [u8; 136],
+    bytes: Vec<u8>,
 }
+
+const SLOT: usize = 2_112;
 
 impl Disk {
     fn new() -> Disk {
-        let mut disk = Disk { bytes: [0; 136] };
+        let mut disk = Disk { bytes: vec![0; 136 + 2 * SLOT] };
         disk.bytes[..8].copy_from_slice(b"CNOWCKP\x01");
-        disk.commit(0, 0, None);
+        disk.commit(0, 0, None, &[]);
         disk
     }
 
     /// The gate is closed, the body is written, the gate is opened.
-    fn commit(&mut self, sequence: u64, epoch: u64, outcome: Option<Outcome>) {
+    fn commit(&mut self, sequence: u64, epoch: u64, outcome: Option<Outcome>, saved: &[(Vec<u8>, i64)]) {
         let (tag, value) = match outcome {
             None => (0, 0),
             Some(Outcome::Value(value)) => (1, value),
             Some(Outcome::TooDeep) => (2, 0),
         };
-        let slot = &mut self.bytes[8 + 64 * (sequence % 2) as usize..][..64];
+        let slot = &mut self.bytes[136 + SLOT * (sequence % 2) as usize..][..SLOT];
         slot[0] = 0;
         slot[1..9].copy_from_slice(&sequence.to_be_bytes());
-        slot[9..11].copy_from_slice(&25_u16.to_be_bytes());
+        slot[9..11].copy_from_slice(&2_101_u16.to_be_bytes());
         slot[11..19].copy_from_slice(&1_u64.to_be_bytes());
         slot[19..27].copy_from_slice(&epoch.to_be_bytes());
         slot[27] = tag;
         slot[28..36].copy_from_slice(&value.to_be_bytes());
         slot[36..].fill(0);
+        slot[36] = saved.len() as u8;
+        for (entry, (place, value)) in slot[64..].chunks_exact_mut(32).zip(saved) {
+            entry[0] = place.len() as u8;
+            entry[1..1 + place.len()].copy_from_slice(place);
+            entry[24..].copy_from_slice(&value.to_be_bytes());
+        }
         slot[0] = 0xA5;
     }
 
-    /// The sequence, the epoch and the outcome of the newer slot.
-    fn read(&self) -> (u64, u64, Option<Outcome>) {
+    /// The sequence, the epoch, the outcome and the saved values of the newer slot.
+    fn read(&self) -> (u64, u64, Option<Outcome>, Saved) {
         let number = |at: &[u8]| u64::from_be_bytes(at[..8].try_into().expect("eight bytes"));
-        let slots = self.bytes[8..].chunks_exact(64).filter(|slot| slot[0] == 0xA5);
+        let slots = self.bytes[136..].chunks_exact(SLOT).filter(|slot| slot[0] == 0xA5);
         let slot = slots.max_by_key(|slot| number(&slot[1..])).expect("one is open");
         let outcome = match slot[27] {
             0 => None,
             1 => Some(Outcome::Value(number(&slot[28..]) as i64)),
             _ => Some(Outcome::TooDeep),
         };
-        (number(&slot[1..]), number(&slot[19..]), outcome)
+        let entries = slot[64..].chunks_exact(32).take(usize::from(slot[36]));
+        let saved = entries.map(|it| (it[1..1 + usize::from(it[0])].to_vec(), number(&it[24..]) as i64)).collect();
+        (number(&slot[1..]), number(&slot[19..]), outcome, saved)
     }
 }
 
@@ -841,15 +894,16 @@ struct House {
     minted: u64,
     replies: Replies,
     outcome: Option<Outcome>,
+    saved: Saved,
     sequence: u64,
 }
 
 impl House {
     fn open(disk: &mut Disk) -> House {
-        let (sequence, epoch, outcome) = disk.read();
-        disk.commit(sequence + 1, epoch + 1, outcome);
+        let (sequence, epoch, outcome, saved) = disk.read();
+        disk.commit(sequence + 1, epoch + 1, outcome, &saved);
         let roster = Roster { epoch: epoch + 1, version: 1, members: Vec::new() };
-        House { roster: Rc::new(roster), outcome, sequence: sequence + 1, ..House::default() }
+        House { roster: Rc::new(roster), outcome, saved, sequence: sequence + 1, ..House::default() }
     }
 
     fn name(&self) -> u64 {
@@ -863,12 +917,13 @@ impl House {
     fn on_packet(&mut self, packet: &Packet, input: i64, disk: &mut Disk, out: &mut Out) {
         let is_own = packet.to == self.name();
         match packet.body {
+            Body::Save { from, ref place, value } if is_own => self.on_save(from, place, value, disk),
             Body::Join { from } => self.on_join(from, out),
             Body::Steal { from, seq } if is_own => self.on_steal(from, seq, input, out),
             Body::Result { from, grant, outcome } if is_own => {
                 if self.root.is_some_and(|it| it.0 == grant) {
                     self.sequence += 1;
-                    disk.commit(self.sequence, self.roster.epoch, Some(outcome));
+                    disk.commit(self.sequence, self.roster.epoch, Some(outcome), &self.saved);
                     self.outcome = Some(outcome);
                     self.root = None;
                 }
@@ -915,11 +970,25 @@ impl House {
             let grant = GrantId { minter: self.name(), number: self.minted };
             self.root = Some((grant, thief));
             let task = Task { place: Vec::new(), thread: Thread::Main, numbers: vec![input] };
-            Body::Grant { seq, grant, task }
+            Body::Grant { seq, grant, task, saved: self.saved.clone() }
         } else {
             Body::Refuse { seq }
         };
         self.replies.answer(thief, seq, body, out);
+    }
+
+    fn on_save(&mut self, from: u64, place: &[u8], value: i64, disk: &mut Disk) {
+        if !self.roster.is_live(from) || self.outcome.is_some() || saved_place(place) != Some(place) {
+            return;
+        }
+        if let Err(at) = saved_at(&self.saved, place) {
+            if at < MOST_SAVED {
+                self.saved.insert(at, (place.to_vec(), value));
+                self.saved.truncate(MOST_SAVED);
+                self.sequence += 1;
+                disk.commit(self.sequence, self.roster.epoch, self.outcome, &self.saved);
+            }
+        }
     }
 
     fn on_leave(&mut self, worker: u64, heir: u64, out: &mut Out) {

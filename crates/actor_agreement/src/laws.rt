@@ -9,7 +9,7 @@ ghost use Rattle.node_core.specs.declared.parts.Victim.{Victim};
 ghost use Rattle.clearinghouse.specs.Calls as house_calls;
 ghost use Rattle.clearinghouse.specs.Cases as house_cases;
 ghost use Rattle.clearinghouse.specs.House.{HouseOf};
-ghost use Rattle.actor_agreement.specs.Values.{AnswerIsRight, HouseAnswerIsRight, HouseStepIsRight, NextGrantIsFresh, BodyMayCome, NodeIsRight, RepliesAreRight, StepIsRight};
+ghost use Rattle.actor_agreement.specs.Values.{AnswerIsRight, HouseAnswerIsRight, HouseIsRight, HouseStepIsRight, NextGrantIsFresh, BodyMayCome, NodeIsRight, SaveIsRight, StepIsRight};
 
 /// A node that agrees does so after each packet that agrees, of whatever kind and wherever it stands, where nothing that it holds has a
 /// record of the next grant that it mints; and after its own calls; and so does what it sends and puts into slots, and a node that
@@ -36,14 +36,15 @@ pub fn what_a_node_does_agrees()
     ensures start { (job : JobOf) (word : ℕ) → StepIsRight job (calls.start job word) }
 {}
 
-/// What an open clearinghouse sends agrees, whatever packet or moment comes, where its last answers do; and these do after it. Does
-/// nothing.
+/// What an open clearinghouse sends agrees, whatever packet or moment comes, where its last answers and the values that are saved do, and a
+/// value that comes to be saved; and these do after it. Does nothing.
 pub fn what_the_house_does_agrees()
     ensures packets { (job : JobOf) (h : HouseOf) (p : PacketOf)
         → IsJob job
-        → RepliesAreRight job h.replies
+        → HouseIsRight job h
+        → SaveIsRight job p.body
         → HouseAnswerIsRight job (house_cases.on_packet job p h) }
     ensures moments { (job : JobOf) (h : HouseOf) (now : ℕ)
-        → RepliesAreRight job h.replies
+        → HouseIsRight job h
         → HouseStepIsRight job (house_calls.passes job now h) }
 {}

@@ -5,6 +5,7 @@ use Rattle.checkpoint.specs.Calls.{DeviceCall, Read, Write, Cut, Sync}
 use Rattle.checkpoint.specs.Format.{IsBody, IsBoth, IsMovedBody, IsNew, IsOld}
 use Rattle.checkpoint.specs.Pair.{is_open, place, slot}
 use Rattle.checkpoint.specs.declared.record.CheckpointRecord.{CheckpointRecord}
+use Rattle.saved_values.specs.declared.value.SavedValue.{SavedValue}
 
 -- the file is cut to nothing, and written in one write
 abbrev pub formatting : List ℕ → List DeviceCall
@@ -54,6 +55,10 @@ pub record IsCommit (file : List ℕ) (sequence : ℕ) (before next : Checkpoint
   pub bytes : List ℕ
   pub body : IsBody bytes (sequence + 1) next
   pub same : calls ≡ publishing (place 136 2111 (not second)) (is_open (slot 136 2111 (not second) file)) bytes
+
+-- a record with other saved values
+abbrev pub with_saved : CheckpointRecord → List SavedValue → CheckpointRecord
+with_saved r saved = record r { saved = saved }
 
 -- the next record of a job; the values that are saved stay
 abbrev pub next_of : CheckpointRecord → ℕ → Option Outcome → CheckpointRecord

@@ -2,7 +2,7 @@ ghost use Rattle.std.specs.Prelude.{◌≡◌, ◌≢◌, ◌⊎◌, ◌↔◌, 
 ghost use Rattle.disk.specs.Device.{armed};
 ghost use Rattle.disk.specs.File.{bytes_of};
 ghost use Rattle.checkpoint.specs.Calls.{DeviceCall, Passed, Stopped};
-ghost use Rattle.checkpoint.specs.Commit.{IsCommit, IsOpening, next_of, opening};
+ghost use Rattle.checkpoint.specs.Commit.{IsCommit, IsOpening, next_of, opening, with_saved};
 ghost use Rattle.checkpoint.specs.Moments.{KeepsOldOr};
 ghost use Rattle.checkpoint.specs.Store.{IsRefused, IsSpent, KeepsContent, KeepsItself, KeepsRecord, ReadsAsStore};
 ghost use Rattle.checkpoint.specs.declared.record.CheckpointRecord.{CheckpointRecord as StoredRecord};
@@ -15,6 +15,7 @@ use crate::record::SlotId;
 use crate::{CheckpointRecord, LastEpoch, StoreError};
 use disk::Disk;
 use ids::Outcome;
+use saved_values::SavedTable;
 use std::alloc::Global;
 use std::marker::Model;
 
@@ -266,23 +267,95 @@ impl<D: Disk> Store<D> {
         ensures either { KeepsItself D.device self.old
             → KeepsOldOr D.device (next_of self.old.record epoch outcome) self.old self.new }
     {
+        let saved = self.current.saved.copied();
+        self.put(epoch, outcome, saved)
+    }
+
+    /// Commits other values that are saved; the epoch and the outcome stay. Refused as `commit` is.
+    pub fn save(&mut self, saved: SavedTable) -> Result<(), StoreError>
+        ensures ok { OnOk result (let next = with_saved self.old.record saved in
+            self.new ≡ record {
+              disk = self.new.disk;
+              «record» = next;
+              sequence = self.old.sequence + 1;
+              ended = false;
+            }) }
+        ensures calls { OnOk result (let next = with_saved self.old.record saved in (calls : List DeviceCall)
+            × IsCommit (bytes_of (D.device self.old.disk).file) self.old.sequence self.old.record next calls
+            × Passed calls (D.planned self.old.disk) (D.device self.old.disk) (D.device self.new.disk)) }
+        ensures plan { OnOk result ((i : ℕ) → D.planned self.new.disk i ≡ D.planned self.old.disk (i + 6)) }
+        ensures refused { OnErr result (IsErrOf result StoreError.Spent ⊎ IsErrOf result StoreError.Device) }
+        ensures spent { IsErrOf result StoreError.Spent ↔ IsSpent self.old }
+        ensures unchanged { IsErrOf result StoreError.Spent → self.new ≡ self.old }
+        ensures ended { self.old.ended ≡ true → IsErrOf result StoreError.Device × (self.new ≡ self.old) }
+        ensures ends { IsErrOf result StoreError.Device → self.new ≡ record self.old {
+          disk = self.new.disk;
+          ended = true;
+        } }
+        ensures can_cut { (D.device self.new.disk).can_cut ≡ (D.device self.old.disk).can_cut }
+        ensures stopped { IsErrOf result StoreError.Device → self.old.ended ≡ false
+            → (let next = with_saved self.old.record saved in (calls : List DeviceCall)
+            × IsCommit (bytes_of (D.device self.old.disk).file) self.old.sequence self.old.record next calls
+            × Stopped calls (D.planned self.old.disk) (D.device self.old.disk) (D.device self.new.disk)) }
+
+        // Where whatever a crash leaves has the current record: then it has the new one, or at any moment that one or the new one.
+        ensures kept { KeepsItself D.device self.old → OnOk result (KeepsItself D.device self.new) }
+        ensures either { KeepsItself D.device self.old
+            → KeepsOldOr D.device (with_saved self.old.record saved) self.old self.new }
+    {
+        let (epoch, outcome) = (self.current.epoch, self.current.outcome);
+        self.put(epoch, outcome, saved)
+    }
+
+    /// Commits a record of the job, by six device calls.
+    fn put(
+        &mut self,
+        epoch: LastEpoch,
+        outcome: Option<Outcome>,
+        saved: SavedTable,
+    ) -> Result<(), StoreError>
+        ensures ok { OnOk result (let next = with_saved (next_of self.old.record epoch outcome) saved in
+            self.new ≡ record {
+              disk = self.new.disk;
+              «record» = next;
+              sequence = self.old.sequence + 1;
+              ended = false;
+            }) }
+        ensures calls { OnOk result (let next = with_saved (next_of self.old.record epoch outcome) saved in (calls : List DeviceCall)
+            × IsCommit (bytes_of (D.device self.old.disk).file) self.old.sequence self.old.record next calls
+            × Passed calls (D.planned self.old.disk) (D.device self.old.disk) (D.device self.new.disk)) }
+        ensures plan { OnOk result ((i : ℕ) → D.planned self.new.disk i ≡ D.planned self.old.disk (i + 6)) }
+        ensures refused { OnErr result (IsErrOf result StoreError.Spent ⊎ IsErrOf result StoreError.Device) }
+        ensures spent { IsErrOf result StoreError.Spent ↔ IsSpent self.old }
+        ensures unchanged { IsErrOf result StoreError.Spent → self.new ≡ self.old }
+        ensures ended { self.old.ended ≡ true → IsErrOf result StoreError.Device × (self.new ≡ self.old) }
+        ensures ends { IsErrOf result StoreError.Device → self.new ≡ record self.old {
+          disk = self.new.disk;
+          ended = true;
+        } }
+        ensures can_cut { (D.device self.new.disk).can_cut ≡ (D.device self.old.disk).can_cut }
+        ensures stopped { IsErrOf result StoreError.Device → self.old.ended ≡ false
+            → (let next = with_saved (next_of self.old.record epoch outcome) saved in (calls : List DeviceCall)
+            × IsCommit (bytes_of (D.device self.old.disk).file) self.old.sequence self.old.record next calls
+            × Stopped calls (D.planned self.old.disk) (D.device self.old.disk) (D.device self.new.disk)) }
+
+        // Where whatever a crash leaves has the current record: then it has the new one, or at any moment that one or the new one.
+        ensures kept { KeepsItself D.device self.old → OnOk result (KeepsItself D.device self.new) }
+        ensures either { KeepsItself D.device self.old
+            → KeepsOldOr D.device (with_saved (next_of self.old.record epoch outcome) saved) self.old self.new }
+    {
         if self.ended {
             return Err(StoreError::Device);
         }
         if self.sequence == u64::MAX {
             return Err(StoreError::Spent);
         }
-        let body = spell(
-            self.sequence + 1,
-            self.current.job,
-            epoch,
-            &outcome,
-            &self.current.saved,
-        );
+        let body = spell(self.sequence + 1, self.current.job, epoch, &outcome, &saved);
         match publish(&mut self.disk, place(!self.second), self.gate, &body) {
             Ok(()) => {
                 self.current.epoch = epoch;
                 self.current.outcome = outcome;
+                self.current.saved = saved;
                 self.sequence += 1;
                 self.second = !self.second;
                 self.gate = true;

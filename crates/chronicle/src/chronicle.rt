@@ -38,19 +38,27 @@ use world_steps::{FirstDisk, NoMemory};
 /// The number of the kind Roster, which stands behind the first three bytes of a packet.
 const ROSTER: u8 = 2;
 
-/// To whom a packet is addressed: the clearinghouse, in whichever epoch, or the worker of a start word.
+/// The number of the kind Save, at the same place.
+const SAVE: u8 = 14;
+
+/// For whom a packet is: the clearinghouse, in whichever epoch; the same, where it is a Save; or the worker of a start word.
 #[derive(Clone, Copy, Debug, PartialEq, Eq)]
 pub enum Receiver {
     Clearinghouse,
+    Saves,
     Worker(u64),
 }
 
 impl Receiver {
-    /// Whether an address is its.
-    fn takes(self, address: u64) -> bool {
-        match self {
-            Receiver::Clearinghouse => address >= 1 << 63,
-            Receiver::Worker(word) => address == word,
+    /// For whom the packet of these bytes is.
+    pub(crate) fn of(bytes: &[u8]) -> Receiver {
+        let address = addressee(bytes);
+        if address < 1 << 63 {
+            Receiver::Worker(address)
+        } else if bytes.get(3) == Some(&SAVE) {
+            Receiver::Saves
+        } else {
+            Receiver::Clearinghouse
         }
     }
 }
@@ -344,6 +352,23 @@ impl<'a, D: SteadyDisk + Drop> Chronicle<'a, D> {
         found
     }
 
+    /// The number of the first Save from the packet of a number on, and how many steps its place has. Else how many packets were looked at:
+    /// all that were sent. A hint. It takes no memory.
+    pub fn save_for<R: Wait>(
+        &self,
+        rt: &R,
+        seat: &mut ActorSeat<'a, D>,
+        from: u64,
+    ) -> Result<(u64, u8), u64>
+        requires { IsSeatIn self.now seat.old }
+        ensures same { seat.new ≡ seat.old }
+    {
+        let kept = self.lock.take(rt, &mut seat.seat);
+        let found = first_save(&kept, from);
+        self.lock.put(&mut seat.seat, kept);
+        found
+    }
+
     /// The job.
     pub fn job(&self) -> &'a Job
         ensures { result.now ≡ self.now.job }
@@ -551,11 +576,22 @@ fn first_for<D: SteadyDisk + Drop>(
         let Some(packet) = world.packet(index) else {
             return Err(index);
         };
-        if receiver.takes(addressee(packet.as_bytes())) {
+        if Receiver::of(packet.as_bytes()) == receiver {
             return Ok(index);
         }
     }
     Err(sent)
+}
+
+/// The number of the first Save from one on, and how many steps its place has: that many stand behind the word of who sent it, which is the
+/// fourth one. Else how many packets were sent.
+fn first_save<D: SteadyDisk + Drop>(kept: &Kept<'_, D>, from: u64) -> Result<(u64, u8), u64> {
+    let index = first_for(kept, from, Receiver::Saves)?;
+    let steps = match kept.world().packet(index) {
+        Some(packet) => packet.as_bytes().get(29).copied(),
+        None => None,
+    };
+    Ok((index, steps.unwrap_or(u8::MAX)))
 }
 
 /// The bytes of the packet of a number, if it is a Roster.
@@ -575,7 +611,7 @@ fn roster_at<D: SteadyDisk + Drop>(
 }
 
 /// The word behind the first twelve bytes.
-pub(crate) fn addressee(bytes: &[u8]) -> u64 {
+fn addressee(bytes: &[u8]) -> u64 {
     let mut word = 0;
     for byte in bytes.iter().skip(12).take(8) {
         word = (word << 8) | u64::from(*byte);

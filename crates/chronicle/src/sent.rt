@@ -1,6 +1,6 @@
 //! How many packets were sent, as actors read it without the lock.
 
-use crate::chronicle::{Receiver, addressee};
+use crate::chronicle::Receiver;
 use crate::kept::Kept;
 use crossbeam_utils::CachePadded;
 use disk::SteadyDisk;
@@ -11,7 +11,8 @@ use std::sync::atomic::Ordering::SeqCst;
 /// In how many parts workers are told apart by their start words.
 const PARTS: u64 = 64;
 
-/// How many packets were sent in all, and up to the last one to each part of the receivers: those of workers, and then the clearinghouse.
+/// How many packets were sent in all, and up to the last one to each part of the receivers: those of workers, then the clearinghouse, and
+/// then the same for Saves.
 /// Written under the lock, and only where it changes, so that who reads it in vain has it at hand. Each has cache lines of its own, so that
 /// what is written for one actor doesn't take those of others away.
 #[derive(Drop)]
@@ -23,8 +24,8 @@ pub(crate) struct Sent {
 impl Sent {
     /// None was sent.
     pub(crate) fn new(alloc: Global) -> Result<Sent, AllocError> {
-        let mut last = Vec::with_capacity(alloc, PARTS as usize + 1)?;
-        for _ in 0..=PARTS {
+        let mut last = Vec::with_capacity(alloc, PARTS as usize + 2)?;
+        for _ in 0..PARTS + 2 {
             last.push(CachePadded::new(AtomicU64::new(0)))?;
         }
         Ok(Sent {
@@ -46,7 +47,7 @@ impl Sent {
             let Some(packet) = world.packet(index) else {
                 break;
             };
-            let part = part_of(addressee(packet.as_bytes()));
+            let part = part_of(Receiver::of(packet.as_bytes()));
             if let Some(last) = self.last.get(part) {
                 last.store(index.saturating_add(1), SeqCst);
             }
@@ -61,22 +62,18 @@ impl Sent {
 
     /// How many were sent up to the last one to the part of a receiver.
     pub(crate) fn to(&self, receiver: Receiver) -> u64 {
-        let part = match receiver {
-            Receiver::Clearinghouse => PARTS as usize,
-            Receiver::Worker(word) => part_of(word),
-        };
-        match self.last.get(part) {
+        match self.last.get(part_of(receiver)) {
             Some(last) => last.load(SeqCst),
             None => self.all(),
         }
     }
 }
 
-/// The part of an address.
-fn part_of(address: u64) -> usize {
-    if address >= 1 << 63 {
-        PARTS as usize
-    } else {
-        (address % PARTS) as usize
+/// The part of a receiver.
+fn part_of(receiver: Receiver) -> usize {
+    match receiver {
+        Receiver::Worker(word) => (word % PARTS) as usize,
+        Receiver::Clearinghouse => PARTS as usize,
+        Receiver::Saves => PARTS as usize + 1,
     }
 }

@@ -15,6 +15,7 @@ use Rattle.codec.specs.declared.body.Beat.{Beat}
 use Rattle.codec.specs.declared.body.Body.{Body}
 use Rattle.codec.specs.declared.body.Body.TheVariants as body
 use Rattle.codec.specs.declared.body.Leave.{Leave}
+use Rattle.codec.specs.declared.body.Save.{Save}
 use Rattle.codec.specs.declared.body.Steal.{Steal}
 use Rattle.codec.specs.declared.body.TaskResult.{TaskResult}
 use Rattle.serial_meaning.specs.Job.{JobOf}
@@ -148,6 +149,15 @@ module _ (job : JobOf) where
       (λ unlisted. tt))
       (λ other. if_holds (IsSafe h) (is_house to) _ _ (λ house. same h _ _ (λ s. s) refl refl (λ none. none) (λ listing. listing)) (λ none. tt))
 
+  saved : (b : Save) (h : HouseOf) → IsSafe h (Cases.saved b h)
+  saved b h =
+      if_holds (IsSafe h) (not (is_live b.from (members_of h)) || (is_some h.outcome || not (Cases.may_save (record { place = b.place; value = b.value }) h))) _ _
+      (λ no. tt)
+      (λ may.
+      if_holds (IsSafe h) (nat_lt (h.sequence + 1) (2 ^ 64)) _ _
+      (λ more. record { holds = λ is. record { decided = is.decided; listing = is.listing; short = is.short }; commits = (refl, refl, refl); outcome = λ is o there. there })
+      (λ spent. inr (ltb-false (h.sequence + 1) (2 ^ 64) spent)))
+
   own : (to : ℕ) (h : HouseOf) (a : HouseAnswer) → IsSafe h a → IsSafe h (Cases.if_own job to h a)
   own to h a is = if_holds (IsSafe h) (nat_eq to (name_of h)) _ _ (λ same. is) (λ other. tt)
 
@@ -158,6 +168,7 @@ module _ (job : JobOf) where
   body_safe to (body.Result b) h = own to h _ (returned b h)
   body_safe to (body.Leave b) h = own to h _ (left b h)
   body_safe to (body.Beat b) h = beats to b h
+  body_safe to (body.Save b) h = own to h _ (saved b h)
   body_safe to (body.Roster b) h = tt
   body_safe to (body.Grant b) h = tt
   body_safe to (body.Refuse b) h = tt

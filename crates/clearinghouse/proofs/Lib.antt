@@ -7,5 +7,6 @@ pub mod Looking
 pub mod Answering
 pub mod Telling
 pub mod Standing
+mod Saving
 pub mod Committing
 pub mod Opening

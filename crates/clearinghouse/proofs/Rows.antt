@@ -60,7 +60,7 @@ ask i seq = Comes house (body.Steal (record { from = i; seq = seq }))
 
 -- a thief is granted the root, under a number, or is refused
 abbrev granted : ℕ → ℕ → ℕ → Event
-granted i seq number = to i (body.Grant (record { seq = seq; grant = root number; task = record { place = []; thread = 0; numbers = pos 2 ∷ [] } }))
+granted i seq number = to i (body.Grant (record { seq = seq; grant = root number; task = record { place = []; thread = 0; numbers = pos 2 ∷ [] }; saved = [] }))
 
 abbrev refused : ℕ → ℕ → Event
 refused i seq = to i (body.Refuse (record { seq = seq }))

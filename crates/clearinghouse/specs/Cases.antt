@@ -1,5 +1,5 @@
 -- What a packet does at the clearinghouse, by its kind.
-use Rattle.std.specs.Prelude.{ℕ, ◌+◌, ◌^◌, ◌||◌, not, nat_eq, nat_lt, if◌then◌else◌, [], ◌∷◌, length, Option, None, Some, is_some, Result, Ok, Err}
+use Rattle.std.specs.Prelude.{ℕ, ◌+◌, ◌^◌, ◌&&◌, ◌||◌, Bool, not, nat_eq, nat_lt, if◌then◌else◌, [], ◌∷◌, length, Option, None, Some, is_some, Result, Ok, Err}
 use Rattle.ids.specs.Members.{is_live, status_in}
 use Rattle.ids.specs.declared.member.Status.{Status}
 use Rattle.ids.specs.declared.member.Status.TheVariants.{Live, Dead, Left}
@@ -10,8 +10,12 @@ use Rattle.codec.specs.declared.body.Beat.{Beat}
 use Rattle.codec.specs.declared.body.Body.{Body}
 use Rattle.codec.specs.declared.body.Body.TheVariants as body
 use Rattle.codec.specs.declared.body.Leave.{Leave}
+use Rattle.codec.specs.declared.body.Save.{Save}
 use Rattle.codec.specs.declared.body.Steal.{Steal}
 use Rattle.codec.specs.declared.body.TaskResult.{TaskResult}
+use Rattle.saved_values.specs.Places.{is_saved_place}
+use Rattle.saved_values.specs.Saved.{is_taken, put_saved}
+use Rattle.saved_values.specs.declared.value.SavedValue.{SavedValue}
 use Rattle.serial_meaning.specs.Job.{JobOf}
 use Rattle.steal_protocol.specs.Replies.{by_reply, reply_in}
 use Rattle.clearinghouse.specs.House.{HouseOf, is_root, members_of, name_of}
@@ -25,6 +29,18 @@ by_status None live gone unlisted = unlisted
 by_status (Some Live) live gone unlisted = live
 by_status (Some Dead) live gone unlisted = gone
 by_status (Some (Left heir)) live gone unlisted = gone
+
+-- a value may be saved: its place is one of a saved value, isn't saved yet, and wouldn't be dropped at once
+abbrev pub may_save : SavedValue → HouseOf → Bool
+may_save x h = is_saved_place x.place && is_taken x h.saved
+
+-- Save: of a sender that isn't listed as live, beside an outcome, or of what may not be saved it is ignored; else the value is saved
+abbrev pub saved : Save → HouseOf → HouseAnswer
+saved b h =
+    let x : SavedValue = record { place = b.place; value = b.value } in
+    if not (is_live b.from (members_of h)) || (is_some h.outcome || not (may_save x h)) then Ignored
+    else if nat_lt (h.sequence + 1) (2 ^ 64) then Does (Moves.saves (put_saved x h.saved) h)
+    else Refused error.Spent
 
 module _ (job : JobOf) where
   -- Join: a new worker is listed and heard, if there is room for one more; one that is listed as live is heard; and each is told
@@ -93,6 +109,7 @@ module _ (job : JobOf) where
   on_body to (body.Result b) h = if_own to h (returned b h)
   on_body to (body.Leave b) h = if_own to h (left b h)
   on_body to (body.Beat b) h = beats to b h
+  on_body to (body.Save b) h = if_own to h (saved b h)
   on_body to other h = Ignored
 
   -- a packet of another job is ignored

@@ -11,6 +11,7 @@ use Rattle.checkpoint.specs.Store.{IsRefused, KeepsNew, KeepsRecord, Opened, Rea
 use Rattle.checkpoint.specs.declared.record.CheckpointRecord.{CheckpointRecord as Stored}
 use Rattle.checkpoint.specs.declared.record.StoreError.TheVariants as store_error
 use Rattle.ids.specs.declared.outcome.Outcome.{Outcome}
+use Rattle.saved_values.specs.declared.value.SavedValue.{SavedValue}
 use Rattle.serial_meaning.specs.Job.{JobOf}
 use Rattle.clearinghouse.specs.Calls.{can_begin, next_epoch}
 use Rattle.clearinghouse.specs.House.{HouseOf, Kept, State, Open, Stopped, kept_of, opened}
@@ -37,11 +38,18 @@ IsRecorded Ignored o sent old = ⊥
 IsRecorded (Refused e) o sent old = ⊥
 IsRecorded (Does s) o sent old = (s ≡ Moves.records o s.sent old) × (sent ≡ s.sent)
 
+-- of an answer that saves values: these
+abbrev pub IsSaved : HouseAnswer → List SavedValue → HouseOf → Type 0
+IsSaved Ignored saved old = ⊥
+IsSaved (Refused e) saved old = ⊥
+IsSaved (Does s) saved old = s ≡ Moves.saves saved old
+
 -- what is to be done by an answer; what is to be committed isn't done yet. Being out of memory may leave a part of it
 abbrev pub Acts : HouseAnswer → Result Act HouseError → HouseOf → HouseOf → Type 0
 Acts expected (Ok act.Ignored) old new = (expected ≡ Ignored) × (new ≡ old)
 Acts expected (Ok (act.Sends sent)) old new = IsSent expected sent new
 Acts expected (Ok (act.Records o sent)) old new = IsRecorded expected o sent old × (new ≡ old) × (old.sequence + 1 < 2 ^ 64)
+Acts expected (Ok (act.Saves saved)) old new = IsSaved expected saved old × (new ≡ old) × (old.sequence + 1 < 2 ^ 64)
 Acts expected (Err error.Memory) old new = Unit {0}
 Acts expected (Err (error.Bytes fault)) old new = (expected ≡ Refused (error.Bytes fault)) × (new ≡ old)
 Acts expected (Err error.Spent) old new = (expected ≡ Refused error.Spent) × (new ≡ old)

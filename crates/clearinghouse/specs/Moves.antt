@@ -13,6 +13,7 @@ use Rattle.codec.specs.Table.{PacketOf}
 use Rattle.codec.specs.declared.body.Body.{Body}
 use Rattle.codec.specs.declared.body.Body.TheVariants as body
 use Rattle.codec.specs.declared.body.Steal.{Steal}
+use Rattle.saved_values.specs.declared.value.SavedValue.{SavedValue}
 use Rattle.serial_meaning.specs.Job.{JobOf}
 use Rattle.serial_meaning.specs.Places.{root}
 use Rattle.steal_protocol.specs.Replies.{put_reply}
@@ -61,6 +62,10 @@ declared_dead limit now w = record w { status = if is_lost limit now w then Dead
 abbrev pub records : Outcome → List PacketOf → HouseOf → HouseStepOf
 records o sent h = commits sent (record h { outcome = Some o; root = None })
 
+-- a value is saved with the others: that is committed, and nothing is sent
+abbrev pub saves : List SavedValue → HouseOf → HouseStepOf
+saves saved h = commits [] (record h { saved = saved })
+
 module _ (job : JobOf) where
   -- a packet of the job
   abbrev pub packet : ℕ → Body → PacketOf
@@ -87,11 +92,11 @@ module _ (job : JobOf) where
     t ← root job.program job.input
     Some (record { place = []; thread = t.thread; numbers = t.numbers })
 
-  -- a thief is granted the root task, under the next number
+  -- a thief is granted the root task, under the next number, with all values that are saved
   abbrev pub grants : Steal → Task → HouseOf → HouseStepOf
   grants b task h =
       let g : Grant = record { minter = name_of h; number = h.minted + 1 } in
-      answers b.from b.seq (body.Grant (record { seq = b.seq; grant = g; task = task })) (record h { root = Some (record { grant = g; holder = b.from }); minted = h.minted + 1 })
+      answers b.from b.seq (body.Grant (record { seq = b.seq; grant = g; task = task; saved = h.saved })) (record h { root = Some (record { grant = g; holder = b.from }); minted = h.minted + 1 })
 
   -- the root's grant by a changed roster: if nobody has its holder's work it isn't out any more, and the holder is told to stop;
   -- else whoever has that work is its holder

@@ -19,10 +19,12 @@ use crate::error::HouseError;
 use crate::parts::{Act, RootGrant};
 use crate::sending::{roster_alone, send_abort};
 use codec::{
-    Beat, Body, Datagram, Grant, Join, Leave, Packet, Refuse, ResultAck, Steal, TaskResult, alone,
+    Beat, Body, Datagram, Grant, Join, Leave, Packet, Refuse, ResultAck, Save, Steal, TaskResult,
+    alone,
 };
 use ids::{Address, GrantId, Incarnation, Listed, Numbers, Outcome, Place, Status, Task};
 use kind_check::accepted_threads_are_few;
+use saved_values::{SavedPlace, SavedTable, SavedValue, copied};
 use serial_meaning::Job;
 use std::alloc::{AllocError, Global};
 use steal_protocol::{Heard, Reply};
@@ -81,6 +83,7 @@ impl Book {
             Body::Result(back) if own => self.returned(alloc, job, *back),
             Body::Leave(leave) if own => self.left(alloc, job, *leave),
             Body::Beat(beat) => self.beats(alloc, job, to, *beat),
+            Body::Save(save) if own => self.saved(save),
             _ => Ok(Act::Ignored),
         }
     }
@@ -157,7 +160,7 @@ impl Book {
         self.grant(alloc, job, steal, grant)
     }
 
-    /// The root task is granted under a new name.
+    /// The root task is granted under a new name, with all values that are saved.
     fn grant(
         &mut self,
         alloc: Global,
@@ -173,6 +176,7 @@ impl Book {
             seq: steal.seq,
             grant,
             task: root_task(alloc, job)?,
+            saved: copied(alloc, self.saved.as_slice())?,
         };
         let packet = Packet::grant(job.number(), steal.from, given);
         let sent = self.answer(alloc, steal, packet)?;
@@ -218,6 +222,37 @@ impl Book {
             return Err(HouseError::Spent);
         }
         Ok(Act::Records(back.outcome, sent))
+    }
+
+    /// A value comes that may be saved: of a sender that isn't listed as live, beside an outcome, of a place of which no value is saved or
+    /// one is already, and where it would be dropped at once it is ignored.
+    fn saved(&mut self, save: &Save) -> Result<Act, HouseError>
+        ensures { Acts (cases.saved save.now self.old) result self.old self.new }
+    {
+        if !self.is_live(save.from) || self.outcome.is_some() {
+            return Ok(Act::Ignored);
+        }
+        let Some(place) = SavedPlace::of(&save.place) else {
+            return Ok(Act::Ignored);
+        };
+        let mut saved = self.saved.copied();
+        let value = save.value;
+        if !saved.put(SavedValue { place, value }) {
+            return Ok(Act::Ignored);
+        }
+        if self.sequence == u64::MAX {
+            return Err(HouseError::Spent);
+        }
+        Ok(Act::Saves(saved))
+    }
+
+    /// Values are saved, which were committed.
+    pub fn keep_saved(&mut self, saved: SavedTable)
+        requires { self.old.sequence + 1 < 2 ^ 64 }
+        ensures { self.new ≡ record self.old { saved = saved; sequence = self.old.sequence + 1 } }
+    {
+        self.saved = saved;
+        self.sequence += 1;
     }
 
     /// The outcome is recorded, which was committed, and the root's grant isn't out any more.

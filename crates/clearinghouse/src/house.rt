@@ -2,7 +2,7 @@
 ghost use Rattle.std.specs.Prelude.{◌≡◌, ◌⊎◌, ◌+◌, ◌<◌, ◌^◌, ℕ, true, false, IfOk, IfErr, IsErrOf, IsTrue, [], Some, None};
 ghost use Rattle.disk.specs.Device.{armed};
 ghost use Rattle.disk.specs.File.{bytes_of};
-ghost use Rattle.checkpoint.specs.Commit.{next_of};
+ghost use Rattle.checkpoint.specs.Commit.{next_of, with_saved};
 ghost use Rattle.checkpoint.specs.Store.{KeepsContent, KeepsRecord, ReadsAsStore};
 ghost use Rattle.checkpoint.specs.declared.record.CheckpointRecord.{CheckpointRecord as Stored};
 ghost use Rattle.clearinghouse.specs.Calls as calls;
@@ -18,6 +18,7 @@ use checkpoint::{LastEpoch, Store, StoreError};
 use codec::{Datagram, ReadError, decode};
 use disk::Disk;
 use ids::{Epoch, Listed, Outcome};
+use saved_values::SavedTable;
 use serial_meaning::Job;
 use std::alloc::Global;
 use std::marker::Model;
@@ -127,6 +128,13 @@ impl<'a, D: Disk> House<'a, D> {
                     return Err(HouseError::Device);
                 }
                 Ok(sends(sent))
+            }
+            Ok(Act::Saves(saved)) => {
+                if !commit_saved(&mut self.book, &mut self.store, saved) {
+                    self.stop = Some(Stop::Device);
+                    return Err(HouseError::Device);
+                }
+                Ok(sends(Listed::new(alloc)))
             }
             Err(HouseError::Memory) => {
                 self.stop = Some(Stop::Memory);
@@ -282,6 +290,25 @@ fn commit_outcome<D: Disk>(book: &mut Book, store: &mut Store<D>, outcome: Outco
     match store.commit(LastEpoch::at(book.epoch), Some(outcome)) {
         Ok(()) => {
             book.record(outcome);
+            true
+        }
+        Err(_) => false,
+    }
+}
+
+/// Other saved values are committed, and then kept; whether the device carried the commit out.
+fn commit_saved<D: Disk>(book: &mut Book, store: &mut Store<D>, saved: SavedTable) -> bool
+    requires counted { book.old.sequence + 1 < 2 ^ 64 }
+    requires stored { store.old ≡ record store.old { sequence = book.old.sequence; ended = false } }
+    ensures done { result ≡ true → (book.new ≡ record book.old { saved = saved; sequence = book.old.sequence + 1 })
+        × Committed D.device D.planned (with_saved store.old.record saved) store.old store.new }
+    ensures halted { result ≡ false → (book.new ≡ book.old)
+        × Halted D.device D.planned (with_saved store.old.record saved) store.old store.new }
+{
+    let values = saved.copied();
+    match store.save(values) {
+        Ok(()) => {
+            book.keep_saved(saved);
             true
         }
         Err(_) => false,

@@ -3,6 +3,7 @@ ghost use Rattle.clearinghouse.specs.House.{name_of_enlisted};
 use crate::error::HouseError;
 use codec::Datagram;
 use ids::{GrantId, Incarnation, Listed, Named, Outcome, Status};
+use saved_values::SavedTable;
 
 /// A worker of a roster: what is said of it, and the moment at which it was last heard.
 #[derive(Clone, Copy, PartialEq, Eq, Debug)]
@@ -58,11 +59,12 @@ pub struct HouseStep {
     pub ignored: bool,
 }
 
-/// What is to be done by a packet or at a moment: it is ignored; packets are sent; or an outcome is recorded, and then packets are
-/// sent.
+/// What is to be done by a packet or at a moment: it is ignored; packets are sent; an outcome is recorded, and then packets are sent; or
+/// these values are saved.
 #[derive(Drop)]
 pub enum Act {
     Ignored,
     Sends(Listed<Datagram>),
     Records(Outcome, Listed<Datagram>),
+    Saves(SavedTable),
 }

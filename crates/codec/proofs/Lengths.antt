@@ -1,7 +1,7 @@
 -- How many bytes a format writes at most, of what can be written. A packet that is no offer takes fewer than are allowed.
-use Rattle.std.proofs.Common.{◌≡◌, ℕ, zero, suc, ◌+◌, ◌*◌, ◌^◌, ◌≤◌, Bool, true, false, cond, not, eqb, leb, ltb, List, [], ◌∷◌, ◌++◌, length, reverse, Option, Some, None, ap, ◌∙◌, arith}
+use Rattle.std.proofs.Common.{◌≡◌, ℕ, zero, suc, ◌+◌, ◌*◌, ◌^◌, ◌≤◌, ◌<◌, Bool, true, false, cond, not, eqb, leb, ltb, List, [], ◌∷◌, ◌++◌, length, reverse, Option, Some, None, ap, ◌∙◌, arith}
 use Rattle.std.specs.Prelude.{◌&&◌}
-use Rattle.std.proofs.lemmas.Bool.{and_parts, eqb-true, leb-true}
+use Rattle.std.proofs.lemmas.Bool.{and_parts, eqb-true, leb-true, ltb-true}
 use Rattle.std.proofs.lemmas.List.{length-append}
 use Rattle.std.proofs.Math.Nat.{mul-le-mul_left, mul-suc}
 use Rattle.std.specs.Int.{w64, cast_unsigned}
@@ -12,11 +12,15 @@ use Rattle.ids.specs.declared.outcome.Outcome.TheVariants.{Value, TooDeep}
 use Rattle.ids.specs.declared.member.Status.TheVariants.{Live, Dead, Left}
 use Rattle.packet_fields.specs.declared.fault.Fault.{Fault}
 use Rattle.packet_fields.specs.declared.fault.Fault.TheVariants as fault
-use Rattle.packet_fields.specs.Format.{Format, at_most, tagged_arm, followed, items, listed, made, never, nothing, number, of_part, plain, raw, tested, variant}
+use Rattle.packet_fields.specs.Format.{Format, at_most, tagged_arm, followed, is_empty, items, listed, made, never, nothing, number, of_part, plain, raw, tested, variant}
 use Rattle.packet_fields.specs.Fields as field
 use Rattle.codec.specs.declared.body.Body.{Body}
 use Rattle.codec.specs.declared.body.Body.TheVariants as body
-use Rattle.codec.specs.Table.{PacketOf, Spells, abort, beat, fields, fits_body, granted, is_packet, is_short, join, kind_of, leave, offer_ack, packet, piece, refuse, result_ack, roster, steal, suits, task_result, version_of, write_body}
+use Rattle.codec.specs.declared.body.Grant.{Grant}
+use Rattle.saved_values.specs.Places.{is_saved_place}
+use Rattle.saved_values.specs.Saved.{place_of}
+use Rattle.saved_values.specs.declared.value.SavedValue.{SavedValue}
+use Rattle.codec.specs.Table.{PacketOf, Spells, abort, beat, fields, fits_body, grant_format, granted, is_packet, is_saved, is_short, join, kind_of, leave, offer_ack, packet, piece, refuse, result_ack, roster, save, saved_grant, steal, suits, task_result, version_of, write_body}
 use Rattle.codec.proofs.TableLaws.{is_written}
 
 -- of what can be written, at most so many bytes are
@@ -195,10 +199,64 @@ steal_bytes =
     (followed_bytes 8 8 field.worker (λ _. field.counted) worker_bytes (λ _. counted_bytes))
 
 granted_bytes : AtMost 1116 granted
-unfolding granted
+unfolding granted field.no_values
 granted_bytes =
-    made_bytes 1116 (followed field.counted (λ _. followed field.grant (λ _. field.task))) (λ x. record { seq = x.0; grant = x.1.0; task = x.1.1 }) (λ b. (b.seq, (b.grant, b.task)))
-    (followed_bytes 8 1108 field.counted (λ _. followed field.grant (λ _. field.task)) counted_bytes (λ _. followed_bytes 16 1092 field.grant (λ _. field.task) grant_bytes (λ _. task_bytes)))
+    made_bytes 1116 (followed field.counted (λ _. followed field.grant (λ _. followed field.task (λ _. field.no_values))))
+    (λ x. record { seq = x.0; grant = x.1.0; task = x.1.1.0; saved = x.1.1.1 })
+    (λ b. (b.seq, (b.grant, (b.task, b.saved))))
+    (followed_bytes 8 1108 field.counted (λ _. followed field.grant (λ _. followed field.task (λ _. field.no_values))) counted_bytes (λ _.
+    followed_bytes 16 1092 field.grant (λ _. followed field.task (λ _. field.no_values)) grant_bytes (λ _.
+    followed_bytes 1092 0 field.task (λ _. field.no_values) task_bytes (λ _. nothing_bytes 0 [] is_empty))))
+
+-- 64 saved values of 33 bytes
+saved_place_bytes : AtMost 25 field.saved_place
+unfolding field.saved_place
+saved_place_bytes =
+    tested_bytes 25 fault.Field (made (listed 2 (λ n. ltb 0 n && ltb n 24) (plain field.step)) reverse reverse) is_saved_place
+    (made_bytes 25 (listed 2 (λ n. ltb 0 n && ltb n 24) (plain field.step)) reverse reverse few)
+  where
+    few : AtMost 25 (listed 2 (λ n. ltb 0 n && ltb n 24) (plain field.step))
+    few = record {
+      bytes = λ xs f.
+          let count : ℕ = length xs in
+          let h = and_parts (ltb count (256 ^ 2) && (ltb 0 count && ltb count 24)) ((plain field.step count).fits xs) f in
+          let room = and_parts (ltb count (256 ^ 2)) (ltb 0 count && ltb count 24) h.0 in
+          let below : count < 24 = ltb-true count 24 (and_parts (ltb 0 count) (ltb count 24) room.1).1 in
+          omega (arith, length-append (big_bytes 2 count) ((plain field.step count).write xs), length-bytes_high_first 2 count, plain_bytes 1 field.step step_bytes count xs h.1, below);
+    }
+
+saved_value_bytes : (last : Option (List ℕ)) → AtMost 33 (field.saved_value last)
+unfolding field.saved_value
+saved_value_bytes last =
+    made_bytes 33 (followed (tested fault.Field field.saved_place (field.is_later last)) (λ _. field.signed)) (λ x. record { place = x.0; value = x.1 }) (λ s. (s.place, s.value))
+    (followed_bytes 25 8 (tested fault.Field field.saved_place (field.is_later last)) (λ _. field.signed) (tested_bytes 25 fault.Field field.saved_place (field.is_later last) saved_place_bytes) (λ _. signed_bytes))
+
+saved_values_bytes : AtMost 2113 field.saved_values
+unfolding field.saved_values
+saved_values_bytes = record {
+  bytes = λ xs f.
+      let count : ℕ = length xs in
+      let inner : Format (List SavedValue) = items place_of field.saved_value None count in
+      let h = and_parts (ltb count (256 ^ 1) && (ltb 0 count && leb count 64)) (inner.fits xs) f in
+      let room = and_parts (ltb count (256 ^ 1)) (ltb 0 count && leb count 64) h.0 in
+      let few : count ≤ 64 = leb-true count 64 (and_parts (ltb 0 count) (leb count 64) room.1).1 in
+      omega (arith, length-append (big_bytes 1 count) (inner.write xs), length-bytes_high_first 1 count, items_bytes 33 place_of field.saved_value saved_value_bytes None count xs h.1, few);
+}
+
+saved_grant_bytes : AtMost 3229 saved_grant
+unfolding saved_grant
+saved_grant_bytes =
+    made_bytes 3229 (followed field.counted (λ _. followed field.grant (λ _. followed field.task (λ _. field.saved_values))))
+    (λ x. record { seq = x.0; grant = x.1.0; task = x.1.1.0; saved = x.1.1.1 })
+    (λ b. (b.seq, (b.grant, (b.task, b.saved))))
+    (followed_bytes 8 3221 field.counted (λ _. followed field.grant (λ _. followed field.task (λ _. field.saved_values))) counted_bytes (λ _.
+    followed_bytes 16 3205 field.grant (λ _. followed field.task (λ _. field.saved_values)) grant_bytes (λ _.
+    followed_bytes 1092 2113 field.task (λ _. field.saved_values) task_bytes (λ _. saved_values_bytes))))
+
+-- a Grant of either kind
+grant_format_bytes : (some : Bool) (b : Grant) → (grant_format some).fits b ≡ true → length ((grant_format some).write b) ≤ 3229
+grant_format_bytes true b f = saved_grant_bytes.bytes b f
+grant_format_bytes false b f = omega (arith, granted_bytes.bytes b f)
 
 refuse_bytes : AtMost 8 refuse
 unfolding refuse
@@ -235,6 +293,14 @@ unfolding beat
 beat_bytes =
     made_bytes 16 (followed field.worker (λ _. field.counted)) (λ x. record { from = x.0; version = x.1 }) (λ b. (b.from, b.version))
     (followed_bytes 8 8 field.worker (λ _. field.counted) worker_bytes (λ _. counted_bytes))
+
+save_bytes : AtMost 1042 save
+unfolding save
+save_bytes =
+    made_bytes 1042 (followed field.worker (λ _. followed field.place (λ _. field.signed)))
+    (λ x. record { from = x.0; place = x.1.0; value = x.1.1 })
+    (λ b. (b.from, (b.place, b.value)))
+    (followed_bytes 8 1034 field.worker (λ _. followed field.place (λ _. field.signed)) worker_bytes (λ _. followed_bytes 1026 8 field.place (λ _. field.signed) place_bytes (λ _. signed_bytes)))
 
 -- a part of an offer
 part_few : (pieces number count : ℕ) → field.allows_part pieces number count ≡ true → count ≤ 65536
@@ -282,7 +348,7 @@ body_bytes : (b : Body) → is_short b ≡ true → fits_body b ≡ true → len
 body_bytes (body.Join b) short f = omega (arith, join_bytes.bytes b f)
 body_bytes (body.Roster b) short f = roster_bytes.bytes b f
 body_bytes (body.Steal b) short f = omega (arith, steal_bytes.bytes b f)
-body_bytes (body.Grant b) short f = omega (arith, granted_bytes.bytes b f)
+body_bytes (body.Grant b) short f = omega (arith, grant_format_bytes (is_saved b) b f)
 body_bytes (body.Refuse b) short f = omega (arith, refuse_bytes.bytes b f)
 body_bytes (body.Result b) short f = omega (arith, result_bytes.bytes b f)
 body_bytes (body.ResultAck b) short f = omega (arith, result_ack_bytes.bytes b f)
@@ -292,6 +358,7 @@ body_bytes (body.Leave b) short f = omega (arith, leave_bytes.bytes b f)
 body_bytes (body.Abort b) short f = omega (arith, abort_bytes.bytes b f)
 body_bytes (body.Beat b) short f = omega (arith, beat_bytes.bytes b f)
 body_bytes (body.Piece b) short f = omega (arith, piece_bytes.bytes b f)
+body_bytes (body.Save b) short f = omega (arith, save_bytes.bytes b f)
 
 -- ---- packets
 

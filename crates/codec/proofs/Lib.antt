@@ -6,3 +6,4 @@ pub mod Rosters
 pub mod Datagrams
 pub mod Parting
 mod Rising
+mod Granted

@@ -94,6 +94,7 @@ cut_short p short = by_body p.body refl short
     by_body (body.Abort b) e s = rw e refl
     by_body (body.Beat b) e s = rw e refl
     by_body (body.Piece b) e s = rw e refl
+    by_body (body.Save b) e s = rw e refl
 
 -- and is short
 pub short_few : (p : PacketOf) → is_packet p ≡ true → is_short p.body ≡ true → length (packet.write p) ≤ 1073741824
@@ -123,3 +124,4 @@ other_short (body.Leave b) other = refl
 other_short (body.Abort b) other = refl
 other_short (body.Beat b) other = refl
 other_short (body.Piece b) other = refl
+other_short (body.Save b) other = refl

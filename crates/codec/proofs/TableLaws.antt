@@ -1,6 +1,6 @@
 -- The formats of the table keep the laws of formats: those of each kind, those of the fields by kinds, and the packet.
-use Rattle.std.proofs.Common.{◌≡◌, ℕ, zero, suc, ◌^◌, ◌<◌, ◌≤◌, Bool, true, false, ◌||◌, cond, eqb, ltb, List, [], ◌++◌, length, Result, Ok, Err, refl, sym, ap, subst, ◌∙◌, arith}
-use Rattle.std.specs.Prelude.{◌&&◌, IfOk, nat_eq}
+use Rattle.std.proofs.Common.{◌≡◌, ℕ, zero, suc, ◌^◌, ◌<◌, ◌≤◌, Bool, true, false, ◌||◌, cond, eqb, ltb, List, [], ◌∷◌, ◌++◌, length, Result, Ok, Err, refl, sym, ap, subst, ◌∙◌, arith}
+use Rattle.std.specs.Prelude.{◌&&◌, IfOk, nat_eq, not}
 use mathlib.Core.Logic.{⊎_elim}
 use Rattle.std.proofs.lemmas.Bool.{and_from, and_parts, eq-eqb, eqb-true, le-ltb, lt-ltb, ltb-false, ltb-true, or_cases}
 use Rattle.std.proofs.lemmas.List.{append-nil, nil_from_length}
@@ -13,15 +13,17 @@ use Rattle.ids.specs.declared.work.Frame.{Frame}
 use Rattle.ids.specs.declared.outcome.Progress.{Progress}
 use Rattle.ids.specs.declared.work.Record.{Record}
 use Rattle.ids.specs.declared.work.Task.{Task}
-use Rattle.packet_fields.specs.Format.{Fails, Format, Gives, IsBytes, ◌>>=◌, constant, end_of, followed, number, tested}
+use Rattle.packet_fields.specs.Format.{Fails, Format, Gives, IsBytes, ◌>>=◌, constant, end_of, followed, is_empty, number, tested}
 use Rattle.packet_fields.specs.Fields as field
 use Rattle.packet_fields.proofs.FormatLaws.{Lawful, bind_ok, constant_lawful, followed_lawful, made_lawful, number_lawful, ok_is, test_ok, tested_lawful, wide1, wide2, wide8}
 use Rattle.packet_fields.proofs.Skipping.{ended}
-use Rattle.packet_fields.proofs.FieldLaws.{actor_lawful, address_lawful, counted_lawful, epoch_lawful, frames_lawful, grant_lawful, hop_lawful, part_lawful, piece_of_lawful, pieces_lawful, members_lawful, other_worker_lawful, outcome_lawful, progress_lawful, raised_lawful, records_lawful, task_lawful, worker_lawful}
+use Rattle.packet_fields.proofs.FieldLaws.{actor_lawful, address_lawful, counted_lawful, epoch_lawful, frames_lawful, grant_lawful, hop_lawful, part_lawful, piece_of_lawful, pieces_lawful, members_lawful, no_values_lawful, other_worker_lawful, outcome_lawful, place_lawful, progress_lawful, raised_lawful, records_lawful, saved_values_lawful, signed_lawful, task_lawful, worker_lawful}
 use Rattle.codec.specs.declared.body.Body.{Body}
 use Rattle.codec.specs.declared.body.Body.TheVariants as body
+use Rattle.codec.specs.declared.body.Grant.{Grant}
+use Rattle.saved_values.specs.declared.value.SavedValue.{SavedValue}
 use Rattle.codec.specs.Pieces.{long_reading}
-use Rattle.codec.specs.Table.{IsSpelled, IsTooBig, PacketOf, SpelledBody, Spelling, Spells, abort, beat, task_result, fields, fits_body, granted, has_kind, is_house, is_kind, is_packet, is_version, join, kind_of, leave, offer, offer_ack, packet, piece, read_body, reading, reads, refuse, result_ack, roster, steal, suits, version_of, write_body}
+use Rattle.codec.specs.Table.{IsSpelled, IsTooBig, PacketOf, SpelledBody, Spelling, Spells, abort, beat, task_result, fields, fits_body, grant_format, granted, has_kind, is_house, is_kind, is_packet, is_saved, is_version, join, kind_of, leave, offer, offer_ack, packet, piece, read_body, reading, reads, refuse, result_ack, roster, save, saved_grant, steal, suits, version_of, write_body}
 
 -- ---- the kinds
 
@@ -48,10 +50,50 @@ steal_lawful =
 pub granted_lawful : Lawful granted
 unfolding granted
 granted_lawful =
-    made_lawful (followed field.counted (λ _. followed field.grant (λ _. field.task))) (λ x. record { seq = x.0; grant = x.1.0; task = x.1.1 }) (λ b. (b.seq, (b.grant, b.task)))
-    (followed_lawful field.counted (λ _. followed field.grant (λ _. field.task)) counted_lawful (λ _. followed_lawful field.grant (λ _. field.task) grant_lawful (λ _. task_lawful)))
+    made_lawful (followed field.counted (λ _. followed field.grant (λ _. followed field.task (λ _. field.no_values))))
+    (λ x. record { seq = x.0; grant = x.1.0; task = x.1.1.0; saved = x.1.1.1 })
+    (λ b. (b.seq, (b.grant, (b.task, b.saved))))
+    (followed_lawful field.counted (λ _. followed field.grant (λ _. followed field.task (λ _. field.no_values))) counted_lawful (λ _.
+    followed_lawful field.grant (λ _. followed field.task (λ _. field.no_values)) grant_lawful (λ _.
+    followed_lawful field.task (λ _. field.no_values) task_lawful (λ _. no_values_lawful))))
     (λ b. refl)
     (λ from to x s. refl)
+
+pub saved_grant_lawful : Lawful saved_grant
+unfolding saved_grant
+saved_grant_lawful =
+    made_lawful (followed field.counted (λ _. followed field.grant (λ _. followed field.task (λ _. field.saved_values))))
+    (λ x. record { seq = x.0; grant = x.1.0; task = x.1.1.0; saved = x.1.1.1 })
+    (λ b. (b.seq, (b.grant, (b.task, b.saved))))
+    (followed_lawful field.counted (λ _. followed field.grant (λ _. followed field.task (λ _. field.saved_values))) counted_lawful (λ _.
+    followed_lawful field.grant (λ _. followed field.task (λ _. field.saved_values)) grant_lawful (λ _.
+    followed_lawful field.task (λ _. field.saved_values) task_lawful (λ _. saved_values_lawful))))
+    (λ b. refl)
+    (λ from to x s. refl)
+
+grant_format_lawful : (some : Bool) → Lawful (grant_format some)
+grant_format_lawful true = saved_grant_lawful
+grant_format_lawful false = granted_lawful
+
+-- which of the two it is shows in what is spelled
+none_spelled : (from to : List ℕ) (b : Grant) → granted.Spelled from to b → is_saved b ≡ false
+unfolding granted field.no_values
+none_spelled from to b s = ap (λ (l : List SavedValue). not (is_empty l)) s.2.2.2.1
+
+some_fit : (l : List SavedValue) → field.saved_values.fits l ≡ true → not (is_empty l) ≡ true
+unfolding field.saved_values
+some_fit [] f = cc
+some_fit (x ∷ l) f = refl
+
+some_spelled : (from to : List ℕ) (b : Grant) → saved_grant.Spelled from to b → is_saved b ≡ true
+unfolding saved_grant
+some_spelled from to b s = some_fit b.saved (saved_values_lawful.fit s.2.2.0 to b.saved s.2.2.2)
+
+kind_of_saved : (b : Grant) (some : Bool) → is_saved b ≡ some → kind_of (body.Grant b) ≡ cond some 15 4
+kind_of_saved b some is = ap (λ (v : Bool). cond v 15 4) is
+
+spells_grant : (some : Bool) (from to : List ℕ) (b : Grant) → is_saved b ≡ some → (grant_format some).Spelled from to b → SpelledBody from to (body.Grant b)
+spells_grant some from to b is s = subst (λ (v : Bool). (grant_format v).Spelled from to b) (sym is) s
 
 pub refuse_lawful : Lawful refuse
 unfolding refuse
@@ -124,6 +166,16 @@ pub abort_lawful : Lawful abort
 unfolding abort
 abort_lawful = made_lawful field.grant (λ x. record { grant = x }) (λ b. b.grant) grant_lawful (λ b. refl) (λ from to x s. refl)
 
+pub save_lawful : Lawful save
+unfolding save
+save_lawful =
+    made_lawful (followed field.worker (λ _. followed field.place (λ _. field.signed)))
+    (λ x. record { from = x.0; place = x.1.0; value = x.1.1 })
+    (λ b. (b.from, (b.place, b.value)))
+    (followed_lawful field.worker (λ _. followed field.place (λ _. field.signed)) worker_lawful (λ _. followed_lawful field.place (λ _. field.signed) place_lawful (λ _. signed_lawful)))
+    (λ b. refl)
+    (λ from to x s. refl)
+
 pub beat_lawful : Lawful beat
 unfolding beat
 beat_lawful =
@@ -148,39 +200,45 @@ piece_lawful =
 
 -- ---- the fields of a kind
 
-reads_found : {X : Type 0} (F : Format X) (make : X → Body) (kind : ℕ) → Lawful F → ((x : X) → kind_of (make x) ≡ kind) → ((from to : List ℕ) (x : X) → F.Spelled from to x → SpelledBody from to (make x))
+reads_found : {X : Type 0} (F : Format X) (make : X → Body) (kind : ℕ) → Lawful F → ((from to : List ℕ) (x : X) → F.Spelled from to x → kind_of (make x) ≡ kind) → ((from to : List ℕ) (x : X) → F.Spelled from to x → SpelledBody from to (make x))
     → (from to : List ℕ) (b : Body) → IsBytes from → reads F make from ≡ Ok (b, to) → ((kind_of b ≡ kind) × SpelledBody from to b) × IsBytes to
 reads_found F make kind law kinds spells from to b bytes e =
     let r = bind_ok (F.read from) (λ x. Ok (make x.0, x.1)) (b, to) e in
     let s = law.found from r.0.1 r.0.0 bytes r.1 in
     let read : Body × List ℕ = (make r.0.0, r.0.1) in
-    subst (λ (q : Body × List ℕ). ((kind_of q.0 ≡ kind) × SpelledBody from q.1 q.0) × IsBytes q.1) (ok_is read (b, to) r.2) ((kinds r.0.0, spells from r.0.1 r.0.0 s.0), s.1)
+    subst (λ (q : Body × List ℕ). ((kind_of q.0 ≡ kind) × SpelledBody from q.1 q.0) × IsBytes q.1) (ok_is read (b, to) r.2) ((kinds from r.0.1 r.0.0 s.0, spells from r.0.1 r.0.0 s.0), s.1)
 
 reads_only : {X : Type 0} (F : Format X) (make : X → Body) → Lawful F → (from to : List ℕ) (x : X) → F.Spelled from to x → reads F make from ≡ Ok (make x, to)
 reads_only F make law from to x s = rw (law.only from to x s) refl
 
 body_found : (kind : ℕ) (from to : List ℕ) (b : Body) → IsBytes from → read_body kind from ≡ Ok (b, to) → ((kind_of b ≡ kind) × SpelledBody from to b) × IsBytes to
 body_found zero from to b bytes e = absurd cc
-body_found (suc zero) from to b bytes e = reads_found join body.Join 1 join_lawful (λ x. refl) (λ f t x s. s) from to b bytes e
-body_found (suc (suc zero)) from to b bytes e = reads_found roster body.Roster 2 roster_lawful (λ x. refl) (λ f t x s. s) from to b bytes e
-body_found (suc (suc (suc zero))) from to b bytes e = reads_found steal body.Steal 3 steal_lawful (λ x. refl) (λ f t x s. s) from to b bytes e
-body_found (suc (suc (suc (suc zero)))) from to b bytes e = reads_found granted body.Grant 4 granted_lawful (λ x. refl) (λ f t x s. s) from to b bytes e
-body_found (suc (suc (suc (suc (suc zero))))) from to b bytes e = reads_found refuse body.Refuse 5 refuse_lawful (λ x. refl) (λ f t x s. s) from to b bytes e
-body_found (suc (suc (suc (suc (suc (suc zero)))))) from to b bytes e = reads_found task_result body.Result 6 task_result_lawful (λ x. refl) (λ f t x s. s) from to b bytes e
-body_found (suc (suc (suc (suc (suc (suc (suc zero))))))) from to b bytes e = reads_found result_ack body.ResultAck 7 result_ack_lawful (λ x. refl) (λ f t x s. s) from to b bytes e
-body_found (suc (suc (suc (suc (suc (suc (suc (suc zero)))))))) from to b bytes e = reads_found offer body.Offer 8 offer_lawful (λ x. refl) (λ f t x s. s) from to b bytes e
-body_found (suc (suc (suc (suc (suc (suc (suc (suc (suc zero))))))))) from to b bytes e = reads_found offer_ack body.OfferAck 9 offer_ack_lawful (λ x. refl) (λ f t x s. s) from to b bytes e
-body_found (suc (suc (suc (suc (suc (suc (suc (suc (suc (suc zero)))))))))) from to b bytes e = reads_found leave body.Leave 10 leave_lawful (λ x. refl) (λ f t x s. s) from to b bytes e
-body_found (suc (suc (suc (suc (suc (suc (suc (suc (suc (suc (suc zero))))))))))) from to b bytes e = reads_found abort body.Abort 11 abort_lawful (λ x. refl) (λ f t x s. s) from to b bytes e
-body_found (suc (suc (suc (suc (suc (suc (suc (suc (suc (suc (suc (suc zero)))))))))))) from to b bytes e = reads_found beat body.Beat 12 beat_lawful (λ x. refl) (λ f t x s. s) from to b bytes e
-body_found (suc (suc (suc (suc (suc (suc (suc (suc (suc (suc (suc (suc (suc zero))))))))))))) from to b bytes e = reads_found piece body.Piece 13 piece_lawful (λ x. refl) (λ f t x s. s) from to b bytes e
-body_found (suc (suc (suc (suc (suc (suc (suc (suc (suc (suc (suc (suc (suc (suc n)))))))))))))) from to b bytes e = absurd cc
+body_found (suc zero) from to b bytes e = reads_found join body.Join 1 join_lawful (λ f t x s. refl) (λ f t x s. s) from to b bytes e
+body_found (suc (suc zero)) from to b bytes e = reads_found roster body.Roster 2 roster_lawful (λ f t x s. refl) (λ f t x s. s) from to b bytes e
+body_found (suc (suc (suc zero))) from to b bytes e = reads_found steal body.Steal 3 steal_lawful (λ f t x s. refl) (λ f t x s. s) from to b bytes e
+body_found (suc (suc (suc (suc zero)))) from to b bytes e = reads_found granted body.Grant 4 granted_lawful (λ f t b s. kind_of_saved b false (none_spelled f t b s)) (λ f t b s. spells_grant false f t b (none_spelled f t b s) s) from to b bytes e
+body_found (suc (suc (suc (suc (suc zero))))) from to b bytes e = reads_found refuse body.Refuse 5 refuse_lawful (λ f t x s. refl) (λ f t x s. s) from to b bytes e
+body_found (suc (suc (suc (suc (suc (suc zero)))))) from to b bytes e = reads_found task_result body.Result 6 task_result_lawful (λ f t x s. refl) (λ f t x s. s) from to b bytes e
+body_found (suc (suc (suc (suc (suc (suc (suc zero))))))) from to b bytes e = reads_found result_ack body.ResultAck 7 result_ack_lawful (λ f t x s. refl) (λ f t x s. s) from to b bytes e
+body_found (suc (suc (suc (suc (suc (suc (suc (suc zero)))))))) from to b bytes e = reads_found offer body.Offer 8 offer_lawful (λ f t x s. refl) (λ f t x s. s) from to b bytes e
+body_found (suc (suc (suc (suc (suc (suc (suc (suc (suc zero))))))))) from to b bytes e = reads_found offer_ack body.OfferAck 9 offer_ack_lawful (λ f t x s. refl) (λ f t x s. s) from to b bytes e
+body_found (suc (suc (suc (suc (suc (suc (suc (suc (suc (suc zero)))))))))) from to b bytes e = reads_found leave body.Leave 10 leave_lawful (λ f t x s. refl) (λ f t x s. s) from to b bytes e
+body_found (suc (suc (suc (suc (suc (suc (suc (suc (suc (suc (suc zero))))))))))) from to b bytes e = reads_found abort body.Abort 11 abort_lawful (λ f t x s. refl) (λ f t x s. s) from to b bytes e
+body_found (suc (suc (suc (suc (suc (suc (suc (suc (suc (suc (suc (suc zero)))))))))))) from to b bytes e = reads_found beat body.Beat 12 beat_lawful (λ f t x s. refl) (λ f t x s. s) from to b bytes e
+body_found (suc (suc (suc (suc (suc (suc (suc (suc (suc (suc (suc (suc (suc zero))))))))))))) from to b bytes e = reads_found piece body.Piece 13 piece_lawful (λ f t x s. refl) (λ f t x s. s) from to b bytes e
+body_found (suc (suc (suc (suc (suc (suc (suc (suc (suc (suc (suc (suc (suc (suc zero)))))))))))))) from to b bytes e = reads_found save body.Save 14 save_lawful (λ f t x s. refl) (λ f t x s. s) from to b bytes e
+body_found (suc (suc (suc (suc (suc (suc (suc (suc (suc (suc (suc (suc (suc (suc (suc zero))))))))))))))) from to b bytes e = reads_found saved_grant body.Grant 15 saved_grant_lawful (λ f t b s. kind_of_saved b true (some_spelled f t b s)) (λ f t b s. spells_grant true f t b (some_spelled f t b s) s) from to b bytes e
+body_found (suc (suc (suc (suc (suc (suc (suc (suc (suc (suc (suc (suc (suc (suc (suc (suc n)))))))))))))))) from to b bytes e = absurd cc
+
+grant_only : (some : Bool) (from to : List ℕ) (b : Grant) → (grant_format some).Spelled from to b → read_body (cond some 15 4) from ≡ Ok (body.Grant b, to)
+grant_only true from to b s = reads_only saved_grant body.Grant saved_grant_lawful from to b s
+grant_only false from to b s = reads_only granted body.Grant granted_lawful from to b s
 
 body_only : (from to : List ℕ) (b : Body) → SpelledBody from to b → read_body (kind_of b) from ≡ Ok (b, to)
 body_only from to (body.Join b) s = reads_only join body.Join join_lawful from to b s
 body_only from to (body.Roster b) s = reads_only roster body.Roster roster_lawful from to b s
 body_only from to (body.Steal b) s = reads_only steal body.Steal steal_lawful from to b s
-body_only from to (body.Grant b) s = reads_only granted body.Grant granted_lawful from to b s
+body_only from to (body.Grant b) s = grant_only (is_saved b) from to b s
 body_only from to (body.Refuse b) s = reads_only refuse body.Refuse refuse_lawful from to b s
 body_only from to (body.Result b) s = reads_only task_result body.Result task_result_lawful from to b s
 body_only from to (body.ResultAck b) s = reads_only result_ack body.ResultAck result_ack_lawful from to b s
@@ -190,12 +248,13 @@ body_only from to (body.Leave b) s = reads_only leave body.Leave leave_lawful fr
 body_only from to (body.Abort b) s = reads_only abort body.Abort abort_lawful from to b s
 body_only from to (body.Beat b) s = reads_only beat body.Beat beat_lawful from to b s
 body_only from to (body.Piece b) s = reads_only piece body.Piece piece_lawful from to b s
+body_only from to (body.Save b) s = reads_only save body.Save save_lawful from to b s
 
 body_one : (from to : List ℕ) (b : Body) → SpelledBody from to b → from ≡ write_body b ++ to
 body_one from to (body.Join b) s = join_lawful.one from to b s
 body_one from to (body.Roster b) s = roster_lawful.one from to b s
 body_one from to (body.Steal b) s = steal_lawful.one from to b s
-body_one from to (body.Grant b) s = granted_lawful.one from to b s
+body_one from to (body.Grant b) s = (grant_format_lawful (is_saved b)).one from to b s
 body_one from to (body.Refuse b) s = refuse_lawful.one from to b s
 body_one from to (body.Result b) s = task_result_lawful.one from to b s
 body_one from to (body.ResultAck b) s = result_ack_lawful.one from to b s
@@ -205,12 +264,13 @@ body_one from to (body.Leave b) s = leave_lawful.one from to b s
 body_one from to (body.Abort b) s = abort_lawful.one from to b s
 body_one from to (body.Beat b) s = beat_lawful.one from to b s
 body_one from to (body.Piece b) s = piece_lawful.one from to b s
+body_one from to (body.Save b) s = save_lawful.one from to b s
 
 body_writes : (b : Body) (to : List ℕ) → fits_body b ≡ true → SpelledBody (write_body b ++ to) to b
 body_writes (body.Join b) to f = join_lawful.writes b to f
 body_writes (body.Roster b) to f = roster_lawful.writes b to f
 body_writes (body.Steal b) to f = steal_lawful.writes b to f
-body_writes (body.Grant b) to f = granted_lawful.writes b to f
+body_writes (body.Grant b) to f = (grant_format_lawful (is_saved b)).writes b to f
 body_writes (body.Refuse b) to f = refuse_lawful.writes b to f
 body_writes (body.Result b) to f = task_result_lawful.writes b to f
 body_writes (body.ResultAck b) to f = result_ack_lawful.writes b to f
@@ -220,12 +280,13 @@ body_writes (body.Leave b) to f = leave_lawful.writes b to f
 body_writes (body.Abort b) to f = abort_lawful.writes b to f
 body_writes (body.Beat b) to f = beat_lawful.writes b to f
 body_writes (body.Piece b) to f = piece_lawful.writes b to f
+body_writes (body.Save b) to f = save_lawful.writes b to f
 
 body_fit : (from to : List ℕ) (b : Body) → SpelledBody from to b → fits_body b ≡ true
 body_fit from to (body.Join b) s = join_lawful.fit from to b s
 body_fit from to (body.Roster b) s = roster_lawful.fit from to b s
 body_fit from to (body.Steal b) s = steal_lawful.fit from to b s
-body_fit from to (body.Grant b) s = granted_lawful.fit from to b s
+body_fit from to (body.Grant b) s = (grant_format_lawful (is_saved b)).fit from to b s
 body_fit from to (body.Refuse b) s = refuse_lawful.fit from to b s
 body_fit from to (body.Result b) s = task_result_lawful.fit from to b s
 body_fit from to (body.ResultAck b) s = result_ack_lawful.fit from to b s
@@ -235,6 +296,7 @@ body_fit from to (body.Leave b) s = leave_lawful.fit from to b s
 body_fit from to (body.Abort b) s = abort_lawful.fit from to b s
 body_fit from to (body.Beat b) s = beat_lawful.fit from to b s
 body_fit from to (body.Piece b) s = piece_lawful.fit from to b s
+body_fit from to (body.Save b) s = save_lawful.fit from to b s
 
 pub fields_lawful : (kind : ℕ) → Lawful (fields kind)
 unfolding fields
@@ -300,7 +362,11 @@ version_in : (b : Body) → (ltb (version_of (kind_of b)) (256 ^ 1) && is_versio
 version_in (body.Join b) = refl
 version_in (body.Roster b) = refl
 version_in (body.Steal b) = refl
-version_in (body.Grant b) = refl
+version_in (body.Grant b) = by_saved (is_saved b)
+  where
+    by_saved : (some : Bool) → (ltb (version_of (cond some 15 4)) (256 ^ 1) && is_version (version_of (cond some 15 4))) ≡ true
+    by_saved true = refl
+    by_saved false = refl
 version_in (body.Refuse b) = refl
 version_in (body.Result b) = refl
 version_in (body.ResultAck b) = refl
@@ -310,12 +376,17 @@ version_in (body.Leave b) = refl
 version_in (body.Abort b) = refl
 version_in (body.Beat b) = refl
 version_in (body.Piece b) = refl
+version_in (body.Save b) = refl
 
 kind_in : (b : Body) → (ltb (kind_of b) (256 ^ 1) && has_kind (version_of (kind_of b)) (kind_of b)) ≡ true
 kind_in (body.Join b) = refl
 kind_in (body.Roster b) = refl
 kind_in (body.Steal b) = refl
-kind_in (body.Grant b) = refl
+kind_in (body.Grant b) = by_saved (is_saved b)
+  where
+    by_saved : (some : Bool) → (ltb (cond some 15 4) (256 ^ 1) && has_kind (version_of (cond some 15 4)) (cond some 15 4)) ≡ true
+    by_saved true = refl
+    by_saved false = refl
 kind_in (body.Refuse b) = refl
 kind_in (body.Result b) = refl
 kind_in (body.ResultAck b) = refl
@@ -325,6 +396,7 @@ kind_in (body.Leave b) = refl
 kind_in (body.Abort b) = refl
 kind_in (body.Beat b) = refl
 kind_in (body.Piece b) = refl
+kind_in (body.Save b) = refl
 
 -- an address that suits a kind is one
 in_range : (word : ℕ) → 0 < word → word < 2 ^ 64 → is_address word ≡ true
@@ -356,10 +428,10 @@ either_way false x y z f g e = g e
 
 suits_address : (kind to : ℕ) → suits kind to ≡ true → is_address to ≡ true
 suits_address kind to e =
-    let others : Bool = cond (eqb kind 10 || eqb kind 12) (is_house to) (is_worker to) in
+    let others : Bool = cond (eqb kind 10 || (eqb kind 12 || eqb kind 14)) (is_house to) (is_worker to) in
     either_way (eqb kind 1) (eqb to (2 ^ 63)) (cond (eqb kind 3 || eqb kind 6) (is_actor to) others) (is_address to) (any_address to)
     (λ d. either_way (eqb kind 3 || eqb kind 6) (is_actor to) others (is_address to) (actor_address to)
-    (λ c. either_way (eqb kind 10 || eqb kind 12) (is_house to) (is_worker to) (is_address to) (house_address to) (worker_address to) c) d) e
+    (λ c. either_way (eqb kind 10 || (eqb kind 12 || eqb kind 14)) (is_house to) (is_worker to) (is_address to) (house_address to) (worker_address to) c) d) e
 
 -- a packet can be written
 pub packet_fits : (p : PacketOf) → is_packet p ≡ true → packet.fits p ≡ true

@@ -1,9 +1,9 @@
 -- The table of packets: the fields of each kind, and the packet.
-use Rattle.std.specs.Prelude.{◌≡◌, ◌^◌, ◌≤◌, ◌<◌, ◌&&◌, ◌||◌, ℕ, zero, suc, Bool, true, false, nat_eq, nat_lt, if◌then◌else◌, List, [], length, Result, Ok, Err}
+use Rattle.std.specs.Prelude.{◌≡◌, ◌^◌, ◌≤◌, ◌<◌, ◌&&◌, ◌||◌, ℕ, zero, suc, Bool, true, false, not, nat_eq, nat_lt, if◌then◌else◌, List, [], length, Result, Ok, Err}
 use Rattle.ids.specs.Names.{is_actor, is_worker}
 use Rattle.packet_fields.specs.declared.fault.Fault.{Fault}
 use Rattle.packet_fields.specs.declared.fault.Fault.TheVariants as fault
-use Rattle.packet_fields.specs.Format.{Format, ◌>>=◌, constant, followed, made, number, tested}
+use Rattle.packet_fields.specs.Format.{Format, ◌>>=◌, constant, followed, is_empty, made, number, tested}
 use Rattle.packet_fields.specs.Fields as field
 use Rattle.codec.specs.declared.body.Body.{Body}
 use Rattle.codec.specs.declared.body.Body.TheVariants as body
@@ -22,6 +22,7 @@ use Rattle.codec.specs.declared.body.Leave.{Leave}
 use Rattle.codec.specs.declared.body.Abort.{Abort}
 use Rattle.codec.specs.declared.body.Beat.{Beat}
 use Rattle.codec.specs.declared.body.Piece.{Piece}
+use Rattle.codec.specs.declared.body.Save.{Save}
 
 -- a worker wants to be a member
 unfoldable pub join : Format Join
@@ -37,7 +38,22 @@ steal = made (followed field.worker (λ _. field.counted)) (λ x. record { from 
 
 -- the task that a request is answered with, under the name of its grant
 unfoldable pub granted : Format Grant
-granted = made (followed field.counted (λ _. followed field.grant (λ _. field.task))) (λ x. record { seq = x.0; grant = x.1.0; task = x.1.1 }) (λ b. (b.seq, (b.grant, b.task)))
+granted =
+    made (followed field.counted (λ _. followed field.grant (λ _. followed field.task (λ _. field.no_values))))
+    (λ x. record { seq = x.0; grant = x.1.0; task = x.1.1.0; saved = x.1.1.1 })
+    (λ b. (b.seq, (b.grant, (b.task, b.saved))))
+
+-- the same with saved values
+unfoldable pub saved_grant : Format Grant
+saved_grant =
+    made (followed field.counted (λ _. followed field.grant (λ _. followed field.task (λ _. field.saved_values))))
+    (λ x. record { seq = x.0; grant = x.1.0; task = x.1.1.0; saved = x.1.1.1 })
+    (λ b. (b.seq, (b.grant, (b.task, b.saved))))
+
+-- that of a Grant which has some, or none
+abbrev pub grant_format : Bool → Format Grant
+grant_format true = saved_grant
+grant_format false = granted
 
 -- a request is answered with no work
 unfoldable pub refuse : Format Refuse
@@ -97,6 +113,13 @@ piece =
     (λ x. record { from = x.0; grant = x.1.0; hop = x.1.1.0; pieces = x.1.1.1.0; number = x.1.1.1.1.0; bytes = x.1.1.1.1.1 })
     (λ b. (b.from, (b.grant, (b.hop, (b.pieces, (b.number, b.bytes))))))
 
+-- a worker hands the value of a task to the clearinghouse
+unfoldable pub save : Format Save
+save =
+    made (followed field.worker (λ _. followed field.place (λ _. field.signed)))
+    (λ x. record { from = x.0; place = x.1.0; value = x.1.1 })
+    (λ b. (b.from, (b.place, b.value)))
+
 -- the number of a kind
 abbrev pub number_of : Kind → ℕ
 number_of kinds.Join = 1
@@ -112,13 +135,24 @@ number_of kinds.Leave = 10
 number_of kinds.Abort = 11
 number_of kinds.Beat = 12
 number_of kinds.Piece = 13
+number_of kinds.Save = 14
+number_of kinds.SavedGrant = 15
+
+-- whether a Grant has saved values
+abbrev pub is_saved : Grant → Bool
+is_saved b = not (is_empty b.saved)
+
+-- whether it is a Grant that has some
+abbrev pub has_saved : Body → Bool
+has_saved (body.Grant b) = is_saved b
+has_saved other = false
 
 -- the number of the kind of a body
 abbrev pub kind_of : Body → ℕ
 kind_of (body.Join b) = 1
 kind_of (body.Roster b) = 2
 kind_of (body.Steal b) = 3
-kind_of (body.Grant b) = 4
+kind_of (body.Grant b) = if is_saved b then 15 else 4
 kind_of (body.Refuse b) = 5
 kind_of (body.Result b) = 6
 kind_of (body.ResultAck b) = 7
@@ -128,13 +162,14 @@ kind_of (body.Leave b) = 10
 kind_of (body.Abort b) = 11
 kind_of (body.Beat b) = 12
 kind_of (body.Piece b) = 13
+kind_of (body.Save b) = 14
 
 -- from these bytes up to those, the fields of the kind are spelled
 abbrev pub SpelledBody : List ℕ → List ℕ → Body → Type 0
 SpelledBody from to (body.Join b) = join.Spelled from to b
 SpelledBody from to (body.Roster b) = roster.Spelled from to b
 SpelledBody from to (body.Steal b) = steal.Spelled from to b
-SpelledBody from to (body.Grant b) = granted.Spelled from to b
+SpelledBody from to (body.Grant b) = (grant_format (is_saved b)).Spelled from to b
 SpelledBody from to (body.Refuse b) = refuse.Spelled from to b
 SpelledBody from to (body.Result b) = task_result.Spelled from to b
 SpelledBody from to (body.ResultAck b) = result_ack.Spelled from to b
@@ -144,13 +179,14 @@ SpelledBody from to (body.Leave b) = leave.Spelled from to b
 SpelledBody from to (body.Abort b) = abort.Spelled from to b
 SpelledBody from to (body.Beat b) = beat.Spelled from to b
 SpelledBody from to (body.Piece b) = piece.Spelled from to b
+SpelledBody from to (body.Save b) = save.Spelled from to b
 
 -- the bytes of the fields
 abbrev pub write_body : Body → List ℕ
 write_body (body.Join b) = join.write b
 write_body (body.Roster b) = roster.write b
 write_body (body.Steal b) = steal.write b
-write_body (body.Grant b) = granted.write b
+write_body (body.Grant b) = (grant_format (is_saved b)).write b
 write_body (body.Refuse b) = refuse.write b
 write_body (body.Result b) = task_result.write b
 write_body (body.ResultAck b) = result_ack.write b
@@ -160,13 +196,14 @@ write_body (body.Leave b) = leave.write b
 write_body (body.Abort b) = abort.write b
 write_body (body.Beat b) = beat.write b
 write_body (body.Piece b) = piece.write b
+write_body (body.Save b) = save.write b
 
 -- whether the fields can be written
 abbrev pub fits_body : Body → Bool
 fits_body (body.Join b) = join.fits b
 fits_body (body.Roster b) = roster.fits b
 fits_body (body.Steal b) = steal.fits b
-fits_body (body.Grant b) = granted.fits b
+fits_body (body.Grant b) = (grant_format (is_saved b)).fits b
 fits_body (body.Refuse b) = refuse.fits b
 fits_body (body.Result b) = task_result.fits b
 fits_body (body.ResultAck b) = result_ack.fits b
@@ -176,6 +213,7 @@ fits_body (body.Leave b) = leave.fits b
 fits_body (body.Abort b) = abort.fits b
 fits_body (body.Beat b) = beat.fits b
 fits_body (body.Piece b) = piece.fits b
+fits_body (body.Save b) = save.fits b
 
 -- whether the body is no offer: such a packet is never too big
 abbrev pub is_short : Body → Bool
@@ -202,7 +240,9 @@ read_body (suc (suc (suc (suc (suc (suc (suc (suc (suc (suc zero)))))))))) from 
 read_body (suc (suc (suc (suc (suc (suc (suc (suc (suc (suc (suc zero))))))))))) from = reads abort body.Abort from
 read_body (suc (suc (suc (suc (suc (suc (suc (suc (suc (suc (suc (suc zero)))))))))))) from = reads beat body.Beat from
 read_body (suc (suc (suc (suc (suc (suc (suc (suc (suc (suc (suc (suc (suc zero))))))))))))) from = reads piece body.Piece from
-read_body (suc (suc (suc (suc (suc (suc (suc (suc (suc (suc (suc (suc (suc (suc n)))))))))))))) from = Err fault.Kind
+read_body (suc (suc (suc (suc (suc (suc (suc (suc (suc (suc (suc (suc (suc (suc zero)))))))))))))) from = reads save body.Save from
+read_body (suc (suc (suc (suc (suc (suc (suc (suc (suc (suc (suc (suc (suc (suc (suc zero))))))))))))))) from = reads saved_grant body.Grant from
+read_body (suc (suc (suc (suc (suc (suc (suc (suc (suc (suc (suc (suc (suc (suc (suc (suc n)))))))))))))))) from = Err fault.Kind
 
 -- the fields of a kind
 unfoldable pub fields : ℕ → Format Body
@@ -214,9 +254,9 @@ fields kind = record {
 }
 
 abbrev pub is_kind : ℕ → Bool
-is_kind kind = nat_lt 0 kind && nat_lt kind 14
+is_kind kind = nat_lt 0 kind && nat_lt kind 16
 
--- the version in which a kind is spelled: a Piece in the second, all others in the first
+-- the version in which a kind is spelled: a Piece, a Save and a SavedGrant in the second, all others in the first
 abbrev pub version_of : ℕ → ℕ
 version_of kind = if nat_lt kind 13 then 1 else 2
 
@@ -232,13 +272,13 @@ has_kind version kind = is_kind kind && nat_eq (version_of kind) version
 abbrev pub is_house : ℕ → Bool
 is_house word = nat_lt (2 ^ 63) word && nat_lt word (2 ^ 64)
 
--- whom a kind goes to: Join to the clearinghouse of any epoch, Steal and Result to an actor, Leave and Beat to the
+-- whom a kind goes to: Join to the clearinghouse of any epoch, Steal and Result to an actor, Leave, Beat and Save to the
 -- clearinghouse in an epoch, all others to a worker
 abbrev pub suits : ℕ → ℕ → Bool
 suits kind to =
     if nat_eq kind 1 then nat_eq to (2 ^ 63)
     else if nat_eq kind 3 || nat_eq kind 6 then is_actor to
-    else if nat_eq kind 10 || nat_eq kind 12 then is_house to
+    else if nat_eq kind 10 || (nat_eq kind 12 || nat_eq kind 14) then is_house to
     else is_worker to
 
 -- a packet: the number of its job, whom it goes to, and what it says

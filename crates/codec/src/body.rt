@@ -1,7 +1,8 @@
 use ids::{
-    Actor, Count, Epoch, Frame, FrameNo, GrantId, Hop, Incarnation, Listed, Member, Outcome,
+    Actor, Count, Epoch, Frame, FrameNo, GrantId, Hop, Incarnation, Listed, Member, Outcome, Place,
     Progress, Record, Task,
 };
+use saved_values::SavedValue;
 
 /// A worker asks the clearinghouse of any epoch to list it.
 #[derive(Clone, Copy, PartialEq, Eq, Debug)]
@@ -25,12 +26,14 @@ pub struct Steal {
     pub seq: Count,
 }
 
-/// The answer to a request: a task, under the name of a new grant.
+/// The answer to a request: a task, under the name of a new grant, and values that are saved below the task's place, at most 64 by the
+/// order of their places. With one or more of these it is spelled as a SavedGrant.
 #[derive(Drop)]
 pub struct Grant {
     pub seq: Count,
     pub grant: GrantId,
     pub task: Task,
+    pub saved: Listed<SavedValue>,
 }
 
 /// The answer to a request where there is no work.
@@ -109,6 +112,14 @@ pub struct Piece {
     pub bytes: Listed<u8>,
 }
 
+/// A worker hands the value of a task, with the task's place, to the clearinghouse, which may save it.
+#[derive(Drop)]
+pub struct Save {
+    pub from: Incarnation,
+    pub place: Place,
+    pub value: i64,
+}
+
 /// What a packet says, by its kind.
 #[derive(Drop)]
 pub enum Body {
@@ -125,6 +136,7 @@ pub enum Body {
     Abort(Abort),
     Beat(Beat),
     Piece(Piece),
+    Save(Save),
 }
 
 /// The kinds of packets.
@@ -143,4 +155,6 @@ pub enum Kind {
     Abort,
     Beat,
     Piece,
+    Save,
+    SavedGrant,
 }

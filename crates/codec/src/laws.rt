@@ -4,7 +4,9 @@ ghost use Rattle.ids.specs.Naming.{name_of_member};
 ghost use Rattle.ids.specs.Ordered.{AreInOrder};
 ghost use Rattle.codec.specs.Table.{IsSpelled, PacketOf, Spelling, fits_body, is_packet, packet};
 ghost use Rattle.codec.specs.declared.body.Body.TheVariants as body;
+ghost use Rattle.codec.specs.declared.body.Grant.{Grant};
 ghost use Rattle.codec.specs.declared.body.Roster.{Roster};
+ghost use Rattle.saved_values.specs.Saved.{IsSavedList};
 
 /// A packet has one spelling, and a spelling one packet; and the packets that have one are those that can be made.
 pub fn one_to_one()
@@ -17,6 +19,11 @@ pub fn one_to_one()
 /// The members of a roster that can be written stand by rising incarnation.
 pub fn rosters_rise()
     ensures { (r : Roster) → IsTrue (fits_body (body.Roster r)) → AreInOrder name_of_member r.members }
+{}
+
+/// The saved values of a Grant that can be written stand by the order of their places, and are at most 64.
+pub fn saved_values_rise()
+    ensures { (g : Grant) → IsTrue (fits_body (body.Grant g)) → IsSavedList g.saved }
 {}
 
 /// All parts of a packet's spelling, in their order, are read as the packet.

@@ -4,15 +4,18 @@ ghost use Rattle.ids.specs.Names.{house_of};
 ghost use Rattle.ids.specs.Naming.{name_of_member};
 ghost use Rattle.ids.specs.Ordered.{AreInOrder};
 ghost use Rattle.codec.specs.Rosters.{has_another, names_workers};
+ghost use Rattle.packet_fields.specs.Fields as field;
+ghost use Rattle.saved_values.specs.Saved.{IsSavedList};
 ghost use Rattle.codec.specs.Table as table;
 
 use crate::body::{
-    Abort, Beat, Body, Grant, Join, Kind, Leave, OfferAck, Refuse, ResultAck, Roster, Steal,
+    Abort, Beat, Body, Grant, Join, Kind, Leave, OfferAck, Refuse, ResultAck, Roster, Save, Steal,
     TaskResult,
 };
 use crate::fields::{fields_fit, kind_of};
 use ids::{Actor, Address, Epoch, Incarnation, Member, Status};
 use packet_fields::fits;
+use saved_values::SavedValue;
 use std::marker::Model;
 
 /// A packet that can be written, but for its size: the number of its job, whom it goes to and what it says. Contracts see
@@ -37,8 +40,8 @@ impl Model for Packet {
 
 impl Packet {
     /// The packet of a job with this body to this address; none where the address doesn't suit the kind (a Join goes to
-    /// the clearinghouse of any epoch; a Steal and a Result to a worker or to the clearinghouse in an epoch; a Leave and a
-    /// Beat to the clearinghouse in an epoch; all others to a worker), or where the body has a field that a packet can't
+    /// the clearinghouse of any epoch; a Steal and a Result to a worker or to the clearinghouse in an epoch; a Leave, a
+    /// Beat and a Save to the clearinghouse in an epoch; all others to a worker), or where the body has a field that a packet can't
     /// hold, as a roster out of order.
     pub fn of(job: u64, to: Address, body: Body) -> Option<Packet>
         ensures { result ≡ (if table.is_packet (record { job = job; to = to; body = body }) then Some
@@ -91,14 +94,18 @@ impl Packet {
         }
     }
 
-    /// The task that answers a request.
-    #[tactic(auto, unfolding(crate::specs::Table::granted, packet_fields::specs::Fields::grant, packet_fields::specs::Fields::actor, packet_fields::specs::Fields::counted))]
+    /// The task that answers a request, and values that are saved, by the order of their places.
+    #[tactic(auto, using(crate::proofs::Granted::grant_fits), unfolding(packet_fields::specs::Fields::grant, packet_fields::specs::Fields::actor, packet_fields::specs::Fields::counted))]
     pub fn grant(job: u64, to: Incarnation, grant: Grant) -> Packet
         requires thread { grant.task.thread < 64 }
         requires numbers { length grant.task.numbers ≤ 8 }
+        requires saved { IsSavedList grant.saved }
         ensures { result ≡ record { job = job; to = to; body = Body.Grant grant } }
     {
+        prove!(fits::counted(&grant.seq));
+        prove!(fits::grant(&grant.grant));
         prove!(fits::task(&grant.task));
+        see_saved(grant.saved.as_slice());
         Packet {
             job,
             to: Address::actor(Actor::worker(to)),
@@ -193,6 +200,20 @@ impl Packet {
         }
     }
 
+    /// A worker hands a value to the clearinghouse in its epoch.
+    #[tactic(auto, unfolding(crate::specs::Table::save, packet_fields::specs::Fields::worker))]
+    pub fn save(job: u64, epoch: Epoch, save: Save) -> Packet
+        ensures { result ≡ record { job = job; to = house_of epoch; body = Body.Save save } }
+    {
+        prove!(fits::place(&save.place));
+        prove!(fits::value(&save.value));
+        Packet {
+            job,
+            to: Address::actor(epoch.house()),
+            body: Body::Save(save),
+        }
+    }
+
     /// The number of its job.
     pub fn job(&self) -> u64
         ensures { result ≡ self.now.job }
@@ -237,6 +258,16 @@ fn see_workers(members: &[Member])
     }
 }
 
+/// Saved values can each be written, as their types see to it: the prover then has what the types keep. It has no effect, and an
+/// optimised build leaves nothing of it.
+fn see_saved(values: &[SavedValue])
+    ensures { IsTrue (list_all (field.saved_value None).fits values.now) }
+{
+    for value in values {
+        let _fits = fits::saved_value(value);
+    }
+}
+
 /// Whether a kind goes to an address.
 pub fn suits(kind: Kind, to: Address) -> bool
     ensures { result ≡ table.suits (table.number_of kind) to }
@@ -246,7 +277,7 @@ pub fn suits(kind: Kind, to: Address) -> bool
     match kind {
         Kind::Join => word == any_house,
         Kind::Steal | Kind::Result => word != any_house,
-        Kind::Leave | Kind::Beat => word > any_house,
+        Kind::Leave | Kind::Beat | Kind::Save => word > any_house,
         _ => word < any_house,
     }
 }

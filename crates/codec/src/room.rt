@@ -4,6 +4,7 @@ ghost use Rattle.std.specs.Prelude.{◌≤◌};
 use crate::body::Body;
 use crate::decoding::MOST_BYTES;
 use ids::{Frame, Record, Task};
+use saved_values::SavedValue;
 
 /// Stands in front of the fields.
 const HEAD: usize = 20;
@@ -38,6 +39,15 @@ fn of_records(records: &[Record]) -> usize {
     room
 }
 
+/// The bytes of saved values: 1 where there are any, and 10 of each with a byte a step.
+fn of_saved(values: &[SavedValue]) -> usize {
+    let mut room = if values.is_empty() { 0usize } else { 1 };
+    for value in values {
+        room = room.saturating_add(10 + value.place.steps().len());
+    }
+    room
+}
+
 /// At least the bytes of the fields.
 fn of_fields(body: &Body) -> usize {
     match body {
@@ -47,7 +57,10 @@ fn of_fields(body: &Body) -> usize {
         Body::Result(_) => 33,
         Body::Roster(roster) => roster.members.len().saturating_mul(17).saturating_add(18),
         Body::Piece(piece) => piece.bytes.len().saturating_add(36),
-        Body::Grant(grant) => of_task(&grant.task).saturating_add(24),
+        Body::Grant(grant) => of_task(&grant.task)
+            .saturating_add(of_saved(grant.saved.as_slice()))
+            .saturating_add(24),
+        Body::Save(save) => 18 + save.place.len() as usize,
         Body::Offer(offer) => of_task(&offer.task)
             .saturating_add(of_frames(offer.frames.as_slice()))
             .saturating_add(of_records(offer.records.as_slice()))

@@ -1,5 +1,5 @@
 -- Offers of what a node holds, to the heir to which it leaves.
-use Rattle.std.specs.Prelude.{ℕ, ◌+◌, ◌^◌, Bool, not, nat_lt, if◌then◌else◌, List, length, Option, None, Some}
+use Rattle.std.specs.Prelude.{ℕ, ◌+◌, ◌^◌, Bool, not, nat_lt, if◌then◌else◌, List, [], length, Option, None, Some}
 use Rattle.task_tree.specs.declared.tree.Program.{Program}
 use Rattle.codec.specs.Table.{PacketOf, packet as spelling}
 use Rattle.codec.specs.declared.body.Body.TheVariants as body
@@ -27,6 +27,7 @@ offered o = record {
   grant = o.grant;
   hop = o.hop;
   content = record { parent = o.parent; progress = o.progress; task = o.task; next = o.next; frames = o.frames; records = o.records };
+  saved = [];
 }
 
 -- it is taken by node i, which holds these subcomputations, where it fits the program and the node

@@ -337,7 +337,7 @@ fn sub_of(alloc: Global, offer: Offer) -> Result<Sub, AllocError>
         frames: frames_of(alloc, offer.frames.into_vec())?,
         records: records_of(alloc, offer.records.into_vec())?,
     };
-    Ok(Sub::of(offer.grant, offer.hop, content))
+    Ok(Sub::of(alloc, offer.grant, offer.hop, content))
 }
 
 /// Frames that stand by rising number.

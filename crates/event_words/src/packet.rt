@@ -1,7 +1,7 @@
 //! The words of a packet.
 
 use crate::names::{AddressName, GrantName, OutcomeWords, PlaceName, ProgressWords, StatusWords};
-use codec::{Body, Grant, Offer, Packet, Piece, Roster};
+use codec::{Body, Grant, Offer, Packet, Piece, Roster, Save};
 use ids::{GrantId, Incarnation, Task};
 use std::io::{self, Write};
 use task_tree::Program;
@@ -31,6 +31,7 @@ fn kind_of(body: &Body) -> &'static str {
         Body::Join(_) => "Join",
         Body::Roster(_) => "Roster",
         Body::Steal(_) => "Steal",
+        Body::Grant(grant) if !grant.saved.is_empty() => "SavedGrant",
         Body::Grant(_) => "Grant",
         Body::Refuse(_) => "Refuse",
         Body::Result(_) => "Result",
@@ -41,6 +42,7 @@ fn kind_of(body: &Body) -> &'static str {
         Body::Abort(_) => "Abort",
         Body::Beat(_) => "Beat",
         Body::Piece(_) => "Piece",
+        Body::Save(_) => "Save",
     }
 }
 
@@ -59,7 +61,8 @@ fn grant_of(body: &Body) -> Option<GrantId> {
         | Body::Steal(_)
         | Body::Refuse(_)
         | Body::Leave(_)
-        | Body::Beat(_) => None,
+        | Body::Beat(_)
+        | Body::Save(_) => None,
     }
 }
 
@@ -74,6 +77,7 @@ fn sender_of(body: &Body) -> Option<Incarnation> {
         Body::Leave(leave) => Some(leave.from),
         Body::Beat(beat) => Some(beat.from),
         Body::Piece(piece) => Some(piece.from),
+        Body::Save(save) => Some(save.from),
         Body::Roster(_) | Body::Grant(_) | Body::Refuse(_) | Body::ResultAck(_) | Body::Abort(_) =>
             None,
     }
@@ -93,6 +97,7 @@ fn write_fields<O: Write>(out: &mut O, program: &Program, body: &Body) -> io::Re
         Body::Leave(leave) => write!(out, ": heir {}", leave.heir.word()),
         Body::Beat(beat) => write!(out, ": roster version {}", beat.version.number()),
         Body::Piece(piece) => write_piece(out, piece),
+        Body::Save(save) => write_save(out, save),
     }
 }
 
@@ -120,10 +125,20 @@ fn write_roster<O: Write>(out: &mut O, roster: &Roster) -> io::Result<()> {
     write!(out, ")")
 }
 
-/// Writes the request that a grant answers, and its task.
+/// Writes the request that a grant answers, its task, and how many saved values come with it, if any do.
 fn write_grant<O: Write>(out: &mut O, program: &Program, grant: &Grant) -> io::Result<()> {
     write!(out, ": request {}, ", grant.seq.number())?;
-    write_granted(out, program, &grant.task)
+    write_granted(out, program, &grant.task)?;
+    let saved = grant.saved.len();
+    if saved > 0 {
+        write!(out, ", {saved} saved value{}", plural_of(saved))?;
+    }
+    Ok(())
+}
+
+/// Writes the value of a Save, and its place.
+fn write_save<O: Write>(out: &mut O, save: &Save) -> io::Result<()> {
+    write!(out, ": value {} at {}", save.value, PlaceName(&save.place))
 }
 
 /// Writes the thread of a task on its numbers, and where it stands.

@@ -82,7 +82,7 @@ module _ (job : JobOf) (v : View) (run : Run (tables_meaning job) v) (h : HouseO
       let keeps : KeepsSent v view = keeps_one act in
       let name : Grant = record { minter = name_of h; number = h.minted + 1 } in
       let same : record { minter = name_of h; number = v.minted (name_of h) + 1 } ≡ name = ap (λ (k : ℕ). let g : Grant = record { minter = name_of h; number = k + 1 } in g) s.minted in
-      let sent : PacketOf = moves.packet job b.from (body.Grant (record { seq = b.seq; grant = name; task = task })) in
+      let sent : PacketOf = moves.packet job b.from (body.Grant (record { seq = b.seq; grant = name; task = task; saved = h.saved })) in
       let t : Transfer = grant_of v (name_of h) b.from b.seq c in
       let answer : PacketShown view sent = record { transfer = t; sent = inl refl; grant = same; hop = refl; from = refl; to_is = refl; seq = refl; content = begun.shown } in
       record {

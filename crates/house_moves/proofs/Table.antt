@@ -1,20 +1,28 @@
 -- The table of the clearinghouse: each packet that was sent is answered by moves.
-use Rattle.std.proofs.Common.{◌≡◌, ◌^◌, ℕ, Bool, true, false, cond, nat_eq, refl, sym, ◌∙◌, arith}
+use Rattle.std.proofs.Common.{◌≡◌, ◌+◌, ◌^◌, ◌||◌, ℕ, Bool, true, false, cond, not, nat_eq, nat_lt, List, inl, is_some, refl, sym, ◌∙◌, arith}
+use Rattle.ids.specs.Members.{is_live}
 use Rattle.ids.specs.Names.{house_of}
 use Rattle.ids.specs.Ordered.{AreInOrder}
 use Rattle.codec.specs.Table.{PacketOf}
 use Rattle.codec.specs.declared.body.Body.{Body}
 use Rattle.codec.specs.declared.body.Body.TheVariants as body
 use Rattle.codec.specs.declared.body.Leave.{Leave}
+use Rattle.codec.specs.declared.body.Save.{Save}
+use Rattle.saved_values.specs.Saved.{put_saved}
+use Rattle.saved_values.specs.declared.value.SavedValue.{SavedValue}
 use Rattle.serial_meaning.specs.Job.{JobOf}
 use Rattle.clearinghouse.specs.Cases as cases
-use Rattle.clearinghouse.specs.House.{HouseOf, name_of, name_of_enlisted}
+use Rattle.clearinghouse.specs.House.{HouseOf, members_of, name_of, name_of_enlisted}
+use Rattle.clearinghouse.specs.Moves as moves
 use Rattle.clearinghouse.specs.Steps as house
+use Rattle.clearinghouse.specs.declared.error.HouseError.TheVariants as error
 use Rattle.run_tables.specs.View.{View}
 use Rattle.run_tables.specs.Runs.{Run}
+use Rattle.actor_moves.proofs.Others.{all_same}
+use Rattle.actor_moves.proofs.Sent.{all_kept}
 use Rattle.node_moves.specs.Shows.{BodyShown, PacketShown}
 use Rattle.house_moves.specs.Shows.{OpenShown}
-use Rattle.house_moves.specs.Steps.{HouseAnswerShown, tables_meaning}
+use Rattle.house_moves.specs.Steps.{HouseAnswerShown, HouseStepShown, tables_meaning}
 use Rattle.house_moves.proofs.Hearing.{beats_shown, joined_shown}
 use Rattle.house_moves.proofs.Leaving.{left_shown_by}
 use Rattle.house_moves.proofs.Returning.{returned_shown}
@@ -35,6 +43,37 @@ module _ (job : JobOf) (v : View) (run : Run (tables_meaning job) v) (h : HouseO
       one_name : {x y : ℕ} → house_of x ≡ house_of y → x ≡ y
       one_name e = omega (arith, e)
 
+  -- a value is saved, which the tables don't tell
+  saves_shown : (saved : List SavedValue) → HouseStepShown job v h (moves.saves saved h)
+  saves_shown saved = record {
+    view = v;
+    run = λ k. k;
+    since = λ base k. k;
+    keeps = all_kept v;
+    others = λ j apart. all_same v j;
+    used = refl;
+    same_name = refl;
+    after = record { mode = s.mode; roster = s.roster; is = s.is; shows = s.shows; room = s.room; minted = s.minted; replies = s.replies; said = s.said; root = s.root; stored = s.stored; epoch = s.epoch; only = s.only };
+    sent = λ p m. absurd m;
+    transfers = λ t m. inl m;
+    fills = refl;
+    keeps_transfers = λ k e t m. m;
+  }
+
+  saved_shown : (b : Save) → HouseAnswerShown job v h (cases.saved b h)
+  saved_shown b = by_may (not (is_live b.from (members_of h)) || (is_some h.outcome || not (cases.may_save x h)))
+    where
+      x : SavedValue
+      x = record { place = b.place; value = b.value }
+
+      by_room : (more : Bool) → HouseAnswerShown job v h (cond more (house.Does (moves.saves (put_saved x h.saved) h)) (house.Refused error.Spent))
+      by_room true = saves_shown (put_saved x h.saved)
+      by_room false = tt
+
+      by_may : (not_so : Bool) → HouseAnswerShown job v h (cond not_so house.Ignored (cond (nat_lt (h.sequence + 1) (2 ^ 64)) (house.Does (moves.saves (put_saved x h.saved) h)) (house.Refused error.Spent)))
+      by_may true = tt
+      by_may false = by_room (nat_lt (h.sequence + 1) (2 ^ 64))
+
   body_shown : (to : ℕ) (b : Body) → BodyShown v to b → HouseAnswerShown job v h (cases.on_body job to b h)
   unfolding cases.on_body
   body_shown to (body.Join b) told = by_any (nat_eq to (2 ^ 63))
@@ -46,6 +85,7 @@ module _ (job : JobOf) (v : View) (run : Run (tables_meaning job) v) (h : HouseO
   body_shown to (body.Result b) told = if_own_shown to (cases.returned job b h) (λ own. returned_shown job v run h s b (rw own at told))
   body_shown to (body.Leave b) told = if_own_shown to (cases.left job b h) (leave_shown to b told)
   body_shown to (body.Beat b) told = beats_shown job v run h s rising to b
+  body_shown to (body.Save b) told = if_own_shown to (cases.saved b h) (λ own. saved_shown b)
   body_shown to (body.Roster b) told = tt
   body_shown to (body.Grant b) told = tt
   body_shown to (body.Refuse b) told = tt

@@ -5,7 +5,7 @@ use Rattle.disk.specs.Device.{Device}
 use Rattle.disk.specs.File.{CrashLeaves, bytes_of}
 use Rattle.disk.proofs.Crashes.{crash-leaves-bytes_of}
 use Rattle.checkpoint.specs.Calls.{Passed, after}
-use Rattle.checkpoint.specs.Commit.{opening}
+use Rattle.checkpoint.specs.Commit.{is_new, is_old, opening}
 use Rattle.checkpoint.specs.Format.{IsFormatted, IsStore, fresh}
 use Rattle.checkpoint.specs.Store.{IsRefused, IsSpentOld, KeepsNew, KeepsRecord, Opened, ReadsAsStore}
 use Rattle.checkpoint.specs.declared.record.CheckpointRecord.{CheckpointRecord}
@@ -51,6 +51,16 @@ refused_made device d plan job (Err e) left refused alone = elim (alone 0 (fresh
       cc)
 ]
 
+-- and its sequence counts from 0
+pub made_counts : {D : Type 0} (device : D → Device) (planned : D → ℕ → Option (List ℕ)) (d : Device) (plan : ℕ → Option (List ℕ)) (job : ℕ) (r : Result (Opened D) (StoreError × D)) → ((c : List ℕ) → CrashLeaves d.file c → IsFormatted c job) →
+    IfOk r (IsOpenedBy device d plan planned) → IfOk r (λ s. s.sequence ≡ 0)
+made_counts device planned d plan job (Ok s) left by = elim (by.2) [
+  | is_new second new counts only ↦
+      counts ∙ sym (one_store (bytes_of d.file) (Large false) (Large second) 0 by.0 (fresh job) s.«record» (left (bytes_of d.file) (crash-leaves-bytes_of d.file)).store new).1
+  | is_old second moves moving counts only ↦ counts
+]
+made_counts device planned d plan job (Err e) left by = tt
+
 -- # A file that was there
 
 -- where its first byte isn't there, it is empty
@@ -87,3 +97,22 @@ pub refused_found : {D : Type 0} (device : D → Device) (before d : Device) (pl
     IfErr r (λ e. e.0 ≢ DeviceError → (device e.1).file ≡ before.file)
 refused_found device before d plan job (Ok s) same refused = tt
 refused_found device before d plan job (Err e) same refused = λ other. refused_same d (device e.1) before plan same (refused other).1
+
+-- a store whose sequence has begun was read, and no more
+abbrev pub IsCounted : {D : Type 0} → (D → Device) → Device → Opened D → Type 0
+IsCounted device before s = (s.sequence ≡ 0) ⊎ (ReadsAsStore (bytes_of before.file) s.sequence s.«record» × ((device s.disk).file ≡ before.file))
+
+pub new_counted : {D : Type 0} (device : D → Device) (before : Device) (r : Result (Opened D) (StoreError × D)) → IfOk r (λ s. s.sequence ≡ 0) → IfOk r (IsCounted device before)
+new_counted device before (Ok s) none = inl none
+new_counted device before (Err e) none = tt
+
+pub opened_counted : {D : Type 0} (device : D → Device) (planned : D → ℕ → Option (List ℕ)) (before d : Device) (plan : ℕ → Option (List ℕ)) → d.file ≡ before.file → (r : Result (Opened D) (StoreError × D)) →
+    IfOk r (IsOpenedBy device d plan planned) → IfOk r (IsCounted device before)
+opened_counted device planned before d plan same (Ok s) by = elim (by.2) [
+  | is_new second new counts only ↦ (
+      let reads : ReadsAsStore (bytes_of d.file) s.sequence s.«record» = subst (λ n. ReadsAsStore (bytes_of d.file) n s.«record») (sym counts) (Large second, new) in
+      let passed : Passed opening plan d (device s.disk) = subst (λ cs. Passed cs plan d (device s.disk)) only by.3 in
+      inr (subst (λ f. ReadsAsStore (bytes_of f) s.sequence s.«record») same reads, refused_same d (device s.disk) before plan same passed))
+  | is_old second moves moving counts only ↦ inl counts
+]
+opened_counted device planned before d plan same (Err e) by = tt

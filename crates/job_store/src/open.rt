@@ -1,4 +1,4 @@
-ghost use Rattle.std.specs.Prelude.{◌≡◌, ◌≢◌, ℕ, false, [], IfErr, IfOk};
+ghost use Rattle.std.specs.Prelude.{◌≡◌, ◌≢◌, ◌⊎◌, ℕ, false, [], IfErr, IfOk};
 ghost use Rattle.disk.specs.Crash.{Only};
 ghost use Rattle.disk.specs.File.{CrashLeaves, bytes_of};
 ghost use Rattle.checkpoint.specs.Format.{fresh};
@@ -18,6 +18,10 @@ pub fn open_store<D: Disk>(alloc: Global, disk: D, job: u64) -> Result<Store<D>,
     ensures made { IfOk result (λ s. bytes_of (D.device disk).file ≡ [] → s.record ≡ fresh job) }
     ensures found { IfOk result (λ s. bytes_of (D.device disk).file ≢ []
         → (n : ℕ) × ReadsAsStore (bytes_of (D.device disk).file) n s.record) }
+
+    // One whose sequence has begun was read, and no more.
+    ensures counted { IfOk result (λ s. (s.sequence ≡ 0) ⊎ (ReadsAsStore (bytes_of (D.device disk).file) s.sequence s.record
+        × ((D.device s.disk).file ≡ (D.device disk).file))) }
 
     // Where a crash leaves what a read gives, it has the store's record, whatever a crash leaves.
     ensures kept { IfOk result (λ s. Only (bytes_of (D.device disk).file) (CrashLeaves (D.device disk).file)
@@ -40,6 +44,7 @@ pub fn open_store<D: Disk>(alloc: Global, disk: D, job: u64) -> Result<Store<D>,
 /// Makes the store of a job on a disk, and opens it. Only the device refuses it.
 fn make_store<D: Disk>(alloc: Global, disk: D, job: u64) -> Result<Store<D>, (StoreError, D)>
     ensures made { IfOk result (λ s. (s.ended ≡ false) × (s.record ≡ fresh job)) }
+    ensures counted { IfOk result (λ s. s.sequence ≡ 0) }
     ensures kept { IfOk result (KeepsItself D.device) }
     ensures passed { IfOk result (λ s. (D.device s.disk).failures ≡ (D.device disk).failures) }
     ensures refused { IfErr result (λ e. e.0 ≡ StoreError.Device) }

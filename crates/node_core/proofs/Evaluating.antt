@@ -19,7 +19,8 @@ use Rattle.serial_meaning.specs.Places.{room}
 use Rattle.serial_meaning.specs.Serial.{serial_turns}
 use Rattle.serial_meaning.specs.Whole.{IsWhole, WholeOf}
 use Rattle.sub_rules.specs.Carrying.{ended, exec_content as carry, executed, holds_numbers, is_stale_of, is_turn_of, within_numbers}
-use Rattle.sub_rules.specs.Resuming.{nothing_known, resumed}
+use Rattle.saved_values.specs.Saved.{known_by}
+use Rattle.sub_rules.specs.Resuming.{Known, resumed}
 use Rattle.sub_rules.specs.Changes.{granted_out, turned}
 use Rattle.sub_rules.specs.Content.{Ready, ready, ready_in, task_of}
 use Rattle.sub_rules.specs.declared.change.ContentChange.{ContentChange}
@@ -150,16 +151,16 @@ is_full f c r is = by_frame (frame_in f c.frames) refl is
     by_frame (Some x) there at = by_numbers x (numbers_in x.slots) there refl at
 
 -- what a turn of it leads to
-abbrev turned_as : Ready → DoneOf → Content → ContentChange
-turned_as r d c = turned r.frame (resumed nothing_known r.frame.place d.turn) c
+abbrev turned_as : Known → Ready → DoneOf → Content → ContentChange
+turned_as known r d c = turned r.frame (resumed known r.frame.place d.turn) c
 
 -- it is carried out by a turn on its numbers
-carried_is : (f : ℕ) (c : Content) (r : Ready) (d : DoneOf) → ready_in f c ≡ Some r → d.thread ≡ r.frame.thread → d.numbers ≡ r.numbers → carry nothing_known d f c ≡ within_numbers (turned_as r d c)
-carried_is f c r d ready thread numbers =
+carried_is : (known : Known) (f : ℕ) (c : Content) (r : Ready) (d : DoneOf) → ready_in f c ≡ Some r → d.thread ≡ r.frame.thread → d.numbers ≡ r.numbers → carry known d f c ≡ within_numbers (turned_as known r d c)
+carried_is known f c r d ready thread numbers =
     let whole = is_full f c r ready in
     let holds : holds_numbers r.frame.slots d.numbers ≡ true = holds_same r.frame.slots d.numbers (whole.full ∙ ap Some (sym numbers)) in
     let is : is_turn_of d r.frame ≡ true = rw (eq-eqb r.frame.thread d.thread (sym thread), holds) refl in
-    ap (executed nothing_known d c) whole.there ∙ ap (λ b. cond b (within_numbers (turned_as r d c)) (Err sub.Stale)) is
+    ap (executed known d c) whole.there ∙ ap (λ b. cond b (within_numbers (turned_as known r d c)) (Err sub.Stale)) is
 
 -- the turn of a ready frame, as it was evaluated
 same_done : (d : DoneOf) (p : Program) (t : ℕ) (numbers : List ℤ) → d.program ≡ p → d.thread ≡ t → d.numbers ≡ numbers → record { program = p; thread = t; numbers = numbers; turn = d.turn } ≡ d
@@ -208,9 +209,9 @@ module _ (job : JobOf) (g : Grant) (f : ℕ) (n : NodeOf) (s : SubOf) (member : 
       by_test true = tt
       by_test false = tt
 
-  exec_is : (d : DoneOf) → calls.exec job d g f n ≡ calls.changed job s n (carry nothing_known d f s.content)
+  exec_is : (d : DoneOf) → calls.exec job d g f n ≡ calls.changed job s n (carry (known_by s.saved) d f s.content)
   unfolding calls.exec
-  exec_is d = joined n.state _ _ (Refused error.NotJoined) (calls.changed job s n (carry nothing_known d f s.content)) member (λ _. found job d g f n s (calls.changed job s n (carry nothing_known d f s.content)) there refl)
+  exec_is d = joined n.state _ _ (Refused error.NotJoined) (calls.changed job s n (carry (known_by s.saved) d f s.content)) member (λ _. found job d g f n s (calls.changed job s n (carry (known_by s.saved) d f s.content)) there refl)
 
   pub ready_lacks_memory : IsTotal job.program → Fits job.program s.content → is_some (ready_in f s.content) ≡ true → MayLackMemory (calls.exec_ready job g f n)
   ready_lacks_memory total fits some =
@@ -219,10 +220,10 @@ module _ (job : JobOf) (g : Grant) (f : ℕ) (n : NodeOf) (s : SubOf) (member : 
       let is = has.there in
       let reaches = total.each r.frame.thread r.numbers (ready_takes job.program f s.content r fits is) in
       let d : DoneOf = record { program = job.program; thread = r.frame.thread; numbers = r.numbers; turn = reaches.turn } in
-      let carried : carry nothing_known d f s.content ≡ within_numbers (turned_as r d s.content) = carried_is f s.content r d is refl refl in
-      let known : calls.exec job d g f n ≡ calls.changed job s n (within_numbers (turned_as r d s.content)) =
+      let carried : carry (known_by s.saved) d f s.content ≡ within_numbers (turned_as (known_by s.saved) r d s.content) = carried_is (known_by s.saved) f s.content r d is refl refl in
+      let known : calls.exec job d g f n ≡ calls.changed job s n (within_numbers (turned_as (known_by s.saved) r d s.content)) =
       exec_is d ∙ ap (calls.changed job s n) carried in
-      rw (ready_known r d is refl refl refl reaches.reached ∙ known) (turned_lacks_memory (turned_as r d s.content))
+      rw (ready_known r d is refl refl refl reaches.reached ∙ known) (turned_lacks_memory (turned_as (known_by s.saved) r d s.content))
 
   -- by its whole value a frame is carried out as by a turn that sends it
   pub whole_known : (most : ℕ) (r : Ready) (v : ℤ) → ready_in f s.content ≡ Some r → calls.own_whole job.program most r ≡ Some v → calls.whole_ready job most g f n ≡ calls.exec job (calls.sends_it job.program r v) g f n
@@ -248,8 +249,8 @@ module _ (job : JobOf) (g : Grant) (f : ℕ) (n : NodeOf) (s : SubOf) (member : 
           let r = (some_ready f s.content some).ready in
           let there = (some_ready f s.content some).there in
           let d : DoneOf = calls.sends_it job.program r v in
-          let carried : carry nothing_known d f s.content ≡ within_numbers (turned_as r d s.content) = carried_is f s.content r d there refl refl in
-          rw (whole_known most r v there own ∙ exec_is d ∙ ap (calls.changed job s n) carried) (turned_lacks_memory (turned_as r d s.content))
+          let carried : carry (known_by s.saved) d f s.content ≡ within_numbers (turned_as (known_by s.saved) r d s.content) = carried_is (known_by s.saved) f s.content r d there refl refl in
+          rw (whole_known most r v there own ∙ exec_is d ∙ ap (calls.changed job s n) carried) (turned_lacks_memory (turned_as (known_by s.saved) r d s.content))
 
   -- what was evaluated whole, of that frame's task, within so many turns
   pub whole_given : (most : ℕ) (w : WholeOf) (r : Ready) → ready_in f s.content ≡ Some r → w.program ≡ job.program → w.thread ≡ r.frame.thread → w.numbers ≡ r.numbers → w.room ≡ room r.frame.place → w.turns ≤ most → IsWhole w → calls.whole_ready job most g f n ≡ calls.exec job (ended job.program w.thread w.numbers (Sends w.value)) g f n

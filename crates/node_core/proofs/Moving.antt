@@ -127,7 +127,7 @@ sent_after_refuse p = refl
 -- worker 4 has granted its only frame to 3 and departs: the frozen rest is released, but no Leave goes while 3 lacks its Grant; it
 -- is sent again, 3 says that it has it, and Leave goes
 abbrev the_grant : PacketOf
-the_grant = to 3 (body.Grant (record { seq = 1; grant = record { minter = 4; number = 1 }; task = task }))
+the_grant = to 3 (body.Grant (record { seq = 1; grant = record { minter = 4; number = 1 }; task = task; saved = [] }))
 
 abbrev awaiting : List Call
 awaiting =

@@ -31,6 +31,7 @@ abbrev sub : Grant → ℕ → List Record → SubOf
 sub g host records = record {
   grant = g;
   hop = 0;
+  saved = [];
   content = record { parent = host; progress = Active; task = record { place = []; thread = 0; numbers = [] }; next = 9; frames = []; records = records };
 }
 

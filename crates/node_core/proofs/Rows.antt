@@ -37,7 +37,7 @@ abbrev both_listed : Body
 both_listed = body.Roster (record { epoch = 1; version = 3; members = record { incarnation = 3; status = Live } ∷ record { incarnation = 5; status = Live } ∷ [] })
 
 abbrev root_granted : Body
-root_granted = body.Grant (record { seq = 1; grant = root; task = record { place = []; thread = 0; numbers = pos 2 ∷ [] } })
+root_granted = body.Grant (record { seq = 1; grant = root; task = record { place = []; thread = 0; numbers = pos 2 ∷ [] }; saved = [] })
 
 -- worker 3 joins, gets the root, and runs it alone: the second kid first
 abbrev alone : List Call
@@ -86,6 +86,7 @@ kid_granted =
       seq = 1;
       grant = record { minter = 3; number = 1 };
       task = record { place = 2 ∷ []; thread = 0; numbers = pos 0 ∷ [] };
+      saved = [];
     }))
 
 sent_asked_twice : (p : Pointer) → (run_asked_twice p).sent ≡
@@ -97,7 +98,7 @@ one_record : (p : Pointer) → map (λ (s : SubOf). map (λ (r : Record). r.fram
 unfolding run_asked_twice by_state by_option by_status by_order for_some on_body on_packet ask exec depart resend follow
 one_record p = refl
 
--- the thief's Result comes twice: acknowledged twice, one fill; then the rest runs
+-- the thief's Result comes twice: acknowledged twice, one fill, and one Save; then the rest runs
 abbrev returned : Body
 returned = body.Result (record { from = 5; grant = record { minter = 3; number = 1 }; outcome = Value (pos 0) })
 
@@ -116,6 +117,6 @@ acknowledged = to 5 (body.ResultAck (record { grant = record { minter = 3; numbe
 
 sent_stolen : (p : Pointer) → (run_stolen p).sent ≡
     to (2 ^ 63) (body.Join (record { from = 3 })) ∷ to house (body.Steal (record { from = 3; seq = 1 })) ∷ kid_granted ∷ kid_granted ∷
-    acknowledged ∷ acknowledged ∷ to house (body.Result (record { from = 3; grant = root; outcome = Value (pos 1) })) ∷ []
+    acknowledged ∷ to house (body.Save (record { from = 3; place = 2 ∷ []; value = pos 0 })) ∷ acknowledged ∷ to house (body.Result (record { from = 3; grant = root; outcome = Value (pos 1) })) ∷ []
 unfolding run_stolen by_state by_option by_status by_order for_some on_body on_packet ask exec depart resend follow
 sent_stolen p = refl

@@ -12,6 +12,7 @@ ghost use Rattle.node_core.specs.Meeting.{Meets, gives, MeetsBody};
 ghost use Rattle.node_core.specs.Moves as moves;
 ghost use Rattle.node_core.specs.Steps.{Does};
 ghost use Rattle.node_state.specs.Node.{hop_in};
+ghost use Rattle.saved_values.specs.Saved.{IsSavedList, saved_under};
 
 use crate::error::NodeError;
 use crate::node::Node;
@@ -19,8 +20,9 @@ use crate::parts::Step;
 use crate::rosters::{says_live, status_of};
 use crate::sending::{ignored, quiet, sends};
 use codec::{Grant, OfferAck, Packet, Refuse, Steal, alone};
-use ids::{Actor, FrameNo, GrantId, Hop, Task};
+use ids::{Actor, FrameNo, GrantId, Hop, Listed, Task};
 use node_state::State;
+use saved_values::{SavedList, SavedValue};
 use std::alloc::Global;
 use steal_protocol::{Heard, Reply};
 use sub_rules::{Opening, Readied};
@@ -70,7 +72,10 @@ impl<'a> Node<'a> {
             return Err(NodeError::Spent);
         };
         match sub.prepare_grant_out(alloc, post.frame, name, steal.from)? {
-            Some(opening) => self.give(alloc, steal, name, post.grant, opening),
+            Some(opening) => {
+                let saved = sub.saved_below(alloc, &opening.task.place)?;
+                self.give(alloc, steal, name, post.grant, opening, saved)
+            }
             None => self.refuse(alloc, steal),
         }
     }
@@ -91,7 +96,8 @@ impl<'a> Node<'a> {
         Ok(sends(alloc, sent))
     }
 
-    /// A ready frame of the subcomputation of a grant is given away, and granted under the next number, which is this name.
+    /// A ready frame of the subcomputation of a grant is given away, and granted under the next number, which is this name, with the values
+    /// that stand below its place.
     fn give(
         &mut self,
         alloc: Global,
@@ -99,11 +105,15 @@ impl<'a> Node<'a> {
         name: GrantId,
         host: GrantId,
         opening: Opening,
+        saved: Listed<SavedValue>,
     ) -> Result<Step, NodeError>
         requires may { MayOpenIn self.old.node host opening.opened }
         requires fits { (s : SubOf) → sub_in host self.old.node.subs ≡ Some s
             → Fits self.old.job.program (opened_in opening.opened s.content) }
         requires task { IsTrue (task_fits self.old.job.program opening.task) }
+        requires saved { (s : SubOf) → sub_in host self.old.node.subs ≡ Some s
+            → saved ≡ saved_under opening.task.place s.saved }
+        requires list { IsSavedList saved }
         ensures { (s : SubOf) → sub_in host self.old.node.subs ≡ Some s
             → Meets (Does (gives self.old.job steal name (sub_grant_of s opening) self.old.node))
             result self.old self.new }
@@ -114,6 +124,7 @@ impl<'a> Node<'a> {
             seq: steal.seq,
             grant: name,
             task,
+            saved,
         };
         let packet = Packet::grant(self.job.number(), steal.from, grant);
         let sent = alone(alloc, &packet)?;
@@ -148,17 +159,19 @@ impl<'a> Node<'a> {
         GrantId::of(Actor::worker(self.parts.incarnation()), number)
     }
 
-    /// A task comes that answers the pending request: it is taken if its grant was never taken here and it fits the program. A
-    /// grant that was taken here already, and was minted by a worker, is acknowledged again.
+    /// A task comes that answers the pending request: it is taken if its grant was never taken here and it fits the program, and the values
+    /// that come with it stand below it. A grant that was taken here already, and was minted by a worker, is acknowledged again.
     #[tactic(auto, unfolding(crate::specs::Cases::on_body, node_state::specs::Node::by_state))]
     pub(crate) fn member_grant(&mut self, alloc: Global, grant: Grant) -> Result<Step, NodeError>
-        requires { IsMember self.old.node.state }
+        requires member { IsMember self.old.node.state }
+        requires saved { IsSavedList grant.saved }
         ensures { MeetsBody (body.Grant grant) result self.old self.new }
     {
         let is_seen = self.parts.hop(grant.grant).is_some();
         if !is_seen
             && self.parts.asker().is_answered_by(grant.seq, grant.grant)
             && self.task_fits(&grant.task)
+            && saved_fit(&grant.task, grant.saved.as_slice())
         {
             return self.take(alloc, grant);
         }
@@ -194,13 +207,14 @@ impl<'a> Node<'a> {
         requires member { IsMember self.old.node.state }
         requires never { hop_in grant.grant self.old.node.seen ≡ None }
         requires fits { IsTrue (task_fits self.old.job.program grant.task) }
+        requires saved { IsSavedList grant.saved }
         ensures { Meets (Does (moves.takes self.old.job grant self.old.node)) result self.old self.new }
     {
         let ready = [Readied {
             frame: FrameNo::of(0),
             level: grant.task.place.level(),
         }];
-        let sub = Sub::granted(alloc, grant.grant, grant.task)?;
+        let sub = Sub::granted(alloc, grant.grant, grant.task, SavedList::of(grant.saved))?;
         self.parts.take(sub, &ready)?;
         Ok(quiet(alloc))
     }
@@ -213,4 +227,11 @@ impl<'a> Node<'a> {
         usize::from(task.thread) < checked.threads()
             && checked.program().thread(task.thread).numbers.len() == task.numbers.len()
     }
+}
+
+/// Whether each value is of a place below that of a task.
+fn saved_fit(task: &Task, saved: &[SavedValue]) -> bool
+    ensures { result ≡ cases.saved_fit task.now saved.now }
+{
+    saved.iter().all(|value| value.place.is_under(&task.place))
 }

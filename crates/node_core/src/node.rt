@@ -135,6 +135,7 @@ impl<'a> Node<'a> {
         ensures { MeetsBody body result self.old self.new }
     {
         codec::rosters_rise();
+        codec::saved_values_rise();
         on_case! { self, alloc, body;
             Join: ignored, ignored, ignored, ignored;
             Roster: joining_roster, member_roster, leaving_roster, ignored;
@@ -148,6 +149,7 @@ impl<'a> Node<'a> {
             Leave: ignored, ignored, ignored, ignored;
             Abort: ignored, member_abort, ignored, ignored;
             Beat: ignored, ignored, ignored, ignored;
+            Save: ignored, ignored, ignored, ignored;
             Piece: ignored, member_piece, leaving_piece, ignored;
         }
     }

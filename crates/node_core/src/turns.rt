@@ -15,7 +15,7 @@ use body_eval::{Done, Turn};
 use ids::{FrameNo, GrantId, Listed};
 use node_state::State;
 use std::alloc::Global;
-use sub_rules::{NothingKnown, is_stale, law_turn_is_few};
+use sub_rules::{is_stale, law_turn_is_few};
 
 impl<'a> Node<'a> {
     /// Carries out a ready frame of a grant's subcomputation by the end to which that thread comes on these numbers, whoever found it. E60
@@ -46,8 +46,14 @@ impl<'a> Node<'a> {
         let Some(sub) = self.parts.sub(grant) else {
             return Err(NodeError::Stale);
         };
-        let prepared = sub.prepare_turn(alloc, frame, thread, numbers, turn, &NothingKnown)?;
-        self.change(alloc, Listed::new(alloc), grant, prepared)
+        let prepared = sub.prepare_turn(alloc, frame, thread, numbers, turn)?;
+        self.change(
+            alloc,
+            Listed::new(alloc),
+            grant,
+            prepared,
+            Listed::new(alloc),
+        )
     }
 
     /// The same, by a turn that was evaluated, of this job's program.

@@ -12,7 +12,10 @@ use Rattle.codec.specs.Table.{PacketOf}
 use Rattle.codec.specs.declared.body.Roster.{Roster}
 use Rattle.serial_meaning.specs.Job.{JobOf}
 use Rattle.sub_rules.specs.Carrying.{exec_content as carried_out}
-use Rattle.sub_rules.specs.Resuming.{nothing_known, resumed}
+use Rattle.saved_values.specs.Saved.{known_by}
+use Rattle.agreement.specs.Agreement.{AllSavedAgree}
+use Rattle.agreement.proofs.Saving.{known_agrees}
+use Rattle.sub_rules.specs.Resuming.{resumed}
 use Rattle.sub_rules.specs.declared.change.ContentChange.{ContentChange}
 use Rattle.sub_rules.specs.declared.change.Filling.{Filling}
 use Rattle.sub_rules.specs.declared.change.SubError.{SubError}
@@ -118,32 +121,36 @@ module _ (m : Meaning) (job : JobOf) (v : View) (n : NodeOf) (run : Run m v) (sh
 abbrev pub EndsRight : JobOf → NodeOf → Grant → ℕ → DoneOf → Type 0
 EndsRight job n g f d = (s : SubOf) (x : Frame) → sub_in g n.subs ≡ Some s → frame_in f s.content.frames ≡ Some x → Comes job.program x.place d.thread d.numbers d.turn
 
+-- what came with the sub of a grant agrees
+abbrev pub SavedRight : JobOf → NodeOf → Grant → Type 0
+SavedRight job n g = (s : SubOf) → sub_in g n.subs ≡ Some s → AllSavedAgree job s.saved
+
 -- a frame is carried out by an end that it comes to
 module _ (job : JobOf) (v : View) (n : NodeOf) (r : Roster) (run : Run (program_meaning job.program job.input) v) (is : n.state ≡ Member r) (shown : NodeShown v n) where
-  turned_shown : (d : DoneOf) (s : SubOf) (f : ℕ) (c : ContentChange) → ((x : Frame) → frame_in f s.content.frames ≡ Some x → Comes job.program x.place d.thread d.numbers d.turn) → sub_in s.grant n.subs ≡ Some s → carried_out nothing_known d f s.content ≡ Ok c → StepShown (program_meaning job.program job.input) job.number v n (changes job s c n)
-  turned_shown d s f c end there ok =
+  turned_shown : (d : DoneOf) (s : SubOf) (f : ℕ) (c : ContentChange) → ((x : Frame) → frame_in f s.content.frames ≡ Some x → Comes job.program x.place d.thread d.numbers d.turn) → AllSavedAgree job s.saved → sub_in s.grant n.subs ≡ Some s → carried_out (known_by s.saved) d f s.content ≡ Ok c → StepShown (program_meaning job.program job.input) job.number v n (changes job s c n)
+  turned_shown d s f c end saved there ok =
       let h = member_shown v n r is shown in
       let held : HeldAt (v.subs n.incarnation s.grant) s = held_at (v.subs n.incarnation s.grant) (sub_in s.grant n.subs) s (h.parts.subs s.grant) there in
       let live : Live v n.incarnation s.grant held.sub = record { member = h.mode; holds = held.is } in
-      let x : IsCarried nothing_known d f s.content c = carried nothing_known d f s.content c ok in
+      let x : IsCarried (known_by s.saved) d f s.content c = carried (known_by s.saved) d f s.content c ok in
       let turn : Comes job.program x.frame.place x.frame.thread d.numbers d.turn = rw x.thread (end x.frame x.at) in
-      let move : IsMove (program_meaning job.program job.input) v n.incarnation s.grant held.sub c.after c.fill (grants_of_records c.dropped) = rw (← x.is) (ended_moves job.program job.input v n.incarnation s.grant held.sub s.content x.frame d.numbers live (record { kept = held.shown.kept; shows = held.shown.content; there = x.there; full = x.full }) nothing_known d.turn (λ place y known. cc) turn) in
-      let kept : IsKept c.after = rw (← x.is) (turn_kept s.content x.frame d.numbers held.shown.kept x.there x.full (resumed nothing_known x.frame.place d.turn)) in
+      let move : IsMove (program_meaning job.program job.input) v n.incarnation s.grant held.sub c.after c.fill (grants_of_records c.dropped) = rw (← x.is) (ended_moves job.program job.input v n.incarnation s.grant held.sub s.content x.frame d.numbers live (record { kept = held.shown.kept; shows = held.shown.content; there = x.there; full = x.full }) (known_by s.saved) d.turn (known_agrees job s.saved saved) turn) in
+      let kept : IsKept c.after = rw (← x.is) (turn_kept s.content x.frame d.numbers held.shown.kept x.there x.full (resumed (known_by s.saved) x.frame.place d.turn)) in
       changes_shown (program_meaning job.program job.input) job v n run shown h.parts s c (grants_of_records c.dropped) held move kept (λ g y. y)
 
-  pub exec_member_shown : (d : DoneOf) (g : Grant) (f : ℕ) → EndsRight job n g f d → AnswerShown (program_meaning job.program job.input) job.number v n (by_option (sub_in g n.subs) (Refused error.Stale) (λ s. calls.changed job s n (carried_out nothing_known d f s.content)))
+  pub exec_member_shown : (d : DoneOf) (g : Grant) (f : ℕ) → EndsRight job n g f d → SavedRight job n g → AnswerShown (program_meaning job.program job.input) job.number v n (by_option (sub_in g n.subs) (Refused error.Stale) (λ s. calls.changed job s n (carried_out (known_by s.saved) d f s.content)))
   unfolding by_option
-  exec_member_shown d g f end = by_sub (sub_in g n.subs) refl
+  exec_member_shown d g f end saved = by_sub (sub_in g n.subs) refl
     where
-      by_change : (s : SubOf) → ((x : Frame) → frame_in f s.content.frames ≡ Some x → Comes job.program x.place d.thread d.numbers d.turn) → sub_in s.grant n.subs ≡ Some s → (o : Result ContentChange SubError) → carried_out nothing_known d f s.content ≡ o → AnswerShown (program_meaning job.program job.input) job.number v n (calls.changed job s n o)
-      by_change s ends there (Ok c) ok = turned_shown d s f c ends there ok
-      by_change s ends there (Err sub.Stale) e = tt
-      by_change s ends there (Err sub.Spent) e = tt
-      by_change s ends there (Err sub.Memory) e = tt
+      by_change : (s : SubOf) → ((x : Frame) → frame_in f s.content.frames ≡ Some x → Comes job.program x.place d.thread d.numbers d.turn) → AllSavedAgree job s.saved → sub_in s.grant n.subs ≡ Some s → (o : Result ContentChange SubError) → carried_out (known_by s.saved) d f s.content ≡ o → AnswerShown (program_meaning job.program job.input) job.number v n (calls.changed job s n o)
+      by_change s ends agree there (Ok c) ok = turned_shown d s f c ends agree there ok
+      by_change s ends agree there (Err sub.Stale) e = tt
+      by_change s ends agree there (Err sub.Spent) e = tt
+      by_change s ends agree there (Err sub.Memory) e = tt
 
-      by_sub : (o : Option SubOf) → sub_in g n.subs ≡ o → AnswerShown (program_meaning job.program job.input) job.number v n (by_option o (Refused error.Stale) (λ s. calls.changed job s n (carried_out nothing_known d f s.content)))
+      by_sub : (o : Option SubOf) → sub_in g n.subs ≡ o → AnswerShown (program_meaning job.program job.input) job.number v n (by_option o (Refused error.Stale) (λ s. calls.changed job s n (carried_out (known_by s.saved) d f s.content)))
       by_sub None none = tt
-      by_sub (Some s) there = by_change s (λ x at. end s x there at) (rw (own_sub g s n.subs there) at there) (carried_out nothing_known d f s.content) refl
+      by_sub (Some s) there = by_change s (λ x at. end s x there at) (saved s there) (rw (own_sub g s n.subs there) at there) (carried_out (known_by s.saved) d f s.content) refl
 
 -- a ready frame that sends its whole value comes to that
 pub whole_ends : (job : JobOf) (n : NodeOf) (g : Grant) (f : ℕ) (x : ReadyFrame) (v : ℤ) → ReadyThere n.subs g f x → whole_value job.program x.ready ≡ Some v → EndsRight job n g f (sends_it job.program x.ready v)
@@ -155,26 +162,26 @@ whole_ends job n g f x v there gives = λ s y at here.
 
 -- wherever the node stands
 module _ (job : JobOf) (v : View) (n : NodeOf) (run : Run (program_meaning job.program job.input) v) (shown : NodeShown v n) where
-  ended_shown : (d : DoneOf) (g : Grant) (f : ℕ) → EndsRight job n g f d → AnswerShown (program_meaning job.program job.input) job.number v n (calls.exec job d g f n)
+  ended_shown : (d : DoneOf) (g : Grant) (f : ℕ) → EndsRight job n g f d → SavedRight job n g → AnswerShown (program_meaning job.program job.input) job.number v n (calls.exec job d g f n)
   unfolding calls.exec by_state
-  ended_shown d g f end = by_where n.state refl
+  ended_shown d g f end saved = by_where n.state refl
     where
-      by_where : (x : State) → n.state ≡ x → AnswerShown (program_meaning job.program job.input) job.number v n (by_state x (Refused error.NotJoined) (λ y. by_option (sub_in g n.subs) (Refused error.Stale) (λ s. calls.changed job s n (carried_out nothing_known d f s.content))) (λ y heir. Refused error.Stale) (Refused error.NotJoined))
+      by_where : (x : State) → n.state ≡ x → AnswerShown (program_meaning job.program job.input) job.number v n (by_state x (Refused error.NotJoined) (λ y. by_option (sub_in g n.subs) (Refused error.Stale) (λ s. calls.changed job s n (carried_out (known_by s.saved) d f s.content))) (λ y heir. Refused error.Stale) (Refused error.NotJoined))
       by_where Joining e = tt
-      by_where (Member y) e = exec_member_shown job v n y run e shown d g f end
+      by_where (Member y) e = exec_member_shown job v n y run e shown d g f end saved
       by_where (Leaving y heir) e = tt
       by_where Ended e = tt
 
-  pub exec_shown : (d : DoneOf) (g : Grant) (f : ℕ) → turn_of job.program d.thread d.numbers ≡ Some d.turn → AnswerShown (program_meaning job.program job.input) job.number v n (calls.exec job d g f n)
-  exec_shown d g f end = ended_shown d g f (λ s x there at. comes_of job.program x.place d.thread d.numbers d.turn end)
+  pub exec_shown : (d : DoneOf) (g : Grant) (f : ℕ) → SavedRight job n g → turn_of job.program d.thread d.numbers ≡ Some d.turn → AnswerShown (program_meaning job.program job.input) job.number v n (calls.exec job d g f n)
+  exec_shown d g f saved end = ended_shown d g f (λ s x there at. comes_of job.program x.place d.thread d.numbers d.turn end) saved
 
-  pub whole_ready_shown : (most : ℕ) (g : Grant) (f : ℕ) → AnswerShown (program_meaning job.program job.input) job.number v n (whole_ready job most g f n)
+  pub whole_ready_shown : (most : ℕ) (g : Grant) (f : ℕ) → SavedRight job n g → AnswerShown (program_meaning job.program job.input) job.number v n (whole_ready job most g f n)
   unfolding by_state by_option
-  whole_ready_shown most g f = by_where n.state refl
+  whole_ready_shown most g f saved = by_where n.state refl
     where
       by_value : (x : ReadyFrame) → ReadyThere n.subs g f x → (o : Option ℤ) → own_whole job.program most x.ready ≡ o → AnswerShown (program_meaning job.program job.input) job.number v n (by_option o (Refused error.NoValue) (λ w. calls.exec job (sends_it job.program x.ready w) g f n))
       by_value x there None e = tt
-      by_value x there (Some w) e = ended_shown (sends_it job.program x.ready w) g f (whole_ends job n g f x w there (given_within job.program most x.ready w e))
+      by_value x there (Some w) e = ended_shown (sends_it job.program x.ready w) g f (whole_ends job n g f x w there (given_within job.program most x.ready w e)) saved
 
       by_frame : (o : Option ReadyFrame) → ((x : ReadyFrame) → o ≡ Some x → ReadyThere n.subs g f x) → AnswerShown (program_meaning job.program job.input) job.number v n (by_option o (Refused error.Stale) (λ x. by_option (own_whole job.program most x.ready) (Refused error.NoValue) (λ w. calls.exec job (sends_it job.program x.ready w) g f n)))
       by_frame None there = tt
@@ -186,13 +193,13 @@ module _ (job : JobOf) (v : View) (n : NodeOf) (run : Run (program_meaning job.p
       by_where (Leaving y heir) e = tt
       by_where Ended e = tt
 
-  pub exec_ready_shown : (g : Grant) (f : ℕ) → AnswerShown (program_meaning job.program job.input) job.number v n (calls.exec_ready job g f n)
+  pub exec_ready_shown : (g : Grant) (f : ℕ) → SavedRight job n g → AnswerShown (program_meaning job.program job.input) job.number v n (calls.exec_ready job g f n)
   unfolding by_state by_option
-  exec_ready_shown g f = by_where n.state
+  exec_ready_shown g f saved = by_where n.state
     where
       by_turn : (x : ReadyFrame) (o : Option Turn) → turn_of job.program x.ready.frame.thread x.ready.numbers ≡ o → AnswerShown (program_meaning job.program job.input) job.number v n (by_option (o >>= (λ turn. Some (record { program = job.program; thread = x.ready.frame.thread; numbers = x.ready.numbers; turn = turn }))) (Refused error.Stale) (λ d. calls.exec job d g f n))
       by_turn x None e = tt
-      by_turn x (Some turn) e = exec_shown (record { program = job.program; thread = x.ready.frame.thread; numbers = x.ready.numbers; turn = turn }) g f e
+      by_turn x (Some turn) e = exec_shown (record { program = job.program; thread = x.ready.frame.thread; numbers = x.ready.numbers; turn = turn }) g f saved e
 
       by_frame : (o : Option ReadyFrame) → AnswerShown (program_meaning job.program job.input) job.number v n (by_option o (Refused error.Stale) (λ x. by_option (calls.own_turn job.program x.ready) (Refused error.Stale) (λ d. calls.exec job d g f n)))
       by_frame None = tt

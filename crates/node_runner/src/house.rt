@@ -9,6 +9,7 @@ use crate::fates::Fates;
 use crate::gate::Gate;
 use crate::inbox::Inbox;
 use crate::resting::rest_idle;
+use crate::saves::Saves;
 use crate::shared::{Shared, commit};
 use board::Note;
 use chronicle::{ActorSeat, Committed, Receiver};
@@ -23,14 +24,15 @@ use world_steps::EventAnswer;
 /// How many events are committed between two ticks of the clearinghouse, and how far the moment goes with each.
 const TICK: u64 = 100;
 
-/// The place of the clearinghouse, from which its fates are drawn: behind those of nodes.
+/// The place of the clearinghouse, from which its fates are drawn: behind those of nodes. Those of Saves are drawn from the next one.
 const PLACE: u64 = 64;
 
-/// The clearinghouse of a run: its packets, how many events were committed when it ticked last, how often it did, and in how many
-/// turns in a row it did nothing.
+/// The clearinghouse of a run: its packets, and the Saves among them, how many events were committed when it ticked last, how often it did,
+/// and in how many turns in a row it did nothing.
 #[derive(Drop)]
 struct House {
     inbox: Inbox,
+    saves: Saves,
     ticked: u64,
     ticks: u64,
     idle: u64,
@@ -50,8 +52,10 @@ pub(crate) fn run_house<'a, R: Wait + Clock, G: Gate + Sync, D: SteadyDisk + Dro
     let mut note = shared.board.note();
     let faults = shared.config.faults();
     let fates = Fates::new(faults.word, PLACE, faults.lose, faults.repeat);
+    let fates_of_saves = Fates::new(faults.word, PLACE + 1, faults.lose, faults.repeat);
     let mut house = House {
         inbox: Inbox::new(None, Receiver::Clearinghouse, fates),
+        saves: Saves::new(alloc, fates_of_saves),
         ticked: 0,
         ticks: 0,
         idle: 0,
@@ -96,8 +100,9 @@ fn turn<'a, R: Wait + Clock, G: Gate + Sync, D: SteadyDisk + Drop>(
             }
         }
         Ok(None) => {
-            house.idle = house.idle.saturating_add(1);
-            rest_idle(rt, 1, house.idle);
+            if !saves(rt, shared, seat, note, house) {
+                return false;
+            }
         }
         Err(_) => {
             shared.counts.ends(End::Memory);
@@ -113,6 +118,38 @@ fn turn<'a, R: Wait + Clock, G: Gate + Sync, D: SteadyDisk + Drop>(
     house.ticks = house.ticks.saturating_add(1);
     let moment = house.ticks.saturating_mul(TICK);
     goes_on(rt, shared, seat, note, HouseEvent::Tick(moment))
+}
+
+/// Where no other packet came, a value is saved, if it is time; else it rests. Whether the run goes on.
+fn saves<'a, R: Wait + Clock, G: Gate + Sync, D: SteadyDisk + Drop>(
+    rt: &R,
+    shared: &Shared<'_, 'a, G, D>,
+    seat: &mut ActorSeat<'a, D>,
+    note: &mut Note,
+    house: &mut House,
+) -> bool
+    requires seat { IsSeatIn shared.now.chronicle.now seat.old }
+    requires tie { shared.now.board.now.outcome ≡ meaning_of shared.now.chronicle.now.job }
+    requires note { note.old.board ≡ shared.now.board.now.board }
+    ensures seat { IsSeatIn shared.entry.now.chronicle.now seat.new }
+    ensures note { note.new.board ≡ note.old.board }
+{
+    match house.saves.take(rt, shared.chronicle, seat) {
+        Ok(Some(committed)) => {
+            house.idle = 0;
+            shared.counts.commits();
+            follows(shared, note, &committed)
+        }
+        Ok(None) => {
+            house.idle = house.idle.saturating_add(1);
+            rest_idle(rt, 1, house.idle);
+            true
+        }
+        Err(_) => {
+            shared.counts.ends(End::Memory);
+            false
+        }
+    }
 }
 
 /// An event of the clearinghouse is committed. Whether the run goes on: not where there is no memory, nor where `follows` ends it.

@@ -21,7 +21,7 @@
 //! place from the end. It leaves to one that doesn't leave itself, and waits while another node leaves to it (`Leavers`).
 //!
 //! **The disk** is the caller's, and the clearinghouse keeps its record there: in memory, or in a file, which holds the outcome once a run is
-//! through. A call of it that fails ends the run.
+//! through. A call of it that fails ends the run. Values that nodes hand in to be saved are taken where there is time (`Saves`).
 //!
 //! **Proved**: an outcome that `run_job` answers is the job's meaning, its trace is a safe history of the job which tells it first, whatever
 //! threads do, and the disk that it gives back keeps the outcome, whatever a crash leaves of it; packets have the fates that the generator
@@ -54,6 +54,7 @@ mod plans;
 mod probe;
 mod resting;
 mod run;
+mod saves;
 mod shared;
 mod turn;
 mod worker;

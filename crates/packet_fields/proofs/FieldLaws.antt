@@ -1,5 +1,5 @@
 -- Each field keeps the laws of formats: the term of its law is that of its format.
-use Rattle.std.proofs.Common.{◌≡◌, ℕ, zero, suc, ◌^◌, ◌<◌, Bool, true, not, eqb, leb, ltb, List, ◌++◌, reverse, Option, Some, None, Result, Ok, refl, sym, ap, subst, ◌∙◌, arith}
+use Rattle.std.proofs.Common.{◌≡◌, ℕ, zero, suc, ◌^◌, ◌<◌, Bool, true, not, eqb, leb, ltb, List, [], ◌++◌, reverse, Option, Some, None, Result, Ok, refl, sym, ap, subst, ◌∙◌, arith}
 use Rattle.std.specs.Prelude.{ℤ, pos, negsuc, FitsSigned, ◌&&◌}
 use Rattle.std.specs.Int.{w64, cast_signed, cast_unsigned}
 use Rattle.std.proofs.Math.Facts.{sfits_to_z}
@@ -18,9 +18,11 @@ use Rattle.ids.specs.declared.outcome.Progress.TheVariants.{Active, Finished}
 use Rattle.ids.specs.declared.member.Status.{Status}
 use Rattle.ids.specs.declared.member.Status.TheVariants.{Live, Dead, Left}
 use Rattle.ids.specs.declared.work.Task.{Task}
-use Rattle.packet_fields.specs.Format.{Format, IsBytes, ◌>>=◌, at_most, checked, followed, items, number, plain, raw}
-use Rattle.packet_fields.specs.Fields.{actor, address, allows, allows_part, below, counted, epoch, frame, frames, goes_to, grant, grant_of_record, heir_in, hop, is_above, is_active, is_behind, is_dead, is_live, is_open, is_too_deep, is_whole, is_word, local_in, member, members, most_pieces, name_of_member, number_of_frame, numbers, other_worker, outcome, outcome_arm, outcome_in, part, piece_of, pieces, place, progress, progress_arm, raised, records, return_arm, signed, slot, slot_arm, slots, status, status_arm, step, steps, stolen, tag_of_outcome, tag_of_progress, tag_of_return, tag_of_slot, tag_of_status, task, thread, value_in, worker}
-use Rattle.packet_fields.proofs.FormatLaws.{Lawful, bind_ok, checked_lawful, chosen_lawful, followed_lawful, items_lawful, items_length, listed_lawful, made_lawful, never_lawful, nothing_lawful, number_again, number_lawful, ok_is, plain_lawful, plain_length, raw_lawful, raw_length, variant_lawful, wide1, wide2, wide4, wide8}
+use Rattle.saved_values.specs.Places.{is_saved_place}
+use Rattle.saved_values.specs.Saved.{place_of}
+use Rattle.packet_fields.specs.Format.{Format, IsBytes, ◌>>=◌, at_most, checked, followed, is_empty, items, listed, made, number, plain, raw}
+use Rattle.packet_fields.specs.Fields.{actor, address, allows, allows_part, below, counted, epoch, frame, frames, goes_to, grant, grant_of_record, heir_in, hop, is_above, is_active, is_behind, is_dead, is_later, is_live, is_open, is_too_deep, is_whole, is_word, local_in, member, members, most_pieces, name_of_member, no_values, number_of_frame, numbers, other_worker, outcome, outcome_arm, outcome_in, part, piece_of, pieces, place, progress, progress_arm, raised, records, return_arm, saved_place, saved_value, saved_values, signed, slot, slot_arm, slots, status, status_arm, step, steps, stolen, tag_of_outcome, tag_of_progress, tag_of_return, tag_of_slot, tag_of_status, task, thread, value_in, worker}
+use Rattle.packet_fields.proofs.FormatLaws.{Lawful, bind_ok, checked_lawful, chosen_lawful, empty_is, followed_lawful, items_lawful, items_length, listed_lawful, made_lawful, never_lawful, nothing_lawful, number_again, number_lawful, ok_is, plain_lawful, plain_length, raw_lawful, raw_length, variant_lawful, wide1, wide2, wide4, wide8}
 
 -- ---- names and numbers
 
@@ -348,3 +350,28 @@ pub records_lawful : (progress : Progress) (next : ℕ) → Lawful (records prog
 unfolding records
 records_lawful progress next =
     listed_lawful 4 (allows progress) (items grant_of_record (stolen next) None) wide4 (items_lawful grant_of_record (stolen next) (stolen_lawful next) None) (items_length grant_of_record (stolen next) None)
+
+-- ---- saved values
+
+pub saved_place_lawful : Lawful saved_place
+unfolding saved_place
+saved_place_lawful =
+    checked_lawful (made (listed 2 (λ n. ltb 0 n && ltb n 24) (plain step)) reverse reverse) is_saved_place
+    (made_lawful (listed 2 (λ n. ltb 0 n && ltb n 24) (plain step)) reverse reverse (listed_lawful 2 (λ n. ltb 0 n && ltb n 24) (plain step) wide2 (plain_lawful step step_lawful) (plain_length step)) (λ xs. reverse-reverse xs) (λ from to xs s. reverse-reverse xs))
+
+pub saved_value_lawful : (last : Option (List ℕ)) → Lawful (saved_value last)
+unfolding saved_value
+saved_value_lawful last =
+    made_lawful (followed (checked saved_place (is_later last)) (λ _. signed)) (λ x. record { place = x.0; value = x.1 }) (λ s. (s.place, s.value))
+    (followed_lawful (checked saved_place (is_later last)) (λ _. signed) (checked_lawful saved_place (is_later last) saved_place_lawful) (λ _. signed_lawful))
+    (λ s. refl)
+    (λ from to x s. refl)
+
+pub saved_values_lawful : Lawful saved_values
+unfolding saved_values
+saved_values_lawful =
+    listed_lawful 1 (λ n. ltb 0 n && leb n 64) (items place_of saved_value None) wide1 (items_lawful place_of saved_value saved_value_lawful None) (items_length place_of saved_value None)
+
+pub no_values_lawful : Lawful no_values
+unfolding no_values
+no_values_lawful = nothing_lawful [] is_empty refl (λ xs e. empty_is xs e)

@@ -15,10 +15,10 @@ use Rattle.packet_fields.specs.Format.{Format, items, of_part, plain}
 use Rattle.packet_fields.specs.Fields.{member, members, name_of_member, numbers, outcome, outcome_in, place, progress, signed, slot, slots, step, steps}
 
 -- a test that a count is below a limit says nothing beside a smaller bound
-bound_alone : (count limit most : ℕ) (others : Bool) → most < limit → ((nat_lt count limit && nat_le count most) && others) ≡ (nat_le count most && others)
+pub bound_alone : (count limit most : ℕ) (others : Bool) → most < limit → ((nat_lt count limit && nat_le count most) && others) ≡ (nat_le count most && others)
 bound_alone count limit most others wide = grind arith
 
-plain_fits : {X : Type 0} (F : Format X) (xs : List X) → (plain F (length xs)).fits xs ≡ list_all F.fits xs
+pub plain_fits : {X : Type 0} (F : Format X) (xs : List X) → (plain F (length xs)).fits xs ≡ list_all F.fits xs
 plain_fits F [] = refl
 plain_fits F (x ∷ xs) = ap (λ (b : Bool). F.fits x && b) (plain_fits F xs)
 

@@ -303,7 +303,7 @@ cons_lawful {X = X} F G law laws = record {
   fit = λ from to xs s. cons_fit F G law laws from to xs s;
 }
 
-empty_is : {X : Type 0} (xs : List X) → is_empty xs ≡ true → xs ≡ []
+pub empty_is : {X : Type 0} (xs : List X) → is_empty xs ≡ true → xs ≡ []
 empty_is [] e = refl
 empty_is (x ∷ xs) e = absurd cc
 

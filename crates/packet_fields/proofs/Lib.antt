@@ -2,6 +2,7 @@ pub mod FormatLaws
 pub mod FieldLaws
 pub mod Loop
 pub mod Writing
+pub mod Saved
 pub mod Fitting
 pub mod Parts
 pub mod Skipping

@@ -20,12 +20,12 @@ use Rattle.ids.specs.declared.work.Record.{Record}
 use Rattle.packet_fields.specs.Format.{Format, items, plain}
 use Rattle.packet_fields.specs.Fields.{frame, frames, goes_to, grant_of_record, member, members, name_of_member, number_of_frame, numbers, outcome, place, progress, records, signed, slot, slots, step, steps, stolen}
 
-plain_write : {X : Type 0} (F : Format X) (xs : List X) → (plain F (length xs)).write xs ≡ flat_map F.write xs
+pub plain_write : {X : Type 0} (F : Format X) (xs : List X) → (plain F (length xs)).write xs ≡ flat_map F.write xs
 plain_write F [] = refl
 plain_write F (x ∷ xs) = ap (λ (r : List ℕ). F.write x ++ r) (plain_write F xs) ∙ sym (flat_map-cons F.write x xs)
 
 -- what is written for an item doesn't depend on the item before
-items_write : {K X : Type 0} (key : X → K) (F : Option K → Format X) (w : X → List ℕ) (last : Option K) → ((before : Option K) (x : X) → (F before).write x ≡ w x)
+pub items_write : {K X : Type 0} (key : X → K) (F : Option K → Format X) (w : X → List ℕ) (last : Option K) → ((before : Option K) (x : X) → (F before).write x ≡ w x)
     → (xs : List X) → (items key F last (length xs)).write xs ≡ flat_map w xs
 items_write key F w last same [] = refl
 items_write key F w last same (x ∷ xs) =

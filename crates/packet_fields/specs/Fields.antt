@@ -1,5 +1,6 @@
 -- The fields of packets, each as a format.
-use Rattle.std.specs.Prelude.{◌≡◌, ◌++◌, ◌^◌, ◌+◌, ◌&&◌, ℕ, zero, suc, ℤ, pos, negsuc, Bool, true, false, not, nat_eq, nat_lt, nat_le, if◌then◌else◌, IsTrue, List, reverse, Option, Some, None, Ok}
+use Rattle.std.specs.Prelude.{◌≡◌, ◌++◌, ◌^◌, ◌+◌, ◌&&◌, ℕ, zero, suc, ℤ, pos, negsuc, Bool, true, false, not, nat_eq, nat_lt, nat_le, if◌then◌else◌, IsTrue, List, [], reverse, Option, Some, None, Ok}
+use Rattle.std.specs.Ordering.{is_lt}
 use Rattle.std.specs.Int.{w64, cast_signed, cast_unsigned}
 use Rattle.byteorder.specs.Endian.{big_bytes}
 use Rattle.ids.specs.Names.{Grant, grant_before, is_actor, is_address, is_counted, is_epoch, is_worker}
@@ -16,7 +17,10 @@ use Rattle.ids.specs.declared.work.Record.{Record}
 use Rattle.ids.specs.declared.member.Status.{Status}
 use Rattle.ids.specs.declared.member.Status.TheVariants.{Live, Dead, Left}
 use Rattle.ids.specs.declared.work.Task.{Task}
-use Rattle.packet_fields.specs.Format.{Format, ◌>>=◌, at_most, checked, tagged_arm, followed, items, listed, made, never, nothing, number, plain, raw, variant}
+use Rattle.saved_values.specs.Places.{is_saved_place, place_cmp}
+use Rattle.saved_values.specs.Saved.{place_of}
+use Rattle.saved_values.specs.declared.value.SavedValue.{SavedValue}
+use Rattle.packet_fields.specs.Format.{Format, ◌>>=◌, at_most, checked, tagged_arm, followed, is_empty, items, listed, made, never, nothing, number, plain, raw, variant}
 
 -- the word of a worker's start
 unfoldable pub worker : Format ℕ
@@ -294,3 +298,24 @@ grant_of_record r = r.grant
 -- records by rising grant
 unfoldable pub records : Progress → ℕ → Format (List Record)
 records progress next = listed 4 (allows progress) (items grant_of_record (stolen next) None)
+
+-- the place of a saved value: 1 to 23 steps, of which the last one goes to a kid
+unfoldable pub saved_place : Format (List ℕ)
+saved_place = checked (made (listed 2 (λ n. nat_lt 0 n && nat_lt n 24) (plain step)) reverse reverse) is_saved_place
+
+-- whether a place stands behind the last one, if there is one
+abbrev pub is_later : Option (List ℕ) → List ℕ → Bool
+is_later None p = true
+is_later (Some last) p = is_lt (place_cmp last p)
+
+-- a saved value, whose place stands behind the last one: else it is a fault, as soon as the place was read
+unfoldable pub saved_value : Option (List ℕ) → Format SavedValue
+saved_value last = made (followed (checked saved_place (is_later last)) (λ _. signed)) (λ x. record { place = x.0; value = x.1 }) (λ s. (s.place, s.value))
+
+-- 1 to 64 saved values by the order of their places
+unfoldable pub saved_values : Format (List SavedValue)
+saved_values = listed 1 (λ n. nat_lt 0 n && nat_le n 64) (items place_of saved_value None)
+
+-- no saved values: no bytes
+unfoldable pub no_values : Format (List SavedValue)
+no_values = nothing [] is_empty

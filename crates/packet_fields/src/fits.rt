@@ -4,12 +4,14 @@ ghost use Rattle.std.specs.Prelude.{◌≡◌, ◌<◌, ◌≤◌, IsTrue, lengt
 ghost use Rattle.std.specs.List.{list_all};
 ghost use Rattle.packet_fields.specs.Format.{checked, items, number};
 ghost use Rattle.packet_fields.specs.Fields as field;
+ghost use Rattle.saved_values.specs.Saved.{place_of};
 
 use ids::limits::{MOST_MEMBERS, MOST_NUMBERS, MOST_SLOTS, MOST_STEPS, MOST_THREADS};
 use ids::{
     Actor, Count, Epoch, Frame, FrameNo, GrantId, Hop, Incarnation, Listed, Member, Numbers,
     Outcome, Place, Progress, Record, Return, Slots, Status, Task,
 };
+use saved_values::{MOST_SAVED, MOST_SAVED_STEPS, SavedPlace, SavedValue};
 
 /// An offer is cut into so many pieces at least.
 pub(crate) const LEAST_PIECES: u16 = 2;
@@ -395,4 +397,72 @@ pub fn records(progress: &Progress, next: &FrameNo, value: &Listed<Record>) -> b
     ensures { result ≡ (field.records progress.now next.now).fits value.now }
 {
     count(progress, value.len()) && each_record(next, value.as_slice())
+}
+
+/// The place of a saved value: always.
+#[tactic(auto, using(crate::proofs::Saved::saved_place_fits))]
+fn saved_place(value: &SavedPlace) -> bool
+    ensures fits { result ≡ field.saved_place.fits value.now }
+    ensures always { IsTrue result }
+{
+    value.steps().len() <= MOST_SAVED_STEPS
+}
+
+/// A saved value: behind the last one.
+#[tactic(auto, unfolding(crate::specs::Fields::saved_value))]
+fn behind(last: Option<SavedPlace>, value: &SavedValue) -> bool
+    ensures { result ≡ (field.saved_value last).fits value.now }
+{
+    let is_later = match last {
+        None => true,
+        Some(last) => last.compare(&value.place).is_lt(),
+    };
+    is_later && saved_place(&value.place) && signed(value.value)
+}
+
+/// A saved value alone: always.
+#[tactic(auto, unfolding(crate::specs::Fields::saved_value))]
+pub fn saved_value(value: &SavedValue) -> bool
+    ensures fits { result ≡ (field.saved_value None).fits value.now }
+    ensures always { IsTrue result }
+{
+    saved_place(&value.place) && signed(value.value)
+}
+
+/// Saved values by the order of their places.
+fn each_saved(values: &[SavedValue]) -> bool
+    ensures { result ≡ (items place_of field.saved_value None (length values.now)).fits values.now }
+{
+    let mut last = None;
+    for value in values {
+        if !behind(last, value) {
+            return false;
+        }
+        last = Some(value.place);
+    }
+    true
+}
+
+/// Saved values: 1 to 64, by the order of their places.
+#[tactic(auto, using(crate::proofs::Saved::saved_fits))]
+pub fn saved_values(value: &Listed<SavedValue>) -> bool
+    ensures { result ≡ field.saved_values.fits value.now }
+{
+    !value.is_empty() && value.len() <= MOST_SAVED && each_saved(value.as_slice())
+}
+
+/// No saved values.
+#[tactic(auto, unfolding(crate::specs::Fields::no_values))]
+pub fn no_values(value: &Listed<SavedValue>) -> bool
+    ensures { result ≡ field.no_values.fits value.now }
+{
+    value.is_empty()
+}
+
+/// A value: always.
+pub fn value(value: &i64) -> bool
+    ensures fits { result ≡ field.signed.fits value.now }
+    ensures always { IsTrue result }
+{
+    signed(*value)
 }

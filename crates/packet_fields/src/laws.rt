@@ -1,4 +1,4 @@
-ghost use Rattle.std.specs.Prelude.{ℕ, Bool, Option};
+ghost use Rattle.std.specs.Prelude.{ℕ, Bool, List, Option};
 ghost use Rattle.ids.specs.Names.{Grant};
 ghost use Rattle.packet_fields.specs.Format.{OneSpelling, number};
 ghost use Rattle.packet_fields.specs.Fields as field;
@@ -43,4 +43,8 @@ pub fn one_spelling()
     ensures frames { (progress : Progress) → (next : ℕ) → OneSpelling (field.frames progress next) }
     ensures stolen { (next : ℕ) → (last : Option Grant) → OneSpelling (field.stolen next last) }
     ensures records { (progress : Progress) → (next : ℕ) → OneSpelling (field.records progress next) }
+    ensures saved_place { OneSpelling field.saved_place }
+    ensures saved_value { (last : Option (List ℕ)) → OneSpelling (field.saved_value last) }
+    ensures saved_values { OneSpelling field.saved_values }
+    ensures no_values { OneSpelling field.no_values }
 {}

@@ -2,10 +2,11 @@
 //! bytes end inside the field, E35 where it is outside its range or out of order, E9 where there is no memory. After a
 //! refusal it is open how much was read. Only readers of lists take memory, each for what the bytes back, and for a list
 //! once.
-ghost use Rattle.std.specs.Prelude.{◌≡◌, ◌<◌, [], IfOk, Some, None};
+ghost use Rattle.std.specs.Prelude.{◌≡◌, ◌<◌, ◌&&◌, [], IfOk, Some, None, nat_le, nat_lt};
 ghost use Rattle.packet_fields.specs.Format.{Gives, Reads, checked, items, number, plain};
 ghost use Rattle.packet_fields.specs.Format as format;
 ghost use Rattle.packet_fields.specs.Fields as field;
+ghost use Rattle.saved_values.specs.Saved.{place_of};
 
 use crate::fault::{Fault, ReadError};
 use crate::fits::{LEAST_PIECES, MOST_PIECES, allows_part};
@@ -15,6 +16,7 @@ use ids::{
     Actor, Count, Epoch, Frame, FrameNo, GrantId, Hop, Incarnation, Listed, Member, Numbers,
     Outcome, Place, Progress, Record, Return, Slots, Status, Task, are_steps,
 };
+use saved_values::{MOST_SAVED, MOST_SAVED_STEPS, SavedPlace, SavedValue};
 use std::alloc::AllocError;
 
 /// A member has at least so many bytes: 8 of its incarnation and 1 of its status.
@@ -25,6 +27,9 @@ const LEAST_FRAME: usize = 9;
 
 /// A record has at least so many bytes: 28 of its grant, holder and frame, 4 of its task and 1 of its return.
 const LEAST_RECORD: usize = 33;
+
+/// A saved value has at least so many bytes: 2 of its place's count, 1 of a step and 8 of its value.
+const LEAST_SAVED: usize = 11;
 
 /// No items, with room for so many of at least so many bytes each. Where the bytes that are left can't hold them all, a
 /// fault comes before the last one, so there is room for none.
@@ -554,4 +559,91 @@ pub fn records(
 {
     let count = count(progress, input)?;
     records_of(next, count, input)
+}
+
+/// The place of a saved value: 1 to 23 steps, of which the last one goes to a kid.
+#[tactic(auto, unfolding(crate::specs::Fields::saved_place))]
+fn saved_place(input: &mut Input<'_>) -> Result<SavedPlace, Fault>
+    ensures { Reads (λ x. (x, input.new)) result (field.saved_place.read input.old) }
+{
+    let count = input.u16()?;
+    if count == 0 || usize::from(count) > MOST_SAVED_STEPS {
+        return Err(Fault::Field);
+    }
+    let steps = steps(count, input)?;
+    SavedPlace::of_steps(steps).ok_or(Fault::Field)
+}
+
+/// The place of a saved value behind the last one.
+fn place_behind(last: Option<SavedPlace>, input: &mut Input<'_>) -> Result<SavedPlace, Fault>
+    ensures { Reads (λ x. (x, input.new)) result ((checked field.saved_place (field.is_later last)).read input.old) }
+{
+    let place = saved_place(input)?;
+    if let Some(last) = last {
+        if !last.compare(&place).is_lt() {
+            return Err(Fault::Field);
+        }
+    }
+    Ok(place)
+}
+
+#[tactic(auto, unfolding(crate::specs::Fields::saved_value))]
+pub(crate) fn saved_value(
+    last: Option<SavedPlace>,
+    input: &mut Input<'_>,
+) -> Result<SavedValue, Fault>
+    ensures { Reads (λ x. (x, input.new)) result ((field.saved_value last).read input.old) }
+{
+    let place = place_behind(last, input)?;
+    let value = input.signed()?;
+    Ok(SavedValue { place, value })
+}
+
+fn saved_of(count: u8, input: &mut Input<'_>) -> Result<Listed<SavedValue>, ReadError>
+    ensures { Gives (λ x. (x, input.new)) result ((items place_of field.saved_value None count).read input.old) }
+{
+    let mut values = with_room(usize::from(count), LEAST_SAVED, input)?;
+    let mut last = None;
+    for _ in 0..count {
+        let item = saved_value(last, input)?;
+        last = Some(item.place);
+        values.push(item)?;
+    }
+    Ok(values)
+}
+
+/// How many saved values there are: 1 to 64.
+pub(crate) fn saved_count(input: &mut Input<'_>) -> Result<u8, Fault>
+    ensures { Reads (λ x. (x, input.new)) result
+        ((checked (number 1) (λ n. nat_lt 0 n && nat_le n 64)).read input.old) }
+{
+    let count = input.byte()?;
+    if count == 0 || usize::from(count) > MOST_SAVED {
+        return Err(Fault::Field);
+    }
+    Ok(count)
+}
+
+/// Saved values, 1 to 64, by the order of their places.
+#[tactic(auto, unfolding(crate::specs::Fields::saved_values))]
+pub fn saved_values(input: &mut Input<'_>) -> Result<Listed<SavedValue>, ReadError>
+    ensures { Gives (λ x. (x, input.new)) result (field.saved_values.read input.old) }
+{
+    let count = saved_count(input)?;
+    saved_of(count, input)
+}
+
+/// No saved values, for which there are no bytes.
+#[tactic(auto, unfolding(crate::specs::Fields::no_values))]
+pub fn no_values(input: &mut Input<'_>) -> Result<Listed<SavedValue>, ReadError>
+    ensures { Gives (λ x. (x, input.new)) result (field.no_values.read input.old) }
+{
+    Ok(Listed::new(input.alloc()))
+}
+
+/// A value: a signed number.
+pub fn value(input: &mut Input<'_>) -> Result<i64, Fault>
+    ensures { Reads (λ x. (x, input.new)) result (field.signed.read input.old) }
+{
+    input.signed()
 }

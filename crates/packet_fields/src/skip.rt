@@ -3,15 +3,17 @@
 ghost use Rattle.std.specs.Prelude.{None};
 ghost use Rattle.packet_fields.specs.Format.{Reads, end_of, items, keeping, plain};
 ghost use Rattle.packet_fields.specs.Fields as field;
+ghost use Rattle.saved_values.specs.Saved.{place_of};
 
 use crate::fault::Fault;
 use crate::input::Input;
 use crate::read::{
-    count, grant_behind, number_behind, part_count, slot, status, steps, worker_behind,
+    count, grant_behind, number_behind, part_count, saved_count, saved_value, slot, status, steps,
+    worker_behind,
 };
 pub use crate::read::{
     actor, below, counted, epoch, goes_to, grant, hop, next_frame, other_worker, outcome, piece_of,
-    pieces, progress, raised, thread, worker,
+    pieces, progress, raised, thread, value, worker,
 };
 use ids::limits::{MOST_MEMBERS, MOST_NUMBERS, MOST_SLOTS, MOST_STEPS};
 use ids::{FrameNo, GrantId, Incarnation, Progress};
@@ -196,4 +198,32 @@ pub fn records(progress: &Progress, next: &FrameNo, input: &mut Input<'_>) -> Re
 {
     let count = count(progress, input)?;
     records_of(next, count, input)
+}
+
+fn saved_of(count: u8, input: &mut Input<'_>) -> Result<(), Fault>
+    ensures { Reads (λ _. input.new) result (end_of ((items place_of field.saved_value None count).read input.old)) }
+{
+    let mut last = None;
+    for _ in 0..count {
+        let item = saved_value(last, input)?;
+        last = Some(item.place);
+    }
+    Ok(())
+}
+
+/// Saved values, 1 to 64, by the order of their places.
+#[tactic(auto, unfolding(crate::specs::Fields::saved_values))]
+pub fn saved_values(input: &mut Input<'_>) -> Result<(), Fault>
+    ensures { Reads (λ _. input.new) result (end_of (field.saved_values.read input.old)) }
+{
+    let count = saved_count(input)?;
+    saved_of(count, input)
+}
+
+/// No saved values, for which there are no bytes.
+#[tactic(auto, unfolding(crate::specs::Fields::no_values))]
+pub fn no_values(input: &mut Input<'_>) -> Result<(), Fault>
+    ensures { Reads (λ _. input.new) result (end_of (field.no_values.read input.old)) }
+{
+    Ok(())
 }

@@ -1,6 +1,6 @@
 //! The writers of fields. Each adds the bytes of a value behind those already there. Being out of memory is the only refusal, and
 //! then it is open how much was added.
-ghost use Rattle.std.specs.Prelude.{◌≡◌, ◌++◌, ℕ, OnOk, Option, None};
+ghost use Rattle.std.specs.Prelude.{◌≡◌, ◌++◌, ℕ, List, OnOk, Option, None};
 ghost use Rattle.std.specs.List.{flat_map};
 ghost use Rattle.ids.specs.Names.{Grant};
 ghost use Rattle.ids.specs.declared.outcome.Progress.{Progress};
@@ -12,6 +12,7 @@ use ids::{
     Actor, Count, Epoch, Frame, FrameNo, GrantId, Hop, Incarnation, Listed, Member, Numbers,
     Outcome, Place, Progress, Record, Return, Slots, Status, Task,
 };
+use saved_values::{SavedPlace, SavedValue};
 use std::alloc::AllocError;
 
 /// A number of one byte.
@@ -432,4 +433,60 @@ pub fn records(out: &mut Vec<u8>, value: &Listed<Record>) -> Result<(), AllocErr
     low_four(out, value.len())?;
     each_record(out, value.as_slice())?;
     Ok(())
+}
+
+/// The place of a saved value: the count of its steps, and the steps from the root on.
+#[tactic(auto, using(crate::proofs::Saved::saved_place_write, std::proofs::Common::append_assoc))]
+fn saved_place(out: &mut Vec<u8>, value: &SavedPlace) -> Result<(), AllocError>
+    ensures { OnOk result (out.new.items ≡ out.old.items ++ field.saved_place.write value.now) }
+{
+    let steps = value.steps();
+    low_two(out, steps.len())?;
+    out.extend_from_slice(steps)?;
+    Ok(())
+}
+
+/// A saved value: its place and the value.
+#[tactic(auto, unfolding(crate::specs::Fields::saved_value))]
+fn saved_value(out: &mut Vec<u8>, saved: &SavedValue) -> Result<(), AllocError>
+    ensures { OnOk result ((last : Option (List ℕ))
+        → out.new.items ≡ out.old.items ++ (field.saved_value last).write saved.now) }
+{
+    saved_place(out, &saved.place)?;
+    signed(out, saved.value)?;
+    Ok(())
+}
+
+/// Saved values, one after the other.
+fn each_saved(out: &mut Vec<u8>, values: &[SavedValue]) -> Result<(), AllocError>
+    ensures { OnOk result (out.new.items ≡ out.old.items ++ flat_map (field.saved_value None).write values.now) }
+{
+    for value in values {
+        saved_value(out, value)?;
+    }
+    Ok(())
+}
+
+/// Saved values behind their count.
+#[tactic(auto, using(crate::proofs::Saved::saved_write, std::proofs::Common::append_assoc))]
+pub fn saved_values(out: &mut Vec<u8>, value: &Listed<SavedValue>) -> Result<(), AllocError>
+    ensures { OnOk result (out.new.items ≡ out.old.items ++ field.saved_values.write value.now) }
+{
+    low_byte(out, value.len())?;
+    each_saved(out, value.as_slice())?;
+    Ok(())
+}
+
+/// No saved values, for which there are no bytes.
+pub fn no_values(out: &mut Vec<u8>, value: &Listed<SavedValue>) -> Result<(), AllocError>
+    ensures { OnOk result (out.new.items ≡ out.old.items ++ field.no_values.write value.now) }
+{
+    Ok(())
+}
+
+/// A value: a signed number.
+pub fn value(out: &mut Vec<u8>, value: &i64) -> Result<(), AllocError>
+    ensures { OnOk result (out.new.items ≡ out.old.items ++ field.signed.write value.now) }
+{
+    signed(out, *value)
 }

@@ -3,7 +3,8 @@
 //!
 //! A packet in words is its kind, its fields in their order, `to=` and `job=`, as in `Steal from=5 seq=1 to=house:1 job=7`. A place
 //! is its steps joined by dots, `-` for the root, where `STEP*TIMES` is so many of a step; a frame or a member whose number is
-//! `FROM..TO` is one for each number. HEX is pairs of digits, and may have blanks between them. The bytes of a Piece are HEX without
+//! `FROM..TO` is one for each number. The saved values of a SavedGrant, which is a Grant with one or more, are `PLACE:VALUE`, parted by
+//! commas. HEX is pairs of digits, and may have blanks between them. The bytes of a Piece are HEX without
 //! blanks, or `HEX*TIMES`, as which several bytes that are all the same are answered. Some bytes are kept:
 //!
 //! - `encode PACKET` answers the bytes of a packet, or their count where they are more than 400, and keeps them; `no packet`, where
@@ -30,6 +31,7 @@ mod words;
 pub use mail::{Mail, Wanted, kind_name, packet_number, wanted_in};
 pub use packets::Packets;
 pub use words::{
-    actor, frame_number, grant, let_go, numbers, place, read_frames, read_packet, steps,
-    write_frame, write_grant, write_numbers, write_outcome, write_packet, write_place,
+    actor, frame_number, grant, let_go, numbers, place, read_frames, read_packet, saved_values,
+    steps, write_frame, write_grant, write_numbers, write_outcome, write_packet, write_place,
+    write_saved, write_steps,
 };

@@ -33,6 +33,7 @@ pub fn kind_name(body: &Body) -> &'static str {
         Body::Join(_) => "Join",
         Body::Roster(_) => "Roster",
         Body::Steal(_) => "Steal",
+        Body::Grant(grant) if !grant.saved.is_empty() => "SavedGrant",
         Body::Grant(_) => "Grant",
         Body::Refuse(_) => "Refuse",
         Body::Result(_) => "Result",
@@ -43,6 +44,7 @@ pub fn kind_name(body: &Body) -> &'static str {
         Body::Abort(_) => "Abort",
         Body::Beat(_) => "Beat",
         Body::Piece(_) => "Piece",
+        Body::Save(_) => "Save",
     }
 }
 

@@ -19,6 +19,8 @@ pub(crate) enum Kind {
     Abort,
     Beat,
     Piece,
+    Save,
+    SavedGrant,
 }
 
 /// What packets are about. Those of one family have arrows of one look.
@@ -26,7 +28,7 @@ pub(crate) enum Kind {
 pub(crate) enum Family {
     /// A task goes to another node.
     Work,
-    /// An outcome goes back.
+    /// An outcome goes back, or a value to be saved.
     Outcome,
     /// Work is asked for.
     Asking,
@@ -43,6 +45,9 @@ impl Kind {
             Body::Join(_) => (Kind::Join, None),
             Body::Roster(_) => (Kind::Roster, None),
             Body::Steal(_) => (Kind::Steal, None),
+            Body::Grant(grant) if !grant.saved.is_empty() => {
+                (Kind::SavedGrant, Some(grant.grant))
+            }
             Body::Grant(grant) => (Kind::Grant, Some(grant.grant)),
             Body::Refuse(_) => (Kind::Refuse, None),
             Body::Result(outcome) => (Kind::Result, Some(outcome.grant)),
@@ -53,6 +58,7 @@ impl Kind {
             Body::Abort(abort) => (Kind::Abort, Some(abort.grant)),
             Body::Beat(_) => (Kind::Beat, None),
             Body::Piece(piece) => (Kind::Piece, Some(piece.grant)),
+            Body::Save(_) => (Kind::Save, None),
         }
     }
 
@@ -72,14 +78,16 @@ impl Kind {
             Kind::Abort => "Abort",
             Kind::Beat => "Beat",
             Kind::Piece => "Piece",
+            Kind::Save => "Save",
+            Kind::SavedGrant => "SavedGrant",
         }
     }
 
     /// What it is about.
     pub(crate) fn family(self) -> Family {
         match self {
-            Kind::Grant | Kind::Offer | Kind::Piece => Family::Work,
-            Kind::Result => Family::Outcome,
+            Kind::Grant | Kind::SavedGrant | Kind::Offer | Kind::Piece => Family::Work,
+            Kind::Result | Kind::Save => Family::Outcome,
             Kind::Steal | Kind::Refuse => Family::Asking,
             Kind::ResultAck | Kind::OfferAck | Kind::Abort => Family::Answer,
             Kind::Join | Kind::Roster | Kind::Leave | Kind::Beat => Family::Members,
@@ -93,7 +101,7 @@ impl Kind {
 
     /// Whether it takes a task or an outcome to another one.
     pub(crate) fn carries_work(self) -> bool {
-        matches!(self.family(), Family::Work | Family::Outcome)
+        !matches!(self, Kind::Save) && matches!(self.family(), Family::Work | Family::Outcome)
     }
 }
 

@@ -26,13 +26,13 @@ const ROWS: &str = "<rect class=\"live\" x=\"14\" y=\"-6\" width=\"30\" height=\
 <path class=\"line work\" d=\"M14 48h30\" marker-end=\"url(#work)\"/>
 <text x=\"49\" y=\"52\">Grant, Offer, Piece</text>
 <path class=\"line outcome\" d=\"M189.4 48h30\" marker-end=\"url(#outcome)\"/>
-<text x=\"224.4\" y=\"52\">Result</text>
-<path class=\"line asking\" d=\"M282.6 48h30\" marker-end=\"url(#asking)\"/>
-<text x=\"317.6\" y=\"52\">Steal, Refuse</text>
-<path class=\"line answer\" d=\"M422.7 48h30\" marker-end=\"url(#answer)\"/>
-<text x=\"457.7\" y=\"52\">ResultAck, OfferAck, Abort</text>
-<path class=\"line members\" d=\"M649.9 48h30\" marker-end=\"url(#members)\"/>
-<text x=\"684.9\" y=\"52\">Join, Roster, Beat, Leave</text>
+<text x=\"224.4\" y=\"52\">Result, Save</text>
+<path class=\"line asking\" d=\"M322.6 48h30\" marker-end=\"url(#asking)\"/>
+<text x=\"357.6\" y=\"52\">Steal, Refuse</text>
+<path class=\"line answer\" d=\"M462.7 48h30\" marker-end=\"url(#answer)\"/>
+<text x=\"497.7\" y=\"52\">ResultAck, OfferAck, Abort</text>
+<path class=\"line members\" d=\"M689.9 48h30\" marker-end=\"url(#members)\"/>
+<text x=\"724.9\" y=\"52\">Join, Roster, Beat, Leave</text>
 <path class=\"line any again\" d=\"M14 72h30\" marker-end=\"url(#any)\"/>
 <text x=\"49\" y=\"76\">comes again</text>
 <path class=\"line any\" d=\"M160 72h30\" marker-end=\"url(#any-ignored)\"/>

@@ -21,27 +21,27 @@ use Rattle.whole_offers.proofs.Cutting.{arrives, goes}
 use Rattle.safe_runs.specs.Right.{WorldIsRight}
 use Rattle.safe_runs.specs.Shown.{Tied}
 use Rattle.safe_runs.specs.Sound.{cut_world}
-use Rattle.safe_runs.proofs.SentAgrees.{held_agrees, packet_agrees}
+use Rattle.safe_runs.proofs.SentAgrees.{held_agrees, known_agrees, packet_agrees, stored_agrees}
 
 module _ (job : JobOf) (v : WorldOf) (tied : Tied job v) (right : WorldIsRight job v) (kept : (a : ℕ) (n : NodeOf) → node_in a v.nodes ≡ Some n → NodeKept job.number v.net n) where
   -- Grants go as they are
   granted_whole : (g : Grant) (t : Task) → WasGranted job (cut_all v.net) g t → WasGranted job v.net g t
   granted_whole g t was =
-      let p : PacketOf = record { job = job.number; to = was.to; body = body.Grant (record { seq = was.seq; grant = g; task = t }) } in
+      let p : PacketOf = record { job = job.number; to = was.to; body = body.Grant (record { seq = was.seq; grant = g; task = t; saved = was.saved }) } in
       ⊎_elim
-      (λ whole. (let at = placed v.net p whole in record { at = at.at; to = was.to; seq = was.seq; sent = at.is }))
+      (λ whole. (let at = placed v.net p whole in record { at = at.at; to = was.to; seq = was.seq; saved = was.saved; sent = at.is }))
       (λ (k : IsPieceOf v.net p). absurd (let two : p.body ≡ body.Piece (piece_at k.offer (packet.write k.whole) k.index) = ap (λ (q : PacketOf). q.body) k.is in cc))
       (arrives v.net p (got (cut_all v.net) was.at p was.sent))
 
   granted_cut : (g : Grant) (t : Task) → WasGranted job v.net g t → WasGranted job (cut_all v.net) g t
   granted_cut g t was =
-      let p : PacketOf = record { job = job.number; to = was.to; body = body.Grant (record { seq = was.seq; grant = g; task = t }) } in
+      let p : PacketOf = record { job = job.number; to = was.to; body = body.Grant (record { seq = was.seq; grant = g; task = t; saved = was.saved }) } in
       by_what p was (goes v.net p (got v.net was.at p was.sent)) refl
     where
-      by_what : (p : PacketOf) → (was : WasGranted job v.net g t) → (x : Went (cut_all v.net) p) → p ≡ record { job = job.number; to = was.to; body = body.Grant (record { seq = was.seq; grant = g; task = t }) } → WasGranted job (cut_all v.net) g t
+      by_what : (p : PacketOf) → (was : WasGranted job v.net g t) → (x : Went (cut_all v.net) p) → p ≡ record { job = job.number; to = was.to; body = body.Grant (record { seq = was.seq; grant = g; task = t; saved = was.saved }) } → WasGranted job (cut_all v.net) g t
       by_what p was x is = ⊎_elim
-          (λ same. (let at = placed (cut_all v.net) x.sent x.there in record { at = at.at; to = was.to; seq = was.seq; sent = at.is ∙ ap Some (same ∙ is) }))
-          (λ (k : (o : Offer) × (p.body ≡ body.Offer o) × (x.sent.body ≡ body.Piece (piece_at o (packet.write p) 0))). absurd (let two : body.Grant (record { seq = was.seq; grant = g; task = t }) ≡ body.Offer k.0 = sym (ap (λ (q : PacketOf). q.body) is) ∙ k.1 in cc))
+          (λ same. (let at = placed (cut_all v.net) x.sent x.there in record { at = at.at; to = was.to; seq = was.seq; saved = was.saved; sent = at.is ∙ ap Some (same ∙ is) }))
+          (λ (k : (o : Offer) × (p.body ≡ body.Offer o) × (x.sent.body ≡ body.Piece (piece_at o (packet.write p) 0))). absurd (let two : body.Grant (record { seq = was.seq; grant = g; task = t; saved = was.saved }) ≡ body.Offer k.0 = sym (ap (λ (q : PacketOf). q.body) is) ∙ k.1 in cc))
           x.what
 
   body_cut : (x : Body) → BodyAgrees job v.net x → BodyAgrees job (cut_all v.net) x
@@ -58,6 +58,7 @@ module _ (job : JobOf) (v : WorldOf) (tied : Tied job v) (right : WorldIsRight j
   body_cut (body.Leave b) a = tt
   body_cut (body.Abort b) a = tt
   body_cut (body.Beat b) a = tt
+  body_cut (body.Save b) a = a
 
   -- a Piece is one of an Offer that agrees
   piece_of_right : (p : PacketOf) → IsPieceOf v.net p → BodyAgrees job (cut_all v.net) p.body
@@ -74,6 +75,8 @@ module _ (job : JobOf) (v : WorldOf) (tied : Tied job v) (right : WorldIsRight j
         (λ piece. piece_of_right p piece)
         (arrives v.net p (got (cut_all v.net) i p e));
     held = λ a g at. (let here : Holder v a g = record { node = at.node; sub = at.sub; up = at.up; live = at.live } in held_agrees job v tied right a g here);
+    known = λ a g at. (let here : Holder v a g = record { node = at.node; sub = at.sub; up = at.up; live = at.live } in known_agrees job v tied right a g here);
+    stored = stored_agrees job v tied;
     parts = λ a i j n x y up of there. (
         let came : came_in job.number n.incarnation x y ∈ cut_all v.net = ((kept a n up).parts x (got n.assemblies i x of)).each y (got x.parts j y there) in
         let at = placed (cut_all v.net) (came_in job.number n.incarnation x y) came in

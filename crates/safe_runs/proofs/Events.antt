@@ -2,7 +2,7 @@
 use Rattle.std.proofs.Common.{◌≡◌, ℕ, ℤ, Bool, true, false, cond, not, ◌&&◌, List, [], Option, None, Some, is_some, refl, sym, ap, ◌∙◌, arith}
 use Rattle.ids.specs.Names.{is_worker}
 use Rattle.ids.specs.declared.outcome.Outcome.{Outcome}
-use Rattle.serial_meaning.specs.Job.{JobOf, meaning_of as job_meaning}
+use Rattle.serial_meaning.specs.Job.{IsJob, JobOf, meaning_of as job_meaning}
 use Rattle.serial_meaning.specs.Places.{outcome_of}
 use Rattle.content_moves.specs.Shown.{outcome_number}
 use Rattle.node_state.specs.Node.{NodeOf}
@@ -27,6 +27,7 @@ use Rattle.event_script.specs.declared.event.Cut.{Cut as CutOf}
 use Rattle.safe_runs.proofs.Disks.{settled_keeps}
 use Rattle.safe_runs.proofs.HouseEvents.{house_ends, house_halts}
 use Rattle.safe_runs.proofs.Stopping.{is_down, is_stopped, shut_tied}
+use Rattle.safe_runs.specs.Right.{WorldIsRight}
 use Rattle.safe_runs.specs.Shown.{Tied, TiedSince}
 use Rattle.safe_runs.proofs.Starting.{start_tied}
 
@@ -56,13 +57,13 @@ module _ (job : JobOf) (base : View) (w : WorldOf) (tied : TiedSince job base w)
   falls_tied (IsUp state) is = shut_tied job base w tied Down (record w.disk { file = settled_file w.disk.file [] }) is_down (λ n r k. settled_keeps w.disk.file [] n r k)
 
   -- a call of the disk fails, and the clearinghouse is stopped
-  pub stopped_tied : (e : HouseEvent) (k : ℕ) (bytes : List ℕ) (o : StepResult) → ThenStopped (HouseHalts job e w.house k bytes w) o → TiedSince job base o.world
-  stopped_tied e k bytes o (before, halts, is) = rw is (shut_tied job base before.world (house_halts job base w tied e w.house refl k bytes before halts) (IsUp (Stopped by.Device)) before.world.disk (is_stopped by.Device) (λ n r kept. kept))
+  pub stopped_tied : IsJob job → WorldIsRight job w → (e : HouseEvent) (k : ℕ) (bytes : List ℕ) (o : StepResult) → ThenStopped (HouseHalts job e w.house k bytes w) o → TiedSince job base o.world
+  stopped_tied ok right e k bytes o (before, halts, is) = rw is (shut_tied job base before.world (house_halts job ok base w tied right e w.house refl k bytes before halts) (IsUp (Stopped by.Device)) before.world.disk (is_stopped by.Device) (λ n r kept. kept))
 
   -- an event ends, and then what isn't synced settles
-  pub ended_tied : (c : CutOf) (o : StepResult) → ThenCut c.bytes (HouseEnds job c.event w.house w) o → TiedSince job base o.world
-  ended_tied c o (before, done, is) =
-      rw is (shut_tied job base before.world (house_ends job base w tied c.event w.house refl before done) (IsUp (Stopped by.Device)) (settled_by c.bytes before.world.disk) (is_stopped by.Device) (λ m r kept. settled_keeps before.world.disk.file c.bytes m r kept))
+  pub ended_tied : IsJob job → WorldIsRight job w → (c : CutOf) (o : StepResult) → ThenCut c.bytes (HouseEnds job c.event w.house w) o → TiedSince job base o.world
+  ended_tied ok right c o (before, done, is) =
+      rw is (shut_tied job base before.world (house_ends job ok base w tied right c.event w.house refl before done) (IsUp (Stopped by.Device)) (settled_by c.bytes before.world.disk) (is_stopped by.Device) (λ m r kept. settled_keeps before.world.disk.file c.bytes m r kept))
 
 -- what an outcome of a job's meaning is in the tables
 means_at_root : (job : JobOf) (o : Outcome) → o ≡ job_meaning job → outcome_number o ≡ (tables_meaning job).value []
@@ -85,7 +86,7 @@ first_tied job d can = record {
     up = λ i works not_house. absurd works;
     words = λ i m of. absurd m;
     house = record { none = refl; nobody = λ i e. cc };
-    disk = record { sequence = can.sequence; found = can.found; keeps = can.kept; own = can.own; stored = refl; epoch = omega arith; held = tt };
+    disk = record { sequence = can.sequence; found = can.found; keeps = can.kept; own = can.own; stored = refl; epoch = omega arith; saved = can.saved; held = tt };
     net = λ p m. absurd m;
     sent = λ t m. absurd m;
     fills = refl;

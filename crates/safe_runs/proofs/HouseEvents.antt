@@ -3,7 +3,11 @@ use Rattle.std.proofs.Common.{◌≡◌, ◌<◌, ℕ, List, [], ◌++◌, lengt
 use Rattle.codec.specs.Table.{PacketOf}
 use Rattle.disk.specs.Device.{Device}
 use Rattle.checkpoint.specs.Commit.{opening}
-use Rattle.serial_meaning.specs.Job.{JobOf}
+use Rattle.codec.specs.declared.body.Body.{Body}
+use Rattle.codec.specs.declared.body.Body.TheVariants as body
+use Rattle.serial_meaning.specs.Job.{IsJob, JobOf}
+use Rattle.actor_agreement.proofs.House.{packet_right, passes_right}
+use Rattle.actor_agreement.specs.Values.{BodyIsRight, HouseAnswerIsRight, HouseIsRight, SaveIsRight}
 use Rattle.clearinghouse.specs.Calls.{passes}
 use Rattle.clearinghouse.specs.Cases.{on_packet}
 use Rattle.clearinghouse.specs.House.{HouseOf, Open, Stopped}
@@ -23,13 +27,31 @@ use Rattle.world_steps.specs.Answers.{StepResult, house_same}
 use Rattle.world_steps.specs.Houses.{Ends, Halts, IsAttempt, RestartHalts, Restarts, calls_of, halted, made}
 use Rattle.world_steps.specs.Steps.{HouseEnds, HouseHalts}
 use Rattle.world_steps.specs.World.{Down, HouseAt, IsUp, WorldOf}
+use Rattle.safe_runs.specs.Right.{WorldIsRight}
 use Rattle.safe_runs.specs.Shown.{Closed, DiskShown, HouseShown, TiedSince}
 use Rattle.safe_runs.proofs.Disks.{read_fails, read_keeps}
 use Rattle.safe_runs.proofs.Housing.{own, stepped_tied}
 use Rattle.safe_runs.proofs.Opening.{half_opened, half_read, opened_tied}
 use Rattle.safe_runs.proofs.Stopping.{IsShut, is_down, is_stopped, halted_tied, net_as, same_record, shut_tied, shuts}
 
-module _ (job : JobOf) (base : View) (w : WorldOf) (tied : TiedSince job base w) where
+-- a value that comes to be saved agrees
+pub may_save : (job : JobOf) (b : Body) → BodyIsRight job b → SaveIsRight job b
+may_save job (body.Save b) r = r
+may_save job (body.Join b) r = tt
+may_save job (body.Roster b) r = tt
+may_save job (body.Steal b) r = tt
+may_save job (body.Grant b) r = tt
+may_save job (body.Refuse b) r = tt
+may_save job (body.Result b) r = tt
+may_save job (body.ResultAck b) r = tt
+may_save job (body.Offer b) r = tt
+may_save job (body.OfferAck b) r = tt
+may_save job (body.Leave b) r = tt
+may_save job (body.Abort b) r = tt
+may_save job (body.Beat b) r = tt
+may_save job (body.Piece b) r = tt
+
+module _ (job : JobOf) (ok : IsJob job) (base : View) (w : WorldOf) (tied : TiedSince job base w) (right : WorldIsRight job w) where
   abbrev v : View
   v = tied.view
 
@@ -45,15 +67,22 @@ module _ (job : JobOf) (base : View) (w : WorldOf) (tied : TiedSince job base w)
   packet_promises p h (house.Does s) e = packet_keeps job p h s e
 
   module _ (h : HouseOf) (is : w.house ≡ IsUp (Open h)) where
-    ends_tied : (a : house.HouseAnswer) → HouseAnswerShown job v h a → Promises h a → (o : StepResult) → Ends job h a w o → TiedSince job base o.world
-    ends_tied house.Ignored step keeps o e = rw e tied
-    ends_tied (house.Refused f) step keeps o e = rw e tied
-    ends_tied (house.Does s) step keeps o e = rw (e.2) (stepped_tied job base v w tied.run tied.since tied.shown h is s step keeps.holds keeps.commits e.0 e.1)
+    -- what it holds agrees, and what a packet or a moment leaves
+    own_right : HouseIsRight job h
+    own_right = let r = right.house in rw is at r
 
-    halts_tied : (a : house.HouseAnswer) → HouseAnswerShown job v h a → Promises h a → (k : ℕ) (bytes : List ℕ) (o : StepResult) → Halts job h a k bytes w o → TiedSince job base o.world
-    halts_tied house.Ignored step keeps k bytes o e = absurd e
-    halts_tied (house.Refused f) step keeps k bytes o e = absurd e
-    halts_tied (house.Does s) step keeps k bytes o e = rw (e.3) (halted_tied job base v w tied.run tied.since tied.shown h is s step keeps.holds keeps.commits e.0 k bytes by.Device e.1 e.2)
+    packet_agrees : (p : PacketOf) → p ∈ w.net → HouseAnswerIsRight job (on_packet job p h)
+    packet_agrees p m = packet_right job h own_right ok p (may_save job p.body (right.net p m))
+
+    ends_tied : (a : house.HouseAnswer) → HouseAnswerShown job v h a → Promises h a → HouseAnswerIsRight job a → (o : StepResult) → Ends job h a w o → TiedSince job base o.world
+    ends_tied house.Ignored step keeps agrees o e = rw e tied
+    ends_tied (house.Refused f) step keeps agrees o e = rw e tied
+    ends_tied (house.Does s) step keeps agrees o e = rw (e.2) (stepped_tied job base v w tied.run tied.since tied.shown h is s step keeps.holds keeps.commits agrees.after.1 e.0 e.1)
+
+    halts_tied : (a : house.HouseAnswer) → HouseAnswerShown job v h a → Promises h a → HouseAnswerIsRight job a → (k : ℕ) (bytes : List ℕ) (o : StepResult) → Halts job h a k bytes w o → TiedSince job base o.world
+    halts_tied house.Ignored step keeps agrees k bytes o e = absurd e
+    halts_tied (house.Refused f) step keeps agrees k bytes o e = absurd e
+    halts_tied (house.Does s) step keeps agrees k bytes o e = rw (e.3) (halted_tied job base v w tied.run tied.since tied.shown h is s step keeps.holds keeps.commits own_right.1 agrees.after.1 e.0 k bytes by.Device e.1 e.2)
 
     packet_here : (p : PacketOf) → p ∈ w.net → HouseAnswerShown job v h (on_packet job p h)
     packet_here p m = let x = own job base v w tied.run tied.since tied.shown h is in packet_shown job v tied.run h x.shown x.sound.listing.rising p (tied.shown.net p m)
@@ -66,8 +95,8 @@ module _ (job : JobOf) (base : View) (w : WorldOf) (tied : TiedSince job base w)
       where
         by_packet : (q : Option PacketOf) → slice_get w.net i ≡ q → TiedSince job base o.world
         by_packet None e = let same : o ≡ house_same None w = rw e at ends in rw same tied
-        by_packet (Some p) e = let done : Ends job h (on_packet job p h) w o = rw e at ends in ends_tied (on_packet job p h) (packet_here p (got w.net i p e)) (packet_promises p h (on_packet job p h) refl) o done
-    open_ends (Tick now) o ends = ends_tied (house.Does (passes job now h)) (moment_here now) (moment_keeps job now h) o ends
+        by_packet (Some p) e = let done : Ends job h (on_packet job p h) w o = rw e at ends in ends_tied (on_packet job p h) (packet_here p (got w.net i p e)) (packet_promises p h (on_packet job p h) refl) (packet_agrees p (got w.net i p e)) o done
+    open_ends (Tick now) o ends = ends_tied (house.Does (passes job now h)) (moment_here now) (moment_keeps job now h) (passes_right job h own_right now) o ends
     open_ends Restart o ends = rw ends tied
 
     open_halts : (e : HouseEvent) (k : ℕ) (bytes : List ℕ) (o : StepResult) → HouseHalts job e (IsUp (Open h)) k bytes w o → TiedSince job base o.world
@@ -75,8 +104,8 @@ module _ (job : JobOf) (base : View) (w : WorldOf) (tied : TiedSince job base w)
       where
         by_packet : (q : Option PacketOf) → slice_get w.net i ≡ q → TiedSince job base o.world
         by_packet None e = let never : ⊥ = rw e at halts in absurd never
-        by_packet (Some p) e = let done : Halts job h (on_packet job p h) k bytes w o = rw e at halts in halts_tied (on_packet job p h) (packet_here p (got w.net i p e)) (packet_promises p h (on_packet job p h) refl) k bytes o done
-    open_halts (Tick now) k bytes o halts = halts_tied (house.Does (passes job now h)) (moment_here now) (moment_keeps job now h) k bytes o halts
+        by_packet (Some p) e = let done : Halts job h (on_packet job p h) k bytes w o = rw e at halts in halts_tied (on_packet job p h) (packet_here p (got w.net i p e)) (packet_promises p h (on_packet job p h) refl) (packet_agrees p (got w.net i p e)) k bytes o done
+    open_halts (Tick now) k bytes o halts = halts_tied (house.Does (passes job now h)) (moment_here now) (moment_keeps job now h) (passes_right job h own_right now) k bytes o halts
     open_halts Restart k bytes o halts = absurd halts
 
   -- it isn't open

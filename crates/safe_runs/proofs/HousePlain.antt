@@ -1,5 +1,5 @@
 -- The clearinghouse sends no Offers.
-use Rattle.std.proofs.Common.{◌≡◌, ◌+◌, ◌^◌, ℕ, Bool, true, false, cond, not, nat_eq, nat_lt, [], ◌∷◌, length, map, Option, None, Some, refl, Ordering, Less, Equal, Greater}
+use Rattle.std.proofs.Common.{◌≡◌, ◌+◌, ◌^◌, ◌||◌, ℕ, Bool, true, false, cond, is_some, not, nat_eq, nat_lt, [], ◌∷◌, length, map, Option, None, Some, refl, Ordering, Less, Equal, Greater}
 use Rattle.std.specs.List.{list_any}
 use Rattle.std.specs.Ordering.{nat_cmp}
 use Rattle.ids.specs.Members.{is_live, resolve, status_in}
@@ -12,6 +12,7 @@ use Rattle.codec.specs.declared.body.Body.{Body}
 use Rattle.codec.specs.declared.body.Body.TheVariants as body
 use Rattle.codec.specs.declared.body.Leave.{Leave}
 use Rattle.codec.specs.declared.body.Piece.{Piece}
+use Rattle.codec.specs.declared.body.Save.{Save}
 use Rattle.codec.specs.declared.body.Steal.{Steal}
 use Rattle.codec.specs.declared.body.TaskResult.{TaskResult}
 use Rattle.serial_meaning.specs.Job.{JobOf}
@@ -85,6 +86,11 @@ module _ (job : JobOf) where
       let new : HouseOf = moves.says b.from (moves.leaving_status b.from b.heir (members_of h)) h in
       by_listed (status_in b.from (members_of h)) _ _ _ (both (moves.roster_for job b.from new ∷ []) (moves.settles job new).sent (one _ refl) (settles_plain new)) (one _ refl) tt
 
+  saved_plain : (b : Save) (h : HouseOf) → AnswerIsPlain (cases.saved b h)
+  saved_plain b h =
+      by_test (not (is_live b.from (members_of h)) || (is_some h.outcome || not (cases.may_save (record { place = b.place; value = b.value }) h))) _ _ tt
+      (by_test (nat_lt (h.sequence + 1) (2 ^ 64)) _ _ none tt)
+
   beat_plain : (b : Beat) (h : HouseOf) → AnswerIsPlain (cases.answered_beat job b h)
   beat_plain b h = by_test (nat_lt b.version h.version) _ _ (one _ refl) none
 
@@ -109,6 +115,7 @@ module _ (job : JobOf) where
   body_plain to (body.OfferAck b) h holds = tt
   body_plain to (body.Abort b) h holds = tt
   body_plain to (body.Piece b) h holds = tt
+  body_plain to (body.Save b) h holds = by_test (nat_eq to (name_of h)) _ _ (saved_plain b h) tt
 
   pub packet_plain : (p : PacketOf) (h : HouseOf) → IsHouse h → AnswerIsPlain (on_packet job p h)
   unfolding on_packet

@@ -7,6 +7,7 @@ use Rattle.checkpoint.specs.Calls.{DeviceCall, after}
 use Rattle.checkpoint.specs.Store.{KeepsRecord}
 use Rattle.checkpoint.specs.declared.record.CheckpointRecord.{CheckpointRecord}
 use Rattle.serial_meaning.specs.Job.{JobOf}
+use Rattle.agreement.specs.Agreement.{AllSavedAgree}
 use Rattle.node_state.specs.Node.{NodeOf}
 use Rattle.clearinghouse.specs.House.{HouseOf, Kept, Open, Stopped, kept_of, name_of}
 use Rattle.clearinghouse.specs.Laws.{Commits, IsHouse}
@@ -34,8 +35,8 @@ pub kept_as : {f : List Cell} {n m : ℕ} {r t : CheckpointRecord} → n ≡ m �
 kept_as {f = f} {n = n} {t = t} e q k = subst (λ x. KeepsRecord f x t) e (subst (λ y. KeepsRecord f n y) q k)
 
 -- an open clearinghouse's disk keeps what it has committed
-pub open_disk : (job : JobOf) (v : View) (h : HouseOf) (d : Device) → OpenShown v h → KeepsRecord d.file h.sequence (record_of job (kept_of h)) → DiskShown job v d (IsUp (Open h))
-open_disk job v h d s keeps = record { sequence = h.sequence; found = record_of job (kept_of h); keeps = keeps; own = refl; stored = s.stored; epoch = rw s.epoch (omega arith); held = (refl, refl) }
+pub open_disk : (job : JobOf) (v : View) (h : HouseOf) (d : Device) → OpenShown v h → KeepsRecord d.file h.sequence (record_of job (kept_of h)) → AllSavedAgree job h.saved → DiskShown job v d (IsUp (Open h))
+open_disk job v h d s keeps saved = record { sequence = h.sequence; found = record_of job (kept_of h); keeps = keeps; own = refl; stored = s.stored; epoch = rw s.epoch (omega arith); saved = saved; held = (refl, refl) }
 
 module _ (job : JobOf) (base v : View) (w : WorldOf) (run : Run (tables_meaning job) v) (since : Leads base v) (shown : Shown job v w) (h : HouseOf) (is : w.house ≡ IsUp (Open h)) where
   pub own : OpenHouse v h
@@ -58,8 +59,8 @@ module _ (job : JobOf) (base v : View) (w : WorldOf) (run : Run (tables_meaning 
       cc
 
   -- a step of it, over whatever disk keeps what it has committed then, of which these packets went
-  pub house_stepped : (s : house.HouseStepOf) (disk : Device) (sent : List PacketOf) → (step : HouseStepShown job v h s) → IsHouse s.after → KeepsRecord disk.file s.after.sequence (record_of job (kept_of s.after)) → AllShown step.view sent → ((t : Transfer) → t ∈ step.view.transfers → (t ∈ v.transfers) ⊎ IsSent job.number sent t) → Shown job step.view (record w { house = IsUp (Open s.after); disk = disk; net = w.net ++ sent })
-  house_stepped s disk sent step sound keeps told transfers =
+  pub house_stepped : (s : house.HouseStepOf) (disk : Device) (sent : List PacketOf) → (step : HouseStepShown job v h s) → IsHouse s.after → KeepsRecord disk.file s.after.sequence (record_of job (kept_of s.after)) → AllSavedAgree job s.after.saved → AllShown step.view sent → ((t : Transfer) → t ∈ step.view.transfers → (t ∈ v.transfers) ⊎ IsSent job.number sent t) → Shown job step.view (record w { house = IsUp (Open s.after); disk = disk; net = w.net ++ sent })
+  house_stepped s disk sent step sound keeps saved told transfers =
       let x = step.view in
       record {
         nodes = λ a n at. node_beside v x n (step.others n.incarnation (no_worker a n at)) step.keeps (shown.nodes a n at);
@@ -75,14 +76,14 @@ module _ (job : JobOf) (base v : View) (w : WorldOf) (run : Run (tables_meaning 
             (same_or i (name_of h));
         words = λ i m of. shown.words i (rw step.used at m) of;
         house = record { shown = step.after; sound = sound };
-        disk = open_disk job x s.after disk step.after keeps;
+        disk = open_disk job x s.after disk step.after keeps saved;
         net = both_shown x w.net sent (all_shown step.keeps w.net shown.net) told;
         sent = λ t m. ⊎_elim (λ old. sent_early w.net sent t (shown.sent t old)) (λ new. sent_late w.net sent t new) (transfers t m);
         fills = step.fills ∙ shown.fills;
       }
 
   -- all calls of a step passed
-  module _ (s : house.HouseStepOf) (step : HouseStepShown job v h s) (holds : IsHouse h → IsHouse s.after) (commits : Commits s.commits h s.after) (calls : List DeviceCall) (makes : MakesCalls job h s.commits w.disk calls) where
+  module _ (s : house.HouseStepOf) (step : HouseStepShown job v h s) (holds : IsHouse h → IsHouse s.after) (commits : Commits s.commits h s.after) (saved : AllSavedAgree job s.after.saved) (calls : List DeviceCall) (makes : MakesCalls job h s.commits w.disk calls) where
     after_kept : KeepsRecord (made w.disk calls).file s.after.sequence (record_of job (kept_of s.after))
     unfolding after
     after_kept = by_commit s.commits commits makes
@@ -98,4 +99,4 @@ module _ (job : JobOf) (base v : View) (w : WorldOf) (run : Run (tables_meaning 
         by_commit (Some k) e commit = same k (h.sequence + 1) (made w.disk calls).file e.0 e.2 (committed w.disk h.sequence (record_of job (kept_of h)) (record_of job k) calls own_kept commit)
 
     pub stepped_tied : TiedSince job base (record w { house = IsUp (Open s.after); disk = made w.disk calls; net = w.net ++ s.sent })
-    stepped_tied = record { view = step.view; run = step.run run; since = step.since base since; shown = house_stepped s (made w.disk calls) s.sent step (holds own.sound) after_kept step.sent step.transfers }
+    stepped_tied = record { view = step.view; run = step.run run; since = step.since base since; shown = house_stepped s (made w.disk calls) s.sent step (holds own.sound) after_kept saved step.sent step.transfers }

@@ -1,10 +1,11 @@
 -- The clearinghouse opens over its disk: in the epoch after the last one that was committed, with nobody listed.
-use Rattle.std.proofs.Common.{◌≡◌, ◌+◌, ◌<◌, ◌≤◌, ℕ, Bool, true, false, cond, List, [], ◌∷◌, ◌++◌, length, inl, inr, ⊎_elim, None, refl, sym, ap, ◌∙◌, arith}
+use Rattle.std.proofs.Common.{◌≡◌, ◌+◌, ◌<◌, ◌≤◌, ℕ, Bool, true, false, cond, List, [], ◌∷◌, ◌++◌, length, inl, inr, ⊎_elim, None, refl, subst, sym, ap, ◌∙◌, arith}
 use Rattle.disk.specs.Device.{Device}
 use Rattle.checkpoint.specs.Store.{KeepsRecord}
 use Rattle.checkpoint.specs.declared.record.CheckpointRecord.{CheckpointRecord}
 use Rattle.checkpoint.proofs.Opened.{one_kept}
 use Rattle.serial_meaning.specs.Job.{JobOf}
+use Rattle.agreement.specs.Agreement.{AllSavedAgree}
 use Rattle.node_state.specs.Node.{NodeOf}
 use Rattle.clearinghouse.specs.Calls.{begins}
 use Rattle.clearinghouse.specs.House.{HouseOf, Kept, Open, name_of}
@@ -89,9 +90,12 @@ module _ (job : JobOf) (v : View) (w : WorldOf) (shown : Shown job v w) (way : O
   pub read_epoch : v.epoch ≤ way.found.epoch
   read_epoch = let old = shown.disk.epoch in rw agrees.1 old
 
+  pub read_saved : AllSavedAgree job way.found.saved
+  read_saved = subst (λ (r : CheckpointRecord). AllSavedAgree job r.saved) (sym agrees.1) shown.disk.saved
+
   -- a disk that keeps it, of whatever sequence
   still_shown : (d : Device) (m : ℕ) → KeepsRecord d.file m way.found → DiskShown job v d Down
-  still_shown d m keeps = record { sequence = m; found = way.found; keeps = keeps; own = way.own; stored = read_stored; epoch = read_epoch; held = tt }
+  still_shown d m keeps = record { sequence = m; found = way.found; keeps = keeps; own = way.own; stored = read_stored; epoch = read_epoch; saved = read_saved; held = tt }
 
   -- one of the calls by which the store is opened failed
   pub half_read : (k : ℕ) (bytes : List ℕ) → k < length way.opens → DiskShown job v (halted w.disk way.opens k bytes) Down
@@ -110,7 +114,7 @@ module _ (job : JobOf) (base v : View) (w : WorldOf) (run : Run (tables_meaning 
   pub half_opened : (k : ℕ) (bytes : List ℕ) → k < length (calls_of opens) → DiskShown job v (halted w.disk (calls_of opens) k bytes) Down
   half_opened k bytes within = ⊎_elim
       (λ old. still_shown job v w shown way (halted w.disk (calls_of opens) k bytes) old.0 old.1)
-      (λ new. record { sequence = way.counts + 1; found = record_of job next; keeps = new; own = refl; stored = read_stored job v w shown way; epoch = let e = read_epoch job v w shown way in omega (arith, e); held = tt })
+      (λ new. record { sequence = way.counts + 1; found = record_of job next; keeps = new; own = refl; stored = read_stored job v w shown way; epoch = let e = read_epoch job v w shown way in omega (arith, e); saved = read_saved job v w shown way; held = tt })
       (opening_cut_off w.disk way.sequence way.found (read_kept job v w shown way) way.counts way.opens way.opening (record_of job next) opens.calls opens.commit k bytes within)
 
   -- all passed
@@ -198,7 +202,7 @@ module _ (job : JobOf) (base v : View) (w : WorldOf) (run : Run (tables_meaning 
               (λ old. shown.words j old of)
               m;
           house = record { shown = own; sound = opened_house silence next };
-          disk = open_disk job x new (made w.disk (calls_of opens)) own (opening_committed w.disk way.sequence way.found (read_kept job v w shown way) way.counts way.opens way.opening (record_of job next) opens.calls opens.commit);
+          disk = open_disk job x new (made w.disk (calls_of opens)) own (opening_committed w.disk way.sequence way.found (read_kept job v w shown way) way.counts way.opens way.opening (record_of job next) opens.calls opens.commit) (read_saved job v w shown way);
           net = both_shown x w.net [] (all_shown keeps w.net shown.net) (none_shown x);
           sent = λ t m. sent_early w.net [] t (shown.sent t m);
           fills = shown.fills;

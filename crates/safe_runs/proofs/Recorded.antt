@@ -40,6 +40,7 @@ goes_on job w tied unarmed = record {
   kept = tied.shown.disk.keeps;
   own = tied.shown.disk.own;
   meant = kept_is_meant job w tied;
+  saved = tied.shown.disk.saved;
 }
 
 pub recorded_is_meant : (job : JobOf) (w : WorldOf) → Tied job w → (o : Outcome) → recorded w ≡ Some o → o ≡ meaning_of job

@@ -1,5 +1,5 @@
 -- What was sent and what is held agrees, as a reader of packets says it.
-use Rattle.std.proofs.Common.{◌≡◌, ℕ, suc, Some, slice_get, refl, ap, ◌∙◌, arith}
+use Rattle.std.proofs.Common.{◌≡◌, ℕ, suc, Some, slice_get, refl, ap, subst, sym, ◌∙◌, arith}
 use Rattle.ids.specs.Names.{Grant}
 use Rattle.ids.specs.declared.work.Task.{Task}
 use Rattle.codec.specs.Table.{PacketOf}
@@ -9,8 +9,9 @@ use Rattle.codec.specs.declared.body.Grant.{Grant as GrantBody}
 use Rattle.codec.specs.declared.body.TaskResult.{TaskResult}
 use Rattle.serial_meaning.specs.Job.{JobOf}
 use Rattle.serial_meaning.specs.Places.{outcome_at}
-use Rattle.agreement.specs.Agreement.{IsReceived}
-use Rattle.agreement.specs.Agreement.{ContentAgrees}
+use Rattle.agreement.specs.Agreement.{AllSavedAgree, ContentAgrees, IsReceived}
+use Rattle.checkpoint.proofs.Reading.{one_store}
+use Rattle.checkpoint.specs.declared.record.CheckpointRecord.{CheckpointRecord}
 use Rattle.node_core.specs.declared.parts.Fill.{Fill}
 use Rattle.run_tables.specs.Tables.{◌∈◌}
 use Rattle.run_tables.specs.Content as tables
@@ -25,7 +26,7 @@ use Rattle.node_moves.specs.Shows.{BodyShown, GrantShown, OfferShown}
 use Rattle.node_moves.specs.Steps.{Carries, IsSent}
 use Rattle.house_moves.specs.Steps.{tables_meaning}
 use Rattle.actor_agreement.specs.Values.{BodyIsRight}
-use Rattle.world_steps.specs.Agrees.{BodyAgrees, WasGranted}
+use Rattle.world_steps.specs.Agrees.{BodyAgrees, StoredAgree, WasGranted}
 use Rattle.world_steps.specs.Safe.{filling_of}
 use Rattle.world_steps.specs.World.{Holder, WorldOf}
 use Rattle.safe_runs.specs.Shown.{Tied}
@@ -46,7 +47,7 @@ module _ (job : JobOf) (w : WorldOf) (tied : Tied job w) where
 
   transfer_of : (g : Grant) (t : Task) → WasGranted job w.net g t → IsTransferOf g t
   transfer_of g t was =
-      let s : GrantShown v.transfers was.to (record { seq = was.seq; grant = g; task = t }) = tied.shown.net (record { job = job.number; to = was.to; body = body.Grant (record { seq = was.seq; grant = g; task = t }) }) (got w.net was.at _ was.sent) in
+      let s : GrantShown v.transfers was.to (record { seq = was.seq; grant = g; task = t; saved = was.saved }) = tied.shown.net (record { job = job.number; to = was.to; body = body.Grant (record { seq = was.seq; grant = g; task = t; saved = was.saved }) }) (got w.net was.at _ was.sent) in
       record { transfer = s.transfer; sent = s.sent; grant = s.grant; task = s.content.task }
 
   -- so a Result tells the outcome of each task that was granted under its name
@@ -56,16 +57,16 @@ module _ (job : JobOf) (w : WorldOf) (tied : Tied job w) where
       told_outcome job v tied.run b.outcome t.place (told_value job v tied.run b.grant to (outcome_number b.outcome) u.transfer told u.sent u.grant ∙ ap (λ (x : tables.Task). (tables_meaning job).value x.place) u.task)
 
   -- and there is one
-  made : (p : PacketOf) (b : GrantBody) (g : Grant) → p.job ≡ job.number → p.body ≡ body.Grant b → b.grant ≡ g → p ≡ record { job = job.number; to = p.to; body = body.Grant (record { seq = b.seq; grant = g; task = b.task }) }
+  made : (p : PacketOf) (b : GrantBody) (g : Grant) → p.job ≡ job.number → p.body ≡ body.Grant b → b.grant ≡ g → p ≡ record { job = job.number; to = p.to; body = body.Grant (record { seq = b.seq; grant = g; task = b.task; saved = b.saved }) }
   made p b g own is of =
       ap (λ (j : ℕ). let x : PacketOf = record { job = j; to = p.to; body = p.body } in x) own
       ∙ ap (λ (k : Body). let x : PacketOf = record { job = job.number; to = p.to; body = k } in x) is
-      ∙ ap (λ (k : Grant). let x : PacketOf = record { job = job.number; to = p.to; body = body.Grant (record { seq = b.seq; grant = k; task = b.task }) } in x) of
+      ∙ ap (λ (k : Grant). let x : PacketOf = record { job = job.number; to = p.to; body = body.Grant (record { seq = b.seq; grant = k; task = b.task; saved = b.saved }) } in x) of
 
   granted_by : (g : Grant) (u : Transfer) → u.grant ≡ g → u.hop ≡ 0 → (s : IsSent job.number w.net u) → (x : Body) → s.packet.body ≡ x → Carries u x → BodyShown v s.packet.to x → (t : Task) × WasGranted job w.net g t
   granted_by g u of first s (body.Grant b) is (same, seq, hop, task) shown =
       let p = placed w.net s.packet s.there in
-      (b.task, record { at = p.at; to = s.packet.to; seq = b.seq; sent = p.is ∙ ap Some (made s.packet b g s.job_is is (same ∙ of)) })
+      (b.task, record { at = p.at; to = s.packet.to; seq = b.seq; saved = b.saved; sent = p.is ∙ ap Some (made s.packet b g s.job_is is (same ∙ of)) })
   granted_by g u of first s (body.Offer b) is (same, hop) shown =
       let o : OfferShown v.transfers s.packet.to b = shown in
       let a : o.transfer.hop ≡ suc o.before = o.later in
@@ -82,6 +83,7 @@ module _ (job : JobOf) (w : WorldOf) (tied : Tied job w) where
   granted_by g u of first s (body.Abort b) is carries shown = absurd carries
   granted_by g u of first s (body.Beat b) is carries shown = absurd carries
   granted_by g u of first s (body.Piece b) is carries shown = absurd carries
+  granted_by g u of first s (body.Save b) is carries shown = absurd carries
 
   some_granted : (b : TaskResult) (to : ℕ) → result_to b.grant to (outcome_number b.outcome) ∈ v.results → (t : Task) × WasGranted job w.net b.grant t
   some_granted b to told =
@@ -106,15 +108,27 @@ module _ (job : JobOf) (w : WorldOf) (tied : Tied job w) where
   body_agrees (body.Abort b) to right shown = tt
   body_agrees (body.Beat b) to right shown = tt
   body_agrees (body.Piece b) to right shown = absurd shown
+  body_agrees (body.Save b) to right shown = right
 
   module _ (right : WorldIsRight job w) where
     pub held_agrees : (a : ℕ) (g : Grant) → (at : Holder w a g) → ContentAgrees job at.sub.content
     held_agrees a g at =
         let m : MemberHolds at.node g at.sub = member_holds at.node g at.sub at.live in
-        ((right.nodes a at.node at.up).subs at.sub (found_among _ at.sub at.node.subs m.held)).agrees
+        ((right.nodes a at.node at.up).subs at.sub (found_among _ at.sub at.node.subs m.held)).content.agrees
+
+    pub known_agrees : (a : ℕ) (g : Grant) → (at : Holder w a g) → AllSavedAgree job at.sub.saved
+    known_agrees a g at =
+        let m : MemberHolds at.node g at.sub = member_holds at.node g at.sub at.live in
+        ((right.nodes a at.node at.up).subs at.sub (found_among _ at.sub at.node.subs m.held)).saved
 
     pub packet_agrees : (p : PacketOf) → p ∈ w.net → BodyAgrees job w.net p.body
     packet_agrees p m = body_agrees p.body p.to (right.net p m) (tied.shown.net p m)
+
+-- and what is saved on the disk, whatever a crash leaves of it
+pub stored_agrees : (job : JobOf) (w : WorldOf) → Tied job w → StoredAgree job w.disk
+stored_agrees job w tied content left n r reads =
+    let disk = tied.shown.disk in
+    subst (λ (x : CheckpointRecord). AllSavedAgree job x.saved) (sym (one_store content reads.0 disk.keeps.slot n disk.sequence r disk.found reads.1 (disk.keeps.each content left)).2) disk.saved
 
 pub received : (job : JobOf) (w : WorldOf) → WorldIsRight job w → (i : ℕ) (f : Fill) → slice_get w.fills i ≡ Some f → IsReceived job (filling_of f)
 received job w right i f e = right.fills f (got w.fills i f e)

@@ -62,7 +62,7 @@ module _ (v x : View) (i : ℕ) (worker : of_worker i ≡ true) (same : SameHous
 
 -- so does its disk
 pub disk_beside : (job : JobOf) (v x : View) (d : Device) (house : HouseAt) → SameHouse v x → DiskShown job v d house → DiskShown job x d house
-disk_beside job v x d house same s = record { sequence = s.sequence; found = s.found; keeps = s.keeps; own = s.own; stored = same.stored ∙ s.stored; epoch = rw same.epoch s.epoch; held = s.held }
+disk_beside job v x d house same s = record { sequence = s.sequence; found = s.found; keeps = s.keeps; own = s.own; stored = same.stored ∙ s.stored; epoch = rw same.epoch s.epoch; saved = s.saved; held = s.held }
 
 -- a node's mode is no house's
 pub not_house : (v : View) (n : NodeOf) → NodeShown v n → v.mode n.incarnation ≡ House → ⊥

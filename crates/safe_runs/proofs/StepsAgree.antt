@@ -22,9 +22,11 @@ use Rattle.event_script.specs.declared.event.HouseEvent.{HouseEvent}
 use Rattle.event_script.specs.declared.event.HouseEvent.TheVariants as at_house
 use Rattle.run_tables.specs.Tables.{◌∈◌}
 use Rattle.run_tables.specs.View.{Works}
+use Rattle.run_tables.proofs.Among.{got}
 use Rattle.run_tables.proofs.Lists.{either}
 use Rattle.node_moves.specs.Shows.{mode_of, BodyShown}
-use Rattle.actor_agreement.specs.Values.{AllRight, AnswerIsRight, BodyIsRight, HouseAnswerIsRight, BodyMayCome, NodeIsRight, RepliesAreRight, StepIsRight}
+use Rattle.actor_agreement.specs.Values as actor
+use Rattle.actor_agreement.specs.Values.{AllRight, AnswerIsRight, BodyIsRight, HouseAnswerIsRight, BodyMayCome, NodeIsRight, StepIsRight}
 use Rattle.actor_agreement.proofs.House.{passes_right}
 use Rattle.actor_agreement.proofs.House.{packet_right as house_packet_right}
 use Rattle.actor_agreement.proofs.Sent.{both_sent, none_sent}
@@ -35,6 +37,8 @@ use Rattle.world_steps.specs.Nodes.{can_start, starts}
 use Rattle.world_steps.specs.Steps.{HouseEnds, HouseHalts, ThenCut, ThenStopped, house_crash, settled_by}
 use Rattle.world_steps.specs.World.{Down, HouseAt, IsUp, WorldOf, first_over, node_in, with_used, without_node}
 use Rattle.safe_runs.specs.Shown.{Tied}
+use Rattle.safe_runs.proofs.HouseEvents.{may_save}
+use Rattle.safe_runs.proofs.Opening.{read_saved}
 use Rattle.safe_runs.proofs.Places.{left_there, new_or_old}
 use Rattle.safe_runs.specs.Right.{HouseIsRight, WorldIsRight}
 use Rattle.safe_runs.proofs.Results.{fresh_there, outcome_there}
@@ -67,6 +71,7 @@ ended_ignores_body job choice n is (body.Leave b) = tt
 ended_ignores_body job choice n is (body.Abort b) = rw is tt
 ended_ignores_body job choice n is (body.Beat b) = tt
 ended_ignores_body job choice n is (body.Piece b) = rw is tt
+ended_ignores_body job choice n is (body.Save b) = tt
 
 ended_ignores : (job : JobOf) (choice : Option Candidate) (n : NodeOf) → n.state ≡ Ended → (p : PacketOf) → AnswerIsRight job (on_packet job choice p n)
 unfolding on_packet
@@ -77,9 +82,9 @@ ended_ignores job choice n is p = by_address (nat_eq p.job job.number && nat_eq 
     by_address false = tt
 
 module _ (job : JobOf) (w : WorldOf) (ok : IsJob job) (tied : Tied job w) (right : WorldIsRight job w) where
-  -- the last answers of the open clearinghouse
-  replies : (h : HouseOf) → w.house ≡ IsUp (Open h) → RepliesAreRight job h.replies
-  replies h is = let r = right.house in rw is at r
+  -- the last answers of the open clearinghouse, and what it has saved
+  own_house : (h : HouseOf) → w.house ≡ IsUp (Open h) → actor.HouseIsRight job h
+  own_house h is = let r = right.house in rw is at r
 
   -- it stops, and nothing is sent
   stops_right : (d : Device) → WorldIsRight job (record w { house = IsUp (Stopped by.Device); disk = d; net = w.net ++ [] })
@@ -126,6 +131,7 @@ module _ (job : JobOf) (w : WorldOf) (ok : IsJob job) (tied : Tied job w) (right
     may_come up (body.Abort b) to r s = tt
     may_come up (body.Beat b) to r s = tt
     may_come up (body.Piece b) to r s = absurd s
+    may_come up (body.Save b) to r s = r
 
     pub hears_right : (choice : Option Candidate) (p : PacketOf) → p ∈ w.net → AnswerIsRight job (on_packet job choice p n)
     hears_right choice p m = by_stage n.state refl
@@ -170,8 +176,8 @@ module _ (job : JobOf) (w : WorldOf) (ok : IsJob job) (tied : Tied job w) (right
     where
       by_packet : (q : Option PacketOf) → slice_get w.net i ≡ q → WorldIsRight job o.world
       by_packet None e = let same : o ≡ house_same None w = rw e at ends in rw same right
-      by_packet (Some p) e = let done : Ends job h (house_cases.on_packet job p h) w o = rw e at ends in ends_right h (house_cases.on_packet job p h) (house_packet_right job h (replies h is) ok p) o done
-  open_ends (at_house.Tick now) h is o ends = ends_right h (house.Does (passes job now h)) (passes_right job h (replies h is) now) o ends
+      by_packet (Some p) e = let done : Ends job h (house_cases.on_packet job p h) w o = rw e at ends in ends_right h (house_cases.on_packet job p h) (house_packet_right job h (own_house h is) ok p (may_save job p.body (right.net p (got w.net i p e)))) o done
+  open_ends (at_house.Tick now) h is o ends = ends_right h (house.Does (passes job now h)) (passes_right job h (own_house h is) now) o ends
   open_ends at_house.Restart h is o ends = rw ends right
 
   open_halts : (e : HouseEvent) (h : HouseOf) (k : ℕ) (bytes : List ℕ) (o : StepResult) → HouseHalts job e (IsUp (Open h)) k bytes w o → WorldIsRight job o.world
@@ -185,7 +191,7 @@ module _ (job : JobOf) (w : WorldOf) (ok : IsJob job) (tied : Tied job w) (right
 
   -- an opening begins with no answers
   restarts_right : (o : StepResult) → Restarts job w o → WorldIsRight job o.world
-  restarts_right o (inl (way, e)) = rw e (housed job w right (IsUp (Open (begins silence (begun_of way.way)).after)) _ [] (λ r m. absurd m) (none_sent job))
+  restarts_right o (inl (way, e)) = rw e (housed job w right (IsUp (Open (begins silence (begun_of way.way)).after)) _ [] ((λ r m. absurd m), read_saved job tied.view w tied.shown way.way) (none_sent job))
   restarts_right o (inr (f, refused, e)) = rw e (shut job w right w.house _ right.house)
 
   restart_halts_right : (k : ℕ) (bytes : List ℕ) (o : StepResult) → RestartHalts job k bytes w o → WorldIsRight job o.world

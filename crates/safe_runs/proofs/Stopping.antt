@@ -7,6 +7,7 @@ use Rattle.checkpoint.specs.Calls.{DeviceCall}
 use Rattle.checkpoint.specs.Store.{KeepsRecord}
 use Rattle.checkpoint.specs.declared.record.CheckpointRecord.{CheckpointRecord}
 use Rattle.serial_meaning.specs.Job.{JobOf}
+use Rattle.agreement.specs.Agreement.{AllSavedAgree}
 use Rattle.clearinghouse.specs.House.{HouseOf, Kept, Open, Stopped, kept_of, name_of}
 use Rattle.clearinghouse.specs.Laws.{Commits, IsHouse}
 use Rattle.clearinghouse.specs.Meeting.{record_of}
@@ -41,15 +42,15 @@ shut_shown x _ (is_stopped s) c = c
 
 shut_disk : (job : JobOf) (v : View) (d : Device) (house : HouseAt) → IsShut house → DiskShown job v d Down → DiskShown job v d house
 shut_disk job v d _ is_down k = k
-shut_disk job v d _ (is_stopped s) k = record { sequence = k.sequence; found = k.found; keeps = k.keeps; own = k.own; stored = k.stored; epoch = k.epoch; held = tt }
+shut_disk job v d _ (is_stopped s) k = record { sequence = k.sequence; found = k.found; keeps = k.keeps; own = k.own; stored = k.stored; epoch = k.epoch; saved = k.saved; held = tt }
 
 -- what is said of a disk without its clearinghouse
 pub loose : (job : JobOf) (v : View) (d : Device) (house : HouseAt) → DiskShown job v d house → DiskShown job v d Down
-loose job v d house k = record { sequence = k.sequence; found = k.found; keeps = k.keeps; own = k.own; stored = k.stored; epoch = k.epoch; held = tt }
+loose job v d house k = record { sequence = k.sequence; found = k.found; keeps = k.keeps; own = k.own; stored = k.stored; epoch = k.epoch; saved = k.saved; held = tt }
 
 -- so it is of another disk that keeps the same
 pub same_record : (job : JobOf) (v : View) (d e : Device) (house : HouseAt) → ((n : ℕ) (r : CheckpointRecord) → KeepsRecord d.file n r → KeepsRecord e.file n r) → DiskShown job v d house → DiskShown job v e Down
-same_record job v d e house keeps k = record { sequence = k.sequence; found = k.found; keeps = keeps k.sequence k.found k.keeps; own = k.own; stored = k.stored; epoch = k.epoch; held = tt }
+same_record job v d e house keeps k = record { sequence = k.sequence; found = k.found; keeps = keeps k.sequence k.found k.keeps; own = k.own; stored = k.stored; epoch = k.epoch; saved = k.saved; held = tt }
 
 -- nothing is sent
 pub net_as : (job : JobOf) (base : View) (w : WorldOf) (house : HouseAt) (d : Device) → TiedSince job base (record w { house = house; disk = d }) → TiedSince job base (record w { house = house; disk = d; net = w.net ++ [] })
@@ -94,7 +95,7 @@ module _ (job : JobOf) (base v : View) (w : WorldOf) (run : Run (tables_meaning 
               (same_or j (name_of h));
           words = shown.words;
           house = shut_shown x house shut over;
-          disk = shut_disk job x d house shut (record { sequence = disk.sequence; found = disk.found; keeps = disk.keeps; own = disk.own; stored = disk.stored; epoch = disk.epoch; held = tt });
+          disk = shut_disk job x d house shut (record { sequence = disk.sequence; found = disk.found; keeps = disk.keeps; own = disk.own; stored = disk.stored; epoch = disk.epoch; saved = disk.saved; held = tt });
           net = all_shown keeps w.net shown.net;
           sent = shown.sent;
           fills = shown.fills;
@@ -114,19 +115,19 @@ pub shut_tied : (job : JobOf) (base : View) (w : WorldOf) (tied : TiedSince job 
 shut_tied job base w tied house d shut keeps = shuts job base tied.view w tied.run tied.since tied.shown house d shut (same_record job tied.view w.disk d w.house keeps tied.shown.disk)
 
 -- a call of a step's commit fails: the disk has what was committed before, or the step's
-module _ (job : JobOf) (base v : View) (w : WorldOf) (run : Run (tables_meaning job) v) (since : Leads base v) (shown : Shown job v w) (h : HouseOf) (is : w.house ≡ IsUp (Open h)) (s : house.HouseStepOf) (step : HouseStepShown job v h s) (holds : IsHouse h → IsHouse s.after) (commits : Commits s.commits h s.after) where
+module _ (job : JobOf) (base v : View) (w : WorldOf) (run : Run (tables_meaning job) v) (since : Leads base v) (shown : Shown job v w) (h : HouseOf) (is : w.house ≡ IsUp (Open h)) (s : house.HouseStepOf) (step : HouseStepShown job v h s) (holds : IsHouse h → IsHouse s.after) (commits : Commits s.commits h s.after) (saved : AllSavedAgree job h.saved) (after_saved : AllSavedAgree job s.after.saved) where
   before : (d : Device) (why : _) → KeepsRecord d.file h.sequence (record_of job (kept_of h)) → TiedSince job base (record w { house = IsUp (Stopped why); disk = d; net = w.net ++ [] })
   before d why keeps =
       let o = own job base v w run since shown h is in
-      net_as job base w (IsUp (Stopped why)) d (shuts job base v w run since shown (IsUp (Stopped why)) d (is_stopped why) (record { sequence = h.sequence; found = record_of job (kept_of h); keeps = keeps; own = refl; stored = o.shown.stored; epoch = rw o.shown.epoch (omega arith); held = tt }))
+      net_as job base w (IsUp (Stopped why)) d (shuts job base v w run since shown (IsUp (Stopped why)) d (is_stopped why) (record { sequence = h.sequence; found = record_of job (kept_of h); keeps = keeps; own = refl; stored = o.shown.stored; epoch = rw o.shown.epoch (omega arith); saved = saved; held = tt }))
 
   behind : (d : Device) (why : _) (k : Kept) → s.commits ≡ Some k → KeepsRecord d.file s.after.sequence (record_of job (kept_of s.after)) → TiedSince job base (record w { house = IsUp (Stopped why); disk = d; net = w.net ++ [] })
   behind d why k e keeps =
       let o = own job base v w run since shown h is in
       let x = step.view in
       let open_world : WorldOf = record w { house = IsUp (Open s.after); disk = d; net = w.net ++ [] } in
-      let open_shown : Shown job x open_world = house_stepped job base v w run since shown h is s d [] step (holds o.sound) keeps (none_shown x) (λ t m. inl (step.keeps_transfers k e t m)) in
-      shuts job base x open_world (step.run run) (step.since base since) open_shown (IsUp (Stopped why)) d (is_stopped why) (record { sequence = s.after.sequence; found = record_of job (kept_of s.after); keeps = keeps; own = refl; stored = step.after.stored; epoch = rw step.after.epoch (omega arith); held = tt })
+      let open_shown : Shown job x open_world = house_stepped job base v w run since shown h is s d [] step (holds o.sound) keeps after_saved (none_shown x) (λ t m. inl (step.keeps_transfers k e t m)) in
+      shuts job base x open_world (step.run run) (step.since base since) open_shown (IsUp (Stopped why)) d (is_stopped why) (record { sequence = s.after.sequence; found = record_of job (kept_of s.after); keeps = keeps; own = refl; stored = step.after.stored; epoch = rw step.after.epoch (omega arith); saved = after_saved; held = tt })
 
   pub halted_tied : (calls : List DeviceCall) (k : ℕ) (bytes : List ℕ) (why : _) → MakesCalls job h s.commits w.disk calls → k < length calls → TiedSince job base (record w { house = IsUp (Stopped why); disk = halted w.disk calls k bytes; net = w.net ++ [] })
   halted_tied calls k bytes why makes within = by_commit s.commits refl commits makes

@@ -26,7 +26,10 @@ use Rattle.event_script.specs.declared.event.NodeEvent.{NodeEvent}
 use Rattle.event_script.specs.declared.event.NodeEvent.TheVariants.{Deliver, Exec, Whole, Ask, Resend, Depart}
 use Rattle.run_tables.specs.Tables.{◌∈◌}
 use Rattle.run_tables.specs.View.{View}
-use Rattle.run_tables.proofs.Among.{got, placed}
+use Rattle.run_tables.proofs.Among.{found_among, got, placed}
+use Rattle.agreement.specs.Agreement.{AllSavedAgree}
+use Rattle.ids.specs.Names.{Grant}
+use Rattle.subcomputation.specs.Subs.{SubOf, sub_in}
 use Rattle.node_moves.specs.Shows.{NodeShown}
 use Rattle.node_moves.specs.Steps.{AnswerShown}
 use Rattle.node_moves.proofs.Changing.{exec_ready_shown, whole_ready_shown}
@@ -96,6 +99,10 @@ module _ (job : JobOf) (ok : IsJob job) (base : View) (v : WorldOf) (single : On
     plain : IsPlainNode n
     plain = record { replies = own_kept.replies; idle = waits_not (tables_meaning job) tied.view n tied.run shown }
 
+    -- the saved values that it knows agree
+    knows : (g : Grant) (s : SubOf) → sub_in g n.subs ≡ Some s → AllSavedAgree job s.saved
+    knows g s at = ((is_right.nodes a n there).subs s (found_among _ s n.subs at)).saved
+
     -- what it answers goes as it is cut
     answered_sound : (ans : node.Answer) → AnswerShown (tables_meaning job) job.number tied.view n ans → AnswerIsRight job ans → AnswerKept job.number v.net ans → SoundSince job base (answered a (cut_answer ans) w).world
     answered_sound node.Ignored s r k = here
@@ -142,11 +149,11 @@ module _ (job : JobOf) (ok : IsJob job) (base : View) (v : WorldOf) (single : On
     at_node_sound : (choice : Option Candidate) (e : NodeEvent) → SoundSince job base (at_node job choice a e n w).world
     at_node_sound choice (Deliver i) = with_there (slice_get (cut_all v.net) i) (λ p. answered a (cases.on_packet job choice p n) w) (λ p e. hears choice p (got (cut_all v.net) i p e))
     at_node_sound choice (Exec f) = answered_as (call.exec_ready job (grant_of f) f.frame n) (call.exec_ready job (grant_of f) f.frame n) (exec_ready_uncut job n plain (grant_of f) f.frame)
-        (exec_ready_shown job tied.view n tied.run shown (grant_of f) f.frame)
+        (exec_ready_shown job tied.view n tied.run shown (grant_of f) f.frame (knows (grant_of f)))
         (exec_ready_right job n (is_right.nodes a n there) ok (grant_of f) f.frame)
         (exec_ready_kept (tables_meaning job) job tied.view v.net single n own_kept tied.run shown (grant_of f) f.frame)
     at_node_sound choice (Whole f most) = answered_as (call.whole_ready job most (grant_of f) f.frame n) (call.whole_ready job most (grant_of f) f.frame n) (whole_ready_uncut job n plain most (grant_of f) f.frame)
-        (whole_ready_shown job tied.view n tied.run shown most (grant_of f) f.frame)
+        (whole_ready_shown job tied.view n tied.run shown most (grant_of f) f.frame (knows (grant_of f)))
         (whole_ready_right job n (is_right.nodes a n there) ok most (grant_of f) f.frame)
         (whole_ready_kept (tables_meaning job) job tied.view v.net single n own_kept tied.run shown most (grant_of f) f.frame)
     at_node_sound choice (Ask x) = answered_as (call.ask job (victim_of x) n) (call.ask job (victim_of x) n) (ask_uncut job n plain (victim_of x))
@@ -351,12 +358,12 @@ module _ (job : JobOf) (ok : IsJob job) (base : View) (v : WorldOf) (single : On
   ends_sound : (e : HouseEvent) (o : StepResult) → HouseEnds job e v.house w o → SoundSince job base o.world
   ends_sound e o ends =
       let x = ends_too e v.house refl o ends in
-      follows_sound o x.result x.follows (house_ends job base v tied x.event v.house refl x.result x.done) (right.house_ends job v ok (tied_of tied) is_right x.event v.house refl x.result x.done)
+      follows_sound o x.result x.follows (house_ends job ok base v tied is_right x.event v.house refl x.result x.done) (right.house_ends job v ok (tied_of tied) is_right x.event v.house refl x.result x.done)
 
   halts_sound : (e : HouseEvent) (k : ℕ) (bytes : List ℕ) (o : StepResult) → HouseHalts job e v.house k bytes w o → SoundSince job base o.world
   halts_sound e k bytes o halts =
       let x = halts_too e v.house refl k bytes o halts in
-      follows_sound o x.result x.follows (house_halts job base v tied x.event v.house refl k bytes x.result x.done) (right.house_halts job v ok (tied_of tied) is_right x.event v.house k bytes x.result x.done)
+      follows_sound o x.result x.follows (house_halts job ok base v tied is_right x.event v.house refl k bytes x.result x.done) (right.house_halts job v ok (tied_of tied) is_right x.event v.house k bytes x.result x.done)
 
   -- it falls, or is cut off
   falls_sound : (x : HouseAt) → v.house ≡ x → SoundSince job base (house_crash x w).world
@@ -375,14 +382,14 @@ module _ (job : JobOf) (ok : IsJob job) (base : View) (v : WorldOf) (single : On
   stopped_sound : (e : HouseEvent) (k : ℕ) (bytes : List ℕ) (before o : StepResult) → HouseHalts job e v.house k bytes w before → o ≡ stopped before → SoundSince job base o.world
   stopped_sound e k bytes before o halts is =
       let x = halts_too e v.house refl k bytes before halts in
-      let there : SoundSince job base (stopped before).world = follows_sound (stopped before) (stopped x.result) (stopped_follows before x.result x.follows) (stopped_tied job base v tied x.event k bytes (stopped x.result) (x.result, x.done, refl)) (right.stopped_right job v ok (tied_of tied) is_right x.event k bytes (stopped x.result) (x.result, x.done, refl)) in
+      let there : SoundSince job base (stopped before).world = follows_sound (stopped before) (stopped x.result) (stopped_follows before x.result x.follows) (stopped_tied job base v tied ok is_right x.event k bytes (stopped x.result) (x.result, x.done, refl)) (right.stopped_right job v ok (tied_of tied) is_right x.event k bytes (stopped x.result) (x.result, x.done, refl)) in
       rw is there
 
   short_sound : (c : CutOf) (before o : StepResult) → HouseEnds job c.event v.house w before → o ≡ cut_short c.bytes before → SoundSince job base o.world
   short_sound c before o ends is =
       let x = ends_too c.event v.house refl before ends in
       let other : CutOf = record c { event = x.event } in
-      let there : SoundSince job base (cut_short c.bytes before).world = follows_sound (cut_short c.bytes before) (cut_short c.bytes x.result) (short_follows c.bytes before x.result x.follows) (ended_tied job base v tied other (cut_short c.bytes x.result) (x.result, x.done, refl)) (right.ended_right job v ok (tied_of tied) is_right other (cut_short c.bytes x.result) (x.result, x.done, refl)) in
+      let there : SoundSince job base (cut_short c.bytes before).world = follows_sound (cut_short c.bytes before) (cut_short c.bytes x.result) (short_follows c.bytes before x.result x.follows) (ended_tied job base v tied ok is_right other (cut_short c.bytes x.result) (x.result, x.done, refl)) (right.ended_right job v ok (tied_of tied) is_right other (cut_short c.bytes x.result) (x.result, x.done, refl)) in
       rw is there
 
   cut_sound : (c : CutOf) (o : StepResult) → IsCut job c w o → SoundSince job base o.world

@@ -6,13 +6,14 @@ use Rattle.clearinghouse.specs.House.{State, Open, Stopped}
 use Rattle.node_state.specs.Node.{NodeOf}
 use Rattle.node_core.specs.declared.parts.Fill.{Fill}
 use Rattle.run_tables.specs.Tables.{◌∈◌}
-use Rattle.actor_agreement.specs.Values.{AllRight, NodeIsRight, RepliesAreRight}
+use Rattle.actor_agreement.specs.Values as actor
+use Rattle.actor_agreement.specs.Values.{AllRight, NodeIsRight}
 use Rattle.world_steps.specs.Safe.{filling_of}
 use Rattle.world_steps.specs.World.{Down, HouseAt, IsUp, WorldOf, node_in}
 
--- the last answers of an open clearinghouse agree
+-- the last answers of an open clearinghouse agree, and the values that it has saved
 abbrev pub StateIsRight : JobOf → State → Type 0
-StateIsRight job (Open h) = RepliesAreRight job h.replies
+StateIsRight job (Open h) = actor.HouseIsRight job h
 StateIsRight job (Stopped s) = Unit {0}
 
 abbrev pub HouseIsRight : JobOf → HouseAt → Type 0

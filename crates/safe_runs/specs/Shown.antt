@@ -4,6 +4,7 @@ use Rattle.checkpoint.specs.Store.{KeepsRecord}
 use Rattle.checkpoint.specs.declared.record.CheckpointRecord.{CheckpointRecord}
 use Rattle.disk.specs.Device.{Device}
 use Rattle.serial_meaning.specs.Job.{JobOf}
+use Rattle.agreement.specs.Agreement.{AllSavedAgree}
 use Rattle.node_state.specs.Node.{NodeOf}
 use Rattle.clearinghouse.specs.House.{HouseOf, State, Open, Stopped, kept_of}
 use Rattle.clearinghouse.specs.Laws.{IsHouse}
@@ -52,8 +53,8 @@ abbrev pub IsHeldBy : JobOf → ℕ → CheckpointRecord → HouseAt → Type 0
 IsHeldBy job sequence r Down = Unit {0}
 IsHeldBy job sequence r (IsUp state) = IsCommitted job sequence r state
 
--- whatever a crash leaves of the disk is a checkpoint with one record of the job: its outcome is that of the tables, and its epoch is
--- theirs, or a later one that began and was never open
+-- whatever a crash leaves of the disk is a checkpoint with one record of the job: its outcome is that of the tables, its epoch is
+-- theirs, or a later one that began and was never open, and the values that are saved there agree
 pub record DiskShown (job : JobOf) (v : View) (d : Device) (house : HouseAt) : Type 0 where
   pub sequence : ℕ
   pub found : CheckpointRecord
@@ -61,6 +62,7 @@ pub record DiskShown (job : JobOf) (v : View) (d : Device) (house : HouseAt) : T
   pub own : found.job ≡ job.number
   pub stored : v.stored ≡ stored_of found.outcome
   pub epoch : v.epoch ≤ found.epoch
+  pub saved : AllSavedAgree job found.saved
   pub held : IsHeldBy job sequence found house
 
 pub record Shown (job : JobOf) (v : View) (w : WorldOf) : Type 0 where

@@ -24,7 +24,7 @@ and_true : (b : Bool) → (b && true) ≡ b
 and_true true = refl
 and_true false = refl
 
-all-reverse : (f : ℕ → Bool) (xs : List ℕ) → list_all f (reverse xs) ≡ list_all f xs
+pub all-reverse : (f : ℕ → Bool) (xs : List ℕ) → list_all f (reverse xs) ≡ list_all f xs
 all-reverse f xs = all_aux f xs [] ∙ and_true (list_all f xs)
 
 -- the last step comes first

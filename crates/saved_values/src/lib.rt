@@ -9,10 +9,12 @@
 //! nothing; `value_at` gives what is saved of a place, and `below` what is saved below one. A place and a table take no memory.
 #![tactic(auto)]
 
+mod list;
 mod place;
 mod table;
 mod value;
 
+pub use list::SavedList;
 pub use place::{MOST_SAVED_STEPS, SavedPlace};
-pub use table::{MOST_SAVED, SavedTable, below, law_places_are_ordered};
+pub use table::{MOST_SAVED, SavedTable, below, copied, law_places_are_ordered};
 pub use value::SavedValue;

@@ -1,8 +1,9 @@
-ghost use Rattle.std.specs.Prelude.{◌≡◌, ◌≤◌, ◌<◌, ◌∷◌, [], IsTrue, length, reverse, Some, None, true, if◌then◌else◌};
+ghost use Rattle.std.specs.Prelude.{◌≡◌, IfOk, ◌≤◌, ◌<◌, ◌∷◌, [], IsTrue, length, reverse, Some, None, true, if◌then◌else◌};
 ghost use Rattle.std.specs.Ordering.{eq_by_cmp};
 ghost use Rattle.saved_values.specs.Places.{is_saved_place, is_under, place_cmp, stripped};
 
 use ids::{Place, are_steps};
+use std::alloc::{AllocError, Global};
 use std::cmp::Ordering;
 use std::marker::Model;
 
@@ -87,6 +88,17 @@ impl SavedPlace {
         ensures kid { IsTrue (is_saved_place self.now) }
     {
         &self.steps[..usize::from(self.len)]
+    }
+
+    /// The place. Takes no memory.
+    pub fn to_place(&self, alloc: Global) -> Result<Place, AllocError>
+        ensures { IfOk result (λ p. p ≡ self.now) }
+    {
+        let steps = self.steps();
+        let Some(place) = Place::copy_of(alloc, steps)? else {
+            unreachable!();
+        };
+        Ok(place)
     }
 
     /// The order of places: shorter ones first, and those of one length by their steps from the root on.

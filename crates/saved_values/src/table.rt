@@ -110,13 +110,20 @@ impl SavedTable {
     pub fn value_at(&self, place: &Place, hole: u8) -> Option<i64>
         ensures { result ≡ known_by self.now (hole ∷ place.now) }
     {
-        for saved in self.as_slice() {
-            if saved.place.is_kid_of(place, hole) {
-                return Some(saved.value);
-            }
-        }
-        None
+        value_among(self.as_slice(), place, hole)
     }
+}
+
+/// The value that is among these of the kid of a hole at a place.
+pub(crate) fn value_among(values: &[SavedValue], place: &Place, hole: u8) -> Option<i64>
+    ensures { result ≡ known_by values.now (hole ∷ place.now) }
+{
+    for saved in values {
+        if saved.place.is_kid_of(place, hole) {
+            return Some(saved.value);
+        }
+    }
+    None
 }
 
 /// Room for as many values as a table has, with values that stand for nothing.
@@ -144,8 +151,22 @@ fn position(values: &[SavedValue], place: &SavedPlace) -> Option<usize>
     Some(values.len())
 }
 
-/// Those of values whose place is below another one. Refused only when out of memory.
+/// Those of values whose place is below another one; they stand by the order of their places where all do. Refused only when out of
+/// memory.
 pub fn below(
+    alloc: Global,
+    values: &[SavedValue],
+    root: &Place,
+) -> Result<Listed<SavedValue>, AllocError>
+    ensures below { IfOk result (λ l. l ≡ saved_under root.now values.now) }
+    ensures list { IsSavedList values.now → IfOk result (λ l. IsSavedList l) }
+{
+    let found = those_below(alloc, values, root)?;
+    Ok(found)
+}
+
+/// Those of values whose place is below another one.
+fn those_below(
     alloc: Global,
     values: &[SavedValue],
     root: &Place,
@@ -159,6 +180,17 @@ pub fn below(
         }
     }
     Ok(found)
+}
+
+/// A copy of values. Refused only when out of memory.
+pub fn copied(alloc: Global, values: &[SavedValue]) -> Result<Listed<SavedValue>, AllocError>
+    ensures { IfOk result (λ l. l ≡ values.now) }
+{
+    let mut copy = Listed::with_capacity(alloc, values.len())?;
+    for saved in values {
+        copy.push(*saved)?;
+    }
+    Ok(copy)
 }
 
 /// The order of places is a total one, in which places are equal that are the same. Does nothing.

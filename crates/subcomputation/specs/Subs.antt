@@ -1,5 +1,5 @@
 -- The subcomputations that a node holds, by rising grant.
-use Rattle.std.specs.Prelude.{ℕ, ◌<◌, Bool, List, Option, is_some, map}
+use Rattle.std.specs.Prelude.{ℕ, ◌<◌, Bool, List, Option, is_some, length, map, nat_eq}
 use Rattle.std.specs.List.{find}
 use Rattle.ids.specs.Names.{Grant}
 use Rattle.ids.specs.Named.{Name, item_in, put_in, without_in}
@@ -11,17 +11,24 @@ use Rattle.sub_rules.specs.Content.{granted_content}
 use Rattle.sub_rules.specs.Changes.{readied_in}
 use Rattle.subcomputation.specs.declared.sub.ReadiedOf.{ReadiedOf}
 use Rattle.sub_rules.specs.Debts.{IsSound}
+use Rattle.saved_values.specs.declared.value.SavedValue.{SavedValue}
 
 -- what is kept of a content: it is sound, and the number of its first frame is given
 pub record IsBegun (c : Content) : Type 0 where
   pub sound : IsSound c
   pub begun : 0 < c.next
 
--- a subcomputation: the grant under which its task came, how often it had moved when it came here, and its content
+-- a subcomputation: the grant under which its task came, how often it had moved when it came here, its content, and the values that came
+-- with its task
 pub record SubOf : Type 0 where
   pub grant : Grant
   pub hop : ℕ
   pub content : Content
+  pub saved : List SavedValue
+
+-- whether no values came with it
+abbrev pub has_none : List SavedValue → Bool
+has_none saved = nat_eq (length saved) 0
 
 -- its name is its grant's
 abbrev pub name_of_sub : SubOf → Name
@@ -56,8 +63,8 @@ abbrev pub grants_of_subs : List SubOf → List Grant
 grants_of_subs subs = map (λ s. s.grant) subs
 
 -- the subcomputation that a granted task begins, for the host that granted it
-abbrev pub granted_sub : Grant → Task → SubOf
-granted_sub g task = record { grant = g; hop = 0; content = granted_content g.minter task }
+abbrev pub granted_sub : Grant → Task → List SavedValue → SubOf
+granted_sub g task saved = record { grant = g; hop = 0; content = granted_content g.minter task; saved = saved }
 
 -- the ready frames of a subcomputation, by rising number
 abbrev pub ready_frames : SubOf → List ReadiedOf

@@ -9,6 +9,7 @@ ghost use Rattle.sub_rules.specs.declared.change.SubError.TheVariants.{Memory};
 ghost use Rattle.sub_rules.specs.Changes.{closed_in, given_away, done_again, with_parent, with_thief};
 ghost use Rattle.sub_rules.specs.Content.{ready_in};
 ghost use Rattle.sub_rules.specs.Debts.{IsSound};
+ghost use Rattle.saved_values.specs.Saved.{IsSavedList, known_by, saved_under};
 ghost use Rattle.subcomputation.specs.Subs.{IsBegun, granted_sub, name_of_sub, with_content};
 ghost use Rattle.subcomputation.specs.Fitting.{Fits, task_fits};
 ghost use Rattle.sub_rules.specs.Readiness.{TellsReady};
@@ -19,22 +20,24 @@ ghost use Rattle.subcomputation.specs.Told.{HasNoOthers, HasNoOthersBut, IsPrepa
 use body_eval::{Done, Turn};
 use frames::Frames;
 use ids::{
-    Actor, Exact, Frame, FrameNo, GrantId, Hop, Incarnation, Listed, Named, Outcome, Progress,
-    Record, Return, Task,
+    Actor, Exact, Frame, FrameNo, GrantId, Hop, Incarnation, Listed, Named, Outcome, Place,
+    Progress, Record, Return, Task,
 };
+use saved_values::{SavedList, SavedValue};
 use std::alloc::{AllocError, Global};
 use std::marker::Model;
 use sub_rules::{Content, Knows, Opening, Prepared, Readied, SubError, Update};
 use victim_records::Records;
 
-/// A subcomputation: the grant under which its task came, how often it had moved when it came here, and its content, in
-/// which each number is used once, the first number is given, and each value that is awaited has one debtor. Contracts see
-/// these three.
+/// A subcomputation: the grant under which its task came, how often it had moved when it came here, its content, in which each number is
+/// used once, the first number is given, and each value that is awaited has one debtor; and the values of kids that came with its task.
+/// Contracts see these four.
 #[derive(Drop)]
 pub struct Sub {
     grant: GrantId,
     hop: Hop,
     content: Content,
+    saved: SavedList,
 }
 
 impl Model for Sub {
@@ -42,7 +45,7 @@ impl Model for Sub {
 
     ghost Value = { SubOf };
 
-    ghost view = { λ s. record { grant = s.grant; hop = s.hop; content = s.content } };
+    ghost view = { λ s. record { grant = s.grant; hop = s.hop; content = s.content; saved = s.saved } };
 
     ghost invariant = { λ s. IsBegun s.content };
 }
@@ -61,12 +64,35 @@ impl Clone for Sub {
     ghost is_clone = { λ source copy. copy ≡ source };
 
     fn clone(&self) -> Result<Sub, AllocError> {
-        Ok(self.with_content(self.content.clone()?))
+        Ok(Sub {
+            grant: self.grant,
+            hop: self.hop,
+            content: self.content.clone()?,
+            saved: self.saved.clone()?,
+        })
     }
 }
 
 impl Exact for Sub {
     ghost exact = { λ source copy same. same };
+}
+
+/// It knows the values that came with its task.
+impl Knows for Sub {
+    ghost use Rattle.subcomputation.specs.Subs.{has_none};
+    ghost use Rattle.saved_values.specs.Saved.{known_by};
+
+    ghost known_of = { λ s. known_by s.saved };
+
+    ghost tells_nothing = { λ s. has_none s.saved };
+
+    fn value_at(&self, place: &Place, hole: u8) -> Option<i64> {
+        self.saved.value_at(place, hole)
+    }
+
+    fn knows_nothing(&self) -> bool {
+        self.saved.is_empty()
+    }
 }
 
 /// A ready frame, and the grant of its subcomputation.
@@ -84,10 +110,15 @@ pub struct SubRedo {
 }
 
 impl Sub {
-    /// The subcomputation that a granted task begins: one frame, number 0, for the host that granted it; refused only when out of
-    /// memory.
-    pub fn granted(alloc: Global, grant: GrantId, task: Task) -> Result<Sub, AllocError>
-        ensures granted { IfOk result (λ s. s ≡ granted_sub grant task) }
+    /// The subcomputation that a granted task begins: one frame, number 0, for the host that granted it, with the values that came with
+    /// the task; refused only when out of memory.
+    pub fn granted(
+        alloc: Global,
+        grant: GrantId,
+        task: Task,
+        saved: SavedList,
+    ) -> Result<Sub, AllocError>
+        ensures granted { IfOk result (λ s. s ≡ granted_sub grant task saved) }
         ensures fits { (p : Program) → IsTrue (task_fits p task) → IfOk result (λ s. Fits p s.content) }
     {
         sub_rules::granted_contents_are_sound();
@@ -95,19 +126,21 @@ impl Sub {
             grant,
             hop: Hop::of(0),
             content: sub_rules::granted(alloc, grant.minter(), task)?,
+            saved,
         })
     }
 
-    /// The subcomputation of a grant that has moved so often, with a content that came with it.
-    pub fn of(grant: GrantId, hop: Hop, content: Content) -> Sub
+    /// The subcomputation of a grant that has moved so often, with a content that came with it. No values come so.
+    pub fn of(alloc: Global, grant: GrantId, hop: Hop, content: Content) -> Sub
         requires sound { IsSound content }
         requires begun { 0 < content.next }
-        ensures { result ≡ record { grant = grant; hop = hop; content = content } }
+        ensures { result ≡ record { grant = grant; hop = hop; content = content; saved = [] } }
     {
         Sub {
             grant,
             hop,
             content,
+            saved: SavedList::new(alloc),
         }
     }
 
@@ -134,6 +167,18 @@ impl Sub {
         &self.content
     }
 
+    /// The values that came with its task and stand below a place. Refused only when out of memory.
+    pub fn saved_below(
+        &self,
+        alloc: Global,
+        place: &Place,
+    ) -> Result<Listed<SavedValue>, AllocError>
+        ensures below { IfOk result (λ l. l ≡ saved_under place.now self.now.saved) }
+        ensures list { IfOk result (λ l. IsSavedList l) }
+    {
+        saved_values::below(alloc, self.saved.as_slice(), place)
+    }
+
     /// Whether the frame of a number is there, and ready. Takes no memory.
     pub fn is_ready(&self, number: FrameNo) -> bool
         ensures { result ≡ is_some (ready_in number self.now.content) }
@@ -144,18 +189,17 @@ impl Sub {
         }
     }
 
-    /// Prepares that the frame `number` is carried out by a turn that was evaluated; a kid whose value is known isn't made, and the
-    /// slot that awaits it is given the value. E40 exactly where the frame isn't ready with that thread and those numbers, E62
+    /// Prepares that the frame `number` is carried out by a turn that was evaluated; a kid whose value came with the task isn't made, and
+    /// the slot that awaits it is given the value. E40 exactly where the frame isn't ready with that thread and those numbers, E62
     /// where the number that is next after a join would pass 2^32 - 1, E9 where there is no memory.
-    pub fn prepare_exec<K: Knows>(
+    pub fn prepare_exec(
         &self,
         alloc: Global,
         number: FrameNo,
         done: &Done,
-        known: &K,
     ) -> Result<Prepared, SubError>
         ensures answer { IsPreparedAs self.now
-            (exec_content (K.known_of known.now) done.now number self.now.content) result }
+            (exec_content (known_by self.now.saved) done.now number self.now.content) result }
         ensures out_of_memory { IsErrOf result Memory → is_stale_of done.now
             (frame_in number self.now.content.frames) ≡ false }
         ensures may { IfOk result (λ p. MayChange self.now p) }
@@ -166,28 +210,20 @@ impl Sub {
             → IfOk result (λ q. Fits p (changed_of self.now q).after.content) }
     {
         sub_rules::law_turn_is_few(done);
-        self.prepare_turn(
-            alloc,
-            number,
-            done.thread(),
-            done.numbers(),
-            done.turn(),
-            known,
-        )
+        self.prepare_turn(alloc, number, done.thread(), done.numbers(), done.turn())
     }
 
     /// The same, by the end to which that thread comes on these numbers, whoever found it.
-    pub fn prepare_turn<K: Knows>(
+    pub fn prepare_turn(
         &self,
         alloc: Global,
         number: FrameNo,
         thread: u8,
         numbers: &[i64],
         turn: &Turn,
-        known: &K,
     ) -> Result<Prepared, SubError>
         requires { TurnFew turn.now }
-        ensures answer { (p : Program) → IsPreparedAs self.now (exec_content (K.known_of known.now)
+        ensures answer { (p : Program) → IsPreparedAs self.now (exec_content (known_by self.now.saved)
             (ended p thread numbers.now turn.now) number self.now.content) result }
         ensures out_of_memory { (p : Program) → IsErrOf result Memory → is_stale_of
             (ended p thread numbers.now turn.now) (frame_in number self.now.content.frames) ≡ false }
@@ -209,7 +245,7 @@ impl Sub {
             thread,
             numbers,
             turn,
-            known,
+            self,
         )?;
         Ok(prepared)
     }
@@ -321,10 +357,20 @@ impl Sub {
         sub_rules::law_frames_done_again_are_told();
         self.content.frames.law_stand_in_order();
         self.content.records.law_stand_in_order();
-        let (name, hop) = (self.grant, self.hop);
-        match sub_rules::redo(alloc, self.content, grant)? {
+        let Sub {
+            grant: name,
+            hop,
+            content,
+            saved,
+        } = self;
+        match sub_rules::redo(alloc, content, grant)? {
             Some(again) => Ok(Some(SubRedo {
-                after: Sub::of(name, hop, again.after),
+                after: Sub {
+                    grant: name,
+                    hop,
+                    content: again.after,
+                    saved,
+                },
                 ready: again.ready,
             })),
             None => Ok(None),
@@ -346,18 +392,6 @@ impl Sub {
         sub_rules::renaming_keeps_sound();
         self.content.records.law_stand_in_order();
         self.content.records.rename_holder(grant, holder);
-    }
-
-    /// This subcomputation with another content.
-    fn with_content(&self, content: Content) -> Sub
-        requires { IsBegun content }
-        ensures { result ≡ with_content self.now content }
-    {
-        Sub {
-            grant: self.grant,
-            hop: self.hop,
-            content,
-        }
     }
 }
 

@@ -12,7 +12,7 @@ use Rattle.serial_meaning.specs.Job.{JobOf}
 use Rattle.steal_protocol.specs.declared.asker.Request.{Request}
 use Rattle.steal_protocol.specs.declared.replies.Reply.{Reply}
 use Rattle.sub_rules.specs.Carrying.{exec_content as carried_out}
-use Rattle.sub_rules.specs.Resuming.{nothing_known}
+use Rattle.saved_values.specs.Saved.{known_by}
 use Rattle.sub_rules.specs.declared.change.ContentChange.{ContentChange}
 use Rattle.sub_rules.specs.declared.change.SubError.{SubError}
 use Rattle.sub_rules.specs.declared.change.SubError.TheVariants as sub
@@ -73,7 +73,7 @@ module _ (job : JobOf) (n : NodeOf) (plain : IsPlainNode n) where
   -- ---- turns
   pub exec_plain : (d : DoneOf) (g : Grant) (f : ℕ) → NoOffers NoneNew n (calls.exec job d g f n)
   unfolding calls.exec
-  exec_plain d g f = in_state NoneNew n n.state _ _ _ _ tt (λ r is. if_there NoneNew n (sub_in g n.subs) _ _ tt (λ s. by_change r is s (carried_out nothing_known d f s.content))) (λ r heir is. tt) tt
+  exec_plain d g f = in_state NoneNew n n.state _ _ _ _ tt (λ r is. if_there NoneNew n (sub_in g n.subs) _ _ tt (λ s. by_change r is s (carried_out (known_by s.saved) d f s.content))) (λ r heir is. tt) tt
     where
       by_change : (r : Roster) → n.state ≡ Member r → (s : SubOf) (o : Result ContentChange SubError) → NoOffers NoneNew n (calls.changed job s n o)
       by_change r is s (Ok c) = changes_plain NoneNew job n plain s c r is

@@ -2,12 +2,13 @@
 use Rattle.std.proofs.Common.{◌≡◌, ◌+◌, ◌^◌, ℕ, Bool, true, false, cond, not, nat_eq, nat_lt, ◌&&◌, List, [], ◌∷◌, ◌++◌, inl, inr, ⊎_elim, Option, None, Some, is_some, refl, sym, ap, ◌∙◌, Ordering, Less, Equal, Greater}
 use Rattle.std.specs.List.{list_any}
 use Rattle.std.specs.Ordering.{nat_cmp}
-use Rattle.ids.specs.Names.{Grant, is_worker}
+use Rattle.ids.specs.Names.{Grant, house_of, is_worker}
 use Rattle.ids.specs.Members.{is_live, status_in}
 use Rattle.ids.specs.declared.member.Member.{Member as MemberRow}
 use Rattle.ids.specs.declared.member.Status.{Status}
 use Rattle.ids.specs.declared.member.Status.TheVariants as member
 use Rattle.ids.specs.declared.outcome.Outcome.{Outcome}
+use Rattle.ids.specs.declared.outcome.Outcome.TheVariants.{Value, TooDeep}
 use Rattle.ids.specs.declared.outcome.Progress.{Progress}
 use Rattle.ids.specs.declared.outcome.Progress.TheVariants.{Active, Finished}
 use Rattle.ids.specs.declared.work.Record.{Record}
@@ -23,6 +24,8 @@ use Rattle.codec.specs.declared.body.Roster.{Roster}
 use Rattle.codec.specs.declared.body.Steal.{Steal}
 use Rattle.codec.specs.declared.body.TaskResult.{TaskResult}
 use Rattle.departure.specs.Offers.{offered}
+use Rattle.saved_values.specs.Places.{is_saved_place, stripped}
+use Rattle.saved_values.specs.Saved.{saved_under}
 use Rattle.serial_meaning.specs.Job.{JobOf}
 use Rattle.steal_protocol.specs.Replies.{by_order, by_reply, name_of_reply, reply_in}
 use Rattle.steal_protocol.specs.Requests.{is_answered_by, is_pending, without_request}
@@ -177,7 +180,7 @@ module _ (New : AssemblyOf → Type 0) (job : JobOf) (n : NodeOf) (plain : IsPla
       let is = may f refl in
       let g : Grant = record { minter = n.incarnation; number = n.minted + 1 } in
       let k : NodeOf = record n { minted = n.minted + 1; subs = put_sub (with_content f.sub (granted_out g b.from f.ready f.sub.content)) n.subs } in
-      answers_plain b.from b.seq (body.Grant (record { seq = b.seq; grant = g; task = task_of f.ready })) k refl refl (member_stays n k is.0 is.1) refl refl) tt
+      answers_plain b.from b.seq (body.Grant (record { seq = b.seq; grant = g; task = task_of f.ready; saved = saved_under f.ready.frame.place f.sub.saved })) k refl refl (member_stays n k is.0 is.1) refl refl) tt
 
   stolen_plain : (r : Roster) (b : Steal) (o : Option ReadyFrame) → ((f : ReadyFrame) → o ≡ Some f → (q : Roster) × (n.state ≡ Member q)) → NoOffers New n (cases.stolen job r b o n)
   stolen_plain r b o may = by_test New n (is_live b.from r.members) _ _ (by_kept (reply_in b.from n.replies) refl) tt
@@ -190,13 +193,13 @@ module _ (New : AssemblyOf → Type 0) (job : JobOf) (n : NodeOf) (plain : IsPla
   again_plain g = by_test New n (is_worker g.minter && is_some (hop_in g n.seen)) _ _ (says_one _ refl) tt
 
   granted_plain : (b : GrantBody) (r : Roster) → n.state ≡ Member r → NoOffers New n (cases.granted job b n)
-  granted_plain b r is = by_test New n (is_answered_by b.seq b.grant n.asker.pending && not (is_some (hop_in b.grant n.seen)) && task_fits job.program b.task) _ _
+  granted_plain b r is = by_test New n (is_answered_by b.seq b.grant n.asker.pending && not (is_some (hop_in b.grant n.seen)) && task_fits job.program b.task && cases.saved_fit b.task b.saved) _ _
       (record { name = refl; frozen = member_stays n (moves.takes job b n).after r is; replies = plain.replies; parts = λ x m. inl m; sent = none }) (again_plain b.grant)
 
   leaver_granted_plain : (b : GrantBody) (r : Roster) (heir : ℕ) → n.state ≡ Leaving r heir → NoOffers New n (cases.granted job b n)
   leaver_granted_plain b r heir is = by_pending n.asker.pending (plain.idle r heir is)
     where
-      by_pending : (o : Option Request) → o ≡ None → NoOffers New n (cond (is_answered_by b.seq b.grant o && not (is_some (hop_in b.grant n.seen)) && task_fits job.program b.task) (Does (moves.takes job b n)) (cases.acknowledged_again job b.grant n))
+      by_pending : (o : Option Request) → o ≡ None → NoOffers New n (cond (is_answered_by b.seq b.grant o && not (is_some (hop_in b.grant n.seen)) && task_fits job.program b.task && cases.saved_fit b.task b.saved) (Does (moves.takes job b n)) (cases.acknowledged_again job b.grant n))
       by_pending None e = again_plain b.grant
       by_pending (Some q) e = cc
 
@@ -204,20 +207,33 @@ module _ (New : AssemblyOf → Type 0) (job : JobOf) (n : NodeOf) (plain : IsPla
   pub changes_plain : (s : SubOf) (c : ContentChange) (r : Roster) → n.state ≡ Member r → SendsNoOffer New n (moves.changes job s c n)
   changes_plain s c r is = record { name = refl; frozen = member_stays n (moves.changes job s c n).after r is; replies = plain.replies; parts = λ x m. inl m; sent = both (moves.aborts job c.dropped) (moves.results job n.incarnation (with_content s c.after)) (aborts_plain job c.dropped) (results_plain job n.incarnation (with_content s c.after)) }
 
-  closes_plain : (g : Grant) (o : Outcome) (r : Roster) → n.state ≡ Member r → SendsNoOffer New n (moves.closes job g o n)
+  save_plain : (r : Roster) (place : List ℕ) (o : Outcome) → ArePlain (moves.save_of job n.incarnation r place o)
+  save_plain r place TooDeep = none
+  save_plain r place (Value v) = by_place (is_saved_place (stripped place))
+    where
+      by_place : (b : Bool) → ArePlain (cond b (moves.packet job (house_of r.epoch) (body.Save (record { from = n.incarnation; place = stripped place; value = v })) ∷ []) [])
+      by_place true = one _ refl
+      by_place false = none
+
+  closes_by_plain : (s : SubOf) (y : Record) (o : Outcome) (r : Roster) → n.state ≡ Member r → SendsNoOffer New n (moves.closes_by job r o s y n)
+  closes_by_plain s y o r is =
+      let c = changes_plain s (closed y o s.content) r is in
+      record { name = c.name; frozen = c.frozen; replies = c.replies; parts = c.parts; sent = both (moves.changes job s (closed y o s.content) n).sent (moves.save_of job n.incarnation r y.task.place o) c.sent (save_plain r y.task.place o) }
+
+  closes_plain : (g : Grant) (o : Outcome) (r : Roster) → n.state ≡ Member r → SendsNoOffer New n (moves.closes job r g o n)
   unfolding for_some
   closes_plain g o r is = by_sub (host_in g n.subs)
     where
-      by_record : (s : SubOf) (x : Option Record) → SendsNoOffer New n (for_some x (λ y. moves.changes job s (closed y o s.content)) n)
+      by_record : (s : SubOf) (x : Option Record) → SendsNoOffer New n (for_some x (moves.closes_by job r o s) n)
       by_record s None = says [] none
-      by_record s (Some y) = changes_plain s (closed y o s.content) r is
+      by_record s (Some y) = closes_by_plain s y o r is
 
-      by_sub : (x : Option SubOf) → SendsNoOffer New n (for_some x (λ s. for_some (record_in g s.content.records) (λ y. moves.changes job s (closed y o s.content))) n)
+      by_sub : (x : Option SubOf) → SendsNoOffer New n (for_some x (λ s. for_some (record_in g s.content.records) (moves.closes_by job r o s)) n)
       by_sub None = says [] none
       by_sub (Some s) = by_record s (record_in g s.content.records)
 
-  returned_plain : (b : TaskResult) (r : Roster) → n.state ≡ Member r → NoOffers New n (cases.returned job b n)
-  returned_plain b r is = then_plain New n (sends (moves.result_ack job b.from b.grant ∷ []) n) (moves.closes job b.grant b.outcome) (says_one _ refl) (closes_plain b.grant b.outcome r is)
+  returned_plain : (b : TaskResult) (r : Roster) → n.state ≡ Member r → NoOffers New n (cases.returned job r b n)
+  returned_plain b r is = then_plain New n (sends (moves.result_ack job b.from b.grant ∷ []) n) (moves.closes job r b.grant b.outcome) (says_one _ refl) (closes_plain b.grant b.outcome r is)
 
   -- ---- what goes
   gone_plain : (g : Grant) (ps : List PacketOf) → ArePlain ps → SendsNoOffer New n (sends ps (record n { subs = without_sub g n.subs }))
@@ -310,6 +326,7 @@ module _ (job : JobOf) (n : NodeOf) (plain : IsPlainNode n) where
   body_plain choice (body.Leave b) = tt
   body_plain choice (body.Abort b) = let New = IsNewBy (body.Abort b) n in in_state New n n.state _ _ _ _ tt (λ r is. aborted_plain New job n plain b.grant) (λ r heir is. tt) tt
   body_plain choice (body.Beat b) = tt
+  body_plain choice (body.Save b) = tt
   body_plain choice (body.Piece b) = let New = IsNewBy (body.Piece b) n in in_state New n n.state _ _ _ _ tt (λ r is. member_pieced_plain r b is) (λ r heir is. leaving_pieced_plain b) tt
 
   pub packet_plain : (choice : Option Candidate) (p : PacketOf) → NoOffers (IsNewBy p.body n) n (on_packet job choice p n)

@@ -10,11 +10,14 @@ use Rattle.disk.proofs.Crashes.{settled-shrinks, synced-shrinks}
 use Rattle.checkpoint.specs.Calls.{Passed, after}
 use Rattle.checkpoint.specs.Commit.{formatting}
 use Rattle.checkpoint.specs.Format.{IsFormatted, fresh}
+use Rattle.checkpoint.proofs.Reading.{one_store}
 use Rattle.checkpoint.specs.Store.{KeepsRecord}
 use Rattle.checkpoint.specs.declared.record.CheckpointRecord.{CheckpointRecord}
 use Rattle.checkpoint.specs.declared.record.SlotId.TheVariants.{Large}
 use Rattle.event_script.specs.declared.event.Cut.{Cut as CutOf}
+use Rattle.agreement.specs.Agreement.{AllSavedAgree}
 use Rattle.serial_meaning.specs.Job.{JobOf}
+use Rattle.world_steps.specs.Agrees.{Agrees}
 use Rattle.world_steps.specs.First.{IsFirst}
 use Rattle.world_steps.specs.Runs.{CanBegin, IsFormattedFor}
 use Rattle.world_steps.specs.Steps.{Applies}
@@ -26,7 +29,7 @@ use Rattle.clearinghouse.specs.declared.parts.Stop.TheVariants as by
 use Rattle.event_script.specs.declared.event.HouseEvent.{HouseEvent}
 use Rattle.world_steps.specs.Coming.{Comes, HasCome, seat_of, stop_by}
 use Rattle.world_steps.specs.Seats.{Happens, CutHappens, DeliversPacket, IsSeat, IsStill, HouseSlotOf, Seats, disk_of, fallen, fallen_by, house_at, replied}
-use Rattle.world_steps.specs.World.{Down, HouseAt, IsUp, WorldOf}
+use Rattle.world_steps.specs.World.{Down, HouseAt, IsUp, WorldOf, first_over}
 use Rattle.world_steps.specs.declared.parts.NoMemory.{NoMemory}
 use Rattle.world_steps.specs.declared.house_slot.HouseReply.{HouseReply}
 use Rattle.world_steps.specs.declared.house_slot.HouseState.{HouseState}
@@ -146,6 +149,7 @@ can_begin job d is = record {
   kept = record { slot = Large false; each = λ c crash. (is.formatted c crash).store };
   own = refl;
   meant = λ o there. absurd (no_outcome o there);
+  saved = tt;
 }
 
 -- so one can begin over it
@@ -157,6 +161,7 @@ formatted_first job d still is = record {
   kept = record { slot = Large false; each = λ c crash. (is.formatted c crash).store };
   own = refl;
   no_outcome = refl;
+  none_saved = refl;
 }
 
 -- a run can begin on a disk over which one begins
@@ -168,6 +173,17 @@ first_can job d is = record {
   kept = is.kept;
   own = is.own;
   meant = λ o there. absurd (no_outcome o (sym is.no_outcome ∙ there));
+  saved = rw (is.none_saved) tt;
+}
+
+-- all in the first world agrees
+pub first_agrees : (job : JobOf) (d : Device) → CanBegin job d → Agrees job (first_over d)
+first_agrees job d can = record {
+  packets = λ i p is. absurd cc;
+  held = λ a g at. absurd (let none = at.up in cc);
+  known = λ a g at. absurd (let none = at.up in cc);
+  stored = λ content left n r reads. subst (λ (x : CheckpointRecord). AllSavedAgree job x.saved) (sym (one_store content reads.0 can.kept.slot n can.sequence r can.found reads.1 (can.kept.each content left)).2) can.saved;
+  parts = λ a i j n x y up of there. absurd cc;
 }
 
 -- what a crash leaves of a disk of which less is left keeps its record

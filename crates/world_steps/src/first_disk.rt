@@ -1,24 +1,26 @@
 //! The disk over which a run of a job begins.
-ghost use Rattle.std.specs.Prelude.{◌≡◌, ◌≢◌, IfErr, IfOk};
+ghost use Rattle.std.specs.Prelude.{◌≡◌, ◌≢◌, ◌⊎◌, false, IfErr, IfOk};
+ghost use Rattle.checkpoint.specs.Store.{IsSpent, KeepsItself};
 ghost use Rattle.disk.specs.Crash.{Only, Shrinks};
 ghost use Rattle.disk.specs.File.{CrashLeaves, bytes_of};
 ghost use Rattle.job_store.specs.Failed.{HasFailed};
 ghost use Rattle.world_steps.specs.First.{IsFirst};
-ghost use Rattle.world_steps.specs.Found.{IsFoundOn, IsRefusedOn};
+ghost use Rattle.world_steps.specs.Found.{IsFoundOn, IsRefusedOn, begun_over};
 ghost use Rattle.world_steps.specs.Runs.{IsFormattedFor};
 ghost use Rattle.world_steps.specs.Seats.{IsStill};
 
 use crate::parts::NoMemory;
-use checkpoint::StoreError;
+use checkpoint::{Store, StoreError};
 use disk::{Disk, MemDisk, SteadyDisk};
 use ids::Outcome;
 use job_store::open_store;
+use saved_values::SavedTable;
 use serial_meaning::Job;
 use std::alloc::Global;
 use std::marker::Model;
 
 /// A disk over which a run of a job can begin: it isn't armed, all of it is there for good, and it is the job's checkpoint, without
-/// an outcome. Contracts see the job and the disk.
+/// an outcome and with no value saved. Contracts see the job and the disk.
 #[derive(Drop)]
 pub struct FirstDisk<'a, D: SteadyDisk + Drop = MemDisk> {
     job: &'a Job,
@@ -63,8 +65,10 @@ impl<'a> FirstDisk<'a, MemDisk> {
 
 impl<'a, D: SteadyDisk + Drop> FirstDisk<'a, D> {
     /// What a disk holds of a job. What is armed is disarmed, as by a crash, and what isn't there for good is synced; where it is empty
-    /// then, the job's checkpoint is made. Refused, it gives the disk back, in this order: E72; E71 for a file that doesn't begin as a
-    /// checkpoint; E73 for another version; E71 for one that is none; E70 for another job. Nothing is written where a byte is there.
+    /// then, the job's checkpoint is made. Where it has no outcome, the values that were saved are dropped, by one commit. Refused, it
+    /// gives the disk back, in this order: E72; E71 for a file that doesn't begin as a checkpoint; E73 for another version; E71 for one
+    /// that is none; E70 for another job; E62 where the sequence is spent of one of the older form, or of one that has saved values. Where
+    /// a byte is there, nothing is written but what makes a checkpoint of the older form one of the newer form, and that commit.
     pub fn found(alloc: Global, job: &'a Job, disk: D) -> Result<Found<'a, D>, (StoreError, D)>
         ensures found { IfOk result (IsFoundOn D.device job.now (D.device disk)) }
         ensures refused { IfErr result (λ e. e.0 ≢ StoreError.Device → IsRefusedOn e.0 (D.device disk).file job.now.number) }
@@ -75,7 +79,8 @@ impl<'a, D: SteadyDisk + Drop> FirstDisk<'a, D> {
             → Shrinks (CrashLeaves (D.device disk).file) (CrashLeaves (D.device e.1).file)) }
     {
         let disk = settled(disk)?;
-        let store = open_store(alloc, disk, job.number())?;
+        let opened = open_store(alloc, disk, job.number())?;
+        let store = begun(opened)?;
         let kept = store.record().outcome;
         let disk = settled(store.into_disk())?;
         match kept {
@@ -116,6 +121,30 @@ impl<'a, D: SteadyDisk + Drop> FirstDisk<'a, D> {
     {
         let FirstDisk { job, disk } = self;
         (job, disk)
+    }
+}
+
+/// A store as a run begins over it. Where it has no outcome, it has no saved values either: those that it has are dropped, by one commit.
+/// E62 where the sequence is spent; E72.
+fn begun<D: SteadyDisk + Drop>(store: Store<D>) -> Result<Store<D>, (StoreError, D)>
+    requires { store.ended ≡ false }
+    ensures begun { IfOk result (λ s. s.record ≡ begun_over store.record.outcome store.record) }
+    ensures kept { IfOk result (λ s. KeepsItself D.device store → KeepsItself D.device s) }
+    ensures passed { IfOk result (λ s. (D.device s.disk).failures ≡ (D.device store.disk).failures) }
+    ensures refused { IfErr result (λ e. (e.0 ≡ StoreError.Device) ⊎ (e.0 ≡ StoreError.Spent)) }
+    ensures spent { IfErr result (λ e. e.0 ≡ StoreError.Spent → IsSpent store × (e.1 ≡ store.disk)) }
+    ensures failed { IfErr result (λ e. e.0 ≡ StoreError.Device → HasFailed (D.device store.disk) (D.device e.1)) }
+{
+    if store.record().outcome.is_some() {
+        return Ok(store);
+    }
+    if store.record().saved.as_slice().is_empty() {
+        return Ok(store);
+    }
+    let mut store = store;
+    match store.save(SavedTable::new()) {
+        Ok(()) => Ok(store),
+        Err(fault) => Err((fault, store.into_disk())),
     }
 }
 

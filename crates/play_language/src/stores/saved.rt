@@ -1,27 +1,17 @@
 //! Values that were saved, by the places of their tasks.
 
 use ids::{Listed, Place};
-use play_packets::place;
+use play_packets::{place, write_steps};
 use play_words::{Answers, CommandLine, byte};
 use saved_values::{SavedPlace, SavedTable, SavedValue, below};
 use std::alloc::Global;
-
-/// Writes the steps of a place whose value is saved.
-fn write_saved_place(out: &mut Answers, place: &SavedPlace) {
-    let mut mark = "";
-    for step in place.steps() {
-        out.text(mark);
-        out.number(u64::from(*step));
-        mark = ".";
-    }
-}
 
 /// Writes such a place; `none` where there is none.
 fn write_found(out: &mut Answers, place: Option<SavedPlace>) {
     match place {
         Some(place) => {
             out.text("> ");
-            write_saved_place(out, &place);
+            write_steps(out, place.steps());
             out.end();
         }
         None => out.line("none"),
@@ -35,7 +25,7 @@ fn write_values(out: &mut Answers, values: &[SavedValue]) {
     }
     for saved in values {
         out.text("> ");
-        write_saved_place(out, &saved.place);
+        write_steps(out, saved.place.steps());
         out.text(" is ");
         out.signed(saved.value);
         out.end();

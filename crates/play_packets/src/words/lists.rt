@@ -3,6 +3,7 @@
 use crate::words::fields::status;
 use ids::{Incarnation, Listed, Member, Place, Slots};
 use play_words::{Answers, byte, bytes_of_hex, signed64, word32, word64};
+use saved_values::{SavedPlace, SavedValue};
 use std::alloc::Global;
 
 /// Adds a member `WORD:STATUS`, or with `FROM..TO` in the word's place one for each word; none where it is no such text.
@@ -128,6 +129,36 @@ pub fn steps(alloc: Global, text: &str, out: &mut Answers) -> Option<Listed<u8>>
 /// The place that steps lead to.
 pub fn place(alloc: Global, text: &str, out: &mut Answers) -> Option<Place> {
     Place::of(steps(alloc, text, out)?)
+}
+
+/// The value of words `PLACE:VALUE`, and its place.
+fn saved_value(alloc: Global, text: &str, out: &mut Answers) -> Option<SavedValue> {
+    let (at, value) = text.split_once(':')?;
+    let value = signed64(value)?;
+    let place = SavedPlace::of_steps(steps(alloc, at, out)?.as_slice())?;
+    Some(SavedValue { place, value })
+}
+
+/// Adds values that are saved, parted by commas. Whether they are such.
+fn add_saved(alloc: Global, list: &mut Listed<SavedValue>, text: &str, out: &mut Answers) -> bool {
+    let mut are_values = true;
+    for part in text.split(',') {
+        match saved_value(alloc, part, out) {
+            Some(value) => out.put(list.push(value)),
+            None => are_values = false,
+        }
+    }
+    are_values
+}
+
+/// Values that are saved, `-` for none.
+pub fn saved_values(alloc: Global, text: &str, out: &mut Answers) -> Option<Listed<SavedValue>> {
+    let mut list = Listed::new(alloc);
+    if text == "-" || add_saved(alloc, &mut list, text, out) {
+        Some(list)
+    } else {
+        None
+    }
 }
 
 /// Bytes in hexadecimal digits, `-` for none; `HEX*TIMES` is these so many times.

@@ -1,14 +1,14 @@
 use crate::words::fields;
-use crate::words::lists::{bytes, members};
+use crate::words::lists::{bytes, members, place, saved_values};
 use crate::words::work::{add_frames, add_records, task};
 use codec::{
     Abort, Beat, Body, Grant, Join, Leave, Offer, OfferAck, Packet, Piece, Refuse, ResultAck,
-    Roster, Steal, TaskResult,
+    Roster, Save, Steal, TaskResult,
 };
 use ids::{
     Actor, Address, Frame, FrameNo, GrantId, Hop, Incarnation, Listed, Progress, Record, Task,
 };
-use play_words::{Answers, CommandLine, byte, word64};
+use play_words::{Answers, CommandLine, byte, signed64, word64};
 use std::alloc::Global;
 
 /// The words of a packet that are still to be read, none behind the last one, and whether one was wrong of which a list was to be
@@ -109,8 +109,10 @@ fn body(alloc: Global, words: &mut Words<'_>, out: &mut Answers) -> Option<Body>
     match words.word() {
         "Roster" => roster(alloc, words, out),
         "Grant" => grant(alloc, words, out),
+        "SavedGrant" => saved_grant(alloc, words, out),
         "Offer" => offer(alloc, words, out),
         "Piece" => piece(alloc, words, out),
+        "Save" => save(alloc, words, out),
         kind => short_body(kind, words),
     }
 }
@@ -164,7 +166,34 @@ fn grant(alloc: Global, words: &mut Words<'_>, out: &mut Answers) -> Option<Body
     let seq = fields::count(words.value("seq"))?;
     let grant = fields::grant(words.value("grant"))?;
     let task = task_in(alloc, words, out)?;
-    Some(Body::Grant(Grant { seq, grant, task }))
+    Some(Body::Grant(Grant {
+        seq,
+        grant,
+        task,
+        saved: Listed::new(alloc),
+    }))
+}
+
+/// A Grant with one saved value or more.
+fn saved_grant(alloc: Global, words: &mut Words<'_>, out: &mut Answers) -> Option<Body> {
+    let seq = fields::count(words.value("seq"))?;
+    let grant = fields::grant(words.value("grant"))?;
+    let task = task_in(alloc, words, out)?;
+    let saved = saved_values(alloc, words.value("saved"), out)?;
+    Some(Body::Grant(Grant {
+        seq,
+        grant,
+        task,
+        saved,
+    }))
+}
+
+fn save(alloc: Global, words: &mut Words<'_>, out: &mut Answers) -> Option<Body> {
+    let from = fields::worker(words.value("from"))?;
+    let at = words.value("at");
+    let value = signed64(words.value("value"))?;
+    let place = place(alloc, at, out)?;
+    Some(Body::Save(Save { from, place, value }))
 }
 
 fn refuse(words: &mut Words<'_>) -> Option<Body> {

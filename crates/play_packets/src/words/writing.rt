@@ -1,9 +1,10 @@
-use codec::{Body, Grant, Offer, OfferAck, Packet, Piece, Roster, TaskResult};
+use codec::{Body, Grant, Offer, OfferAck, Packet, Piece, Roster, Save, TaskResult};
 use ids::{
     Actor, Address, Frame, GrantId, Incarnation, Member, Outcome, Place, Progress, Record, Return,
     Status, Task,
 };
 use play_words::Answers;
+use saved_values::SavedValue;
 
 /// Writes a packet in words: its kind, its fields in their order, whom it goes to and its job.
 pub fn write_packet(out: &mut Answers, packet: &Packet) {
@@ -61,13 +62,44 @@ fn write_body(out: &mut Answers, body: &Body) {
             write_field(out, " version=", beat.version.number());
         }
         Body::Piece(piece) => write_piece(out, piece),
+        Body::Save(save) => write_save(out, save),
     }
 }
 
 fn write_given(out: &mut Answers, grant: &Grant) {
-    write_field(out, "Grant seq=", grant.seq.number());
+    let saved = grant.saved.as_slice();
+    let kind = if saved.is_empty() {
+        "Grant seq="
+    } else {
+        "SavedGrant seq="
+    };
+    write_field(out, kind, grant.seq.number());
     write_granted(out, grant.grant);
     write_task(out, &grant.task);
+    if !saved.is_empty() {
+        out.text(" saved=");
+        write_saved(out, saved);
+    }
+}
+
+/// Writes values that are saved, as `PLACE:VALUE`, parted by commas.
+pub fn write_saved(out: &mut Answers, saved: &[SavedValue]) {
+    let mut mark = "";
+    for value in saved {
+        out.text(mark);
+        write_steps(out, value.place.steps());
+        out.text(":");
+        out.signed(value.value);
+        mark = ",";
+    }
+}
+
+fn write_save(out: &mut Answers, save: &Save) {
+    write_from(out, "Save", save.from);
+    out.text(" at=");
+    write_place(out, &save.place);
+    out.text(" value=");
+    out.signed(save.value);
 }
 
 fn write_result(out: &mut Answers, given: &TaskResult) {
@@ -217,8 +249,13 @@ pub fn write_place(out: &mut Answers, place: &Place) {
     if place.len() == 0 {
         out.text("-");
     }
+    write_steps(out, place.steps());
+}
+
+/// Writes steps joined by dots.
+pub fn write_steps(out: &mut Answers, steps: &[u8]) {
     let mut mark = "";
-    for step in place.steps() {
+    for step in steps {
         write_field(out, mark, u64::from(*step));
         mark = ".";
     }

@@ -2,7 +2,7 @@ use Rattle.std.proofs.Common.{ap, ◌∙◌}
 use Rattle.checkpoint.specs.Commit.{formatting}
 use Rattle.disk.specs.Device.{Device}
 use Rattle.job_store.proofs.Failing.{after_failures, failed_made, passed_opened, stopped_failed}
-use Rattle.job_store.proofs.Opening.{made_keeps, opened_keeps, opened_made, refused_made}
+use Rattle.job_store.proofs.Opening.{made_counts, made_keeps, opened_keeps, opened_made, refused_made}
 use Rattle.job_store.proofs.open.make_store.Goals as goal
 
 pub returns-in-Ok-clause-made : goal.returns-in-Ok-clause-made
@@ -39,3 +39,7 @@ pub returns-in-Err-clause-failed : goal.returns-in-Err-clause-failed
 returns-in-Err-clause-failed g c =
     let stopped = c.in-Err.ensures.stopped in
     stopped_failed (formatting stopped.0) (g.D.Disk.planned c.args.disk) (g.D.Disk.device c.args.disk) (g.D.Disk.device c.format.new.disk) stopped.2
+
+pub returns-in-Ok-clause-counted : goal.returns-in-Ok-clause-counted
+returns-in-Ok-clause-counted g c =
+    made_counts g.D.Disk.device g.D.Disk.planned (g.D.Disk.device c.format.new.disk) (g.D.Disk.planned c.format.new.disk) c.args.job c.open.result c.in-Ok.ensures.left c.open.ensures.calls

@@ -2,7 +2,7 @@
 use Rattle.packet_fields.specs.Fields as field
 use Rattle.packet_fields.specs.Format.{number}
 use Rattle.packet_fields.proofs.FormatLaws.{number_lawful, one_spelling_of, wide1, wide2, wide4, wide8}
-use Rattle.packet_fields.proofs.FieldLaws.{actor_lawful, address_lawful, below_lawful, counted_lawful, epoch_lawful, frame_lawful, frames_lawful, goes_to_lawful, grant_lawful, hop_lawful, member_lawful, members_lawful, numbers_lawful, other_worker_lawful, outcome_lawful, part_lawful, piece_of_lawful, pieces_lawful, place_lawful, progress_lawful, raised_lawful, records_lawful, signed_lawful, slot_lawful, slots_lawful, status_lawful, step_lawful, steps_lawful, stolen_lawful, task_lawful, thread_lawful, worker_lawful}
+use Rattle.packet_fields.proofs.FieldLaws.{actor_lawful, address_lawful, below_lawful, counted_lawful, epoch_lawful, frame_lawful, frames_lawful, goes_to_lawful, grant_lawful, hop_lawful, member_lawful, members_lawful, no_values_lawful, numbers_lawful, other_worker_lawful, outcome_lawful, part_lawful, piece_of_lawful, pieces_lawful, place_lawful, progress_lawful, raised_lawful, records_lawful, saved_place_lawful, saved_value_lawful, saved_values_lawful, signed_lawful, slot_lawful, slots_lawful, status_lawful, step_lawful, steps_lawful, stolen_lawful, task_lawful, thread_lawful, worker_lawful}
 use Rattle.packet_fields.proofs.laws.one_spelling.Goals as goal
 
 pub returns-clause-byte : goal.returns-clause-byte
@@ -112,3 +112,15 @@ returns-clause-records c = λ progress next. one_spelling_of (field.records prog
 
 pub returns-clause-address : goal.returns-clause-address
 returns-clause-address c = λ allowed. one_spelling_of (field.address allowed) (address_lawful allowed)
+
+pub returns-clause-saved_place : goal.returns-clause-saved_place
+returns-clause-saved_place c = one_spelling_of field.saved_place saved_place_lawful
+
+pub returns-clause-saved_value : goal.returns-clause-saved_value
+returns-clause-saved_value c = λ last. one_spelling_of (field.saved_value last) (saved_value_lawful last)
+
+pub returns-clause-saved_values : goal.returns-clause-saved_values
+returns-clause-saved_values c = one_spelling_of field.saved_values saved_values_lawful
+
+pub returns-clause-no_values : goal.returns-clause-no_values
+returns-clause-no_values c = one_spelling_of field.no_values no_values_lawful

@@ -3,9 +3,9 @@ use Rattle.body_eval.specs.Done.{DoneOf}
 use Rattle.subcomputation.specs.Subs.{sub_in}
 use Rattle.subcomputation.specs.Told.{carried_out, changed_of}
 use Rattle.sub_rules.specs.Carrying.{ended, exec_content}
-use Rattle.sub_rules.specs.Resuming.{nothing_known}
+use Rattle.saved_values.specs.Saved.{known_by}
 use Rattle.node_state.specs.Parts.{HasNoNewRecord, IsMember}
-use Rattle.node_core.specs.Meeting.{IsNode, MeetsBehind, changes_of}
+use Rattle.node_core.specs.Meeting.{IsNode, MeetsAround, changes_of}
 use Rattle.node_core.proofs.Carrying.{exec_known, meets_alone}
 use Rattle.node_core.proofs.Changing.{may_change}
 use Rattle.node_state.specs.Node.{by_state}
@@ -40,6 +40,6 @@ returns-clause-answer c =
     let changed = changed_of sub c.in_ok-prepared.prepared in
     let member : IsMember c.args.self.now.node.state = search rules in
     let there : sub_in c.args.grant c.args.self.now.node.subs ≡ Some sub = search rules in
-    let is : carried_out sub (exec_content nothing_known done c.args.frame sub.content) ≡ Ok changed = c.in_ok-prepared.ensures.answer c.args.self.now.job.program in
-    let behind : MeetsBehind [] (changes_of c.args.self.now.job changed c.args.self.now.node) c.change.result c.args.self.now c.change.new.self = rw c.new.ensures at (c.change.ensures sub there) in
+    let is : carried_out sub (exec_content (known_by sub.saved) done c.args.frame sub.content) ≡ Ok changed = c.in_ok-prepared.ensures.answer c.args.self.now.job.program in
+    let behind : MeetsAround [] [] (changes_of c.args.self.now.job changed c.args.self.now.node) c.change.result c.args.self.now c.change.new.self = rw (c.new.ensures, c.new-2.ensures) at (c.change.ensures sub there) in
     rw (exec_known c.args.self.now.job done c.args.grant c.args.frame c.args.self.now.node sub changed member there is) (meets_alone (changes_of c.args.self.now.job changed c.args.self.now.node) c.change.result c.args.self.now c.change.new.self behind)

@@ -6,9 +6,11 @@ use Rattle.subcomputation.specs.Subs.{host_in, sub_in}
 use Rattle.subcomputation.specs.Told.{changed_by, changed_of, changed_of_some}
 use Rattle.node_state.specs.Parts.{HasNoNewRecord}
 use Rattle.node_core.specs.Choosing.{own_candidate}
-use Rattle.node_core.specs.Meeting.{IsNode, MeetsBehind, changes_of}
+use Rattle.node_core.specs.Meeting.{IsNode, MeetsAround, changes_of}
+use Rattle.node_core.specs.Moves.{save_of}
+use Rattle.node_state.specs.declared.parts.State.TheVariants.{Member}
 use Rattle.node_core.proofs.Changing.{may_change}
-use Rattle.node_core.proofs.Returning.{ack_of, meets_behind, result_known}
+use Rattle.node_core.proofs.Returning.{ack_of, meets_around, result_known, result_lost}
 use Rattle.node_core.proofs.node.Node.member_result.Goals as goal
 
 pub change-requires : goal.change-requires
@@ -24,12 +26,19 @@ change-requires c =
 
 pub returns : goal.returns
 returns c =
+    let job = c.args.self.now.job in
+    let node = c.args.self.now.node in
     let sub = c.in-Some.host.now in
+    let record-of = c.in-Some-get.record.now in
+    let roster = c.in-Member.roster in
     let changed = changed_of sub c.in-Some-2.prepared in
-    let host : host_in c.args.outcome.grant c.args.self.now.node.subs ≡ Some sub = search rules in
-    let held : sub_in sub.grant c.args.self.now.node.subs ≡ Some sub = search rules in
-    let there : sub_in c.grant-held.result c.args.self.now.node.subs ≡ Some sub = ap (λ (g : Grant). sub_in g c.args.self.now.node.subs) c.grant-held.ensures ∙ held in
+    let member : node.state ≡ Member roster = search rules in
+    let host : host_in c.args.outcome.grant node.subs ≡ Some sub = search rules in
+    let found : record_in c.args.outcome.grant sub.content.records ≡ Some record-of = search rules in
+    let held : sub_in sub.grant node.subs ≡ Some sub = search rules in
+    let there : sub_in c.grant-held.result node.subs ≡ Some sub = ap (λ (g : Grant). sub_in g node.subs) c.grant-held.ensures ∙ held in
     let is : Some changed ≡ changed_by sub (closed_in c.args.outcome.outcome sub.content (record_in c.args.outcome.grant sub.content.records)) = ap (changed_of_some sub) (sym c.in-Some-2.is) ∙ c.in_ok-prepared.ensures.change in
-    let sent : c.in_ok-sent.sent ≡ ack_of c.args.self.now.job c.args.outcome ∷ [] = search rules in
-    let behind : MeetsBehind (ack_of c.args.self.now.job c.args.outcome ∷ []) (changes_of c.args.self.now.job changed c.args.self.now.node) c.change.result c.args.self.now c.change.new.self = rw sent at (c.change.ensures sub there) in
-    rw (result_known c.args.self.now.job (own_candidate c.args.self.now.posts) c.args.outcome c.args.self.now.node sub changed c.requires host is) (meets_behind (ack_of c.args.self.now.job c.args.outcome) (changes_of c.args.self.now.job changed c.args.self.now.node) c.change.result c.args.self.now c.change.new.self behind)
+    let sent : c.in_ok-sent.sent ≡ ack_of job c.args.outcome ∷ [] = search rules in
+    let last : c.in_ok-last.last ≡ save_of job node.incarnation roster record-of.task.place c.args.outcome.outcome = c.in_ok-last.ensures in
+    let around : MeetsAround (ack_of job c.args.outcome ∷ []) (save_of job node.incarnation roster record-of.task.place c.args.outcome.outcome) (changes_of job changed node) c.change.result c.args.self.now c.change.new.self = rw (sent, last) at (c.change.ensures sub there) in
+    rw (result_known job (own_candidate c.args.self.now.posts) roster c.args.outcome node sub record-of changed member host found is) (meets_around (ack_of job c.args.outcome) (save_of job node.incarnation roster record-of.task.place c.args.outcome.outcome) (changes_of job changed node) c.change.result c.args.self.now c.change.new.self around)

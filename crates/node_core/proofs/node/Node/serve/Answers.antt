@@ -66,8 +66,15 @@ give-requires-clause-task c =
     let is : IsNode c.args.self.now = rw (← c.self.view_is) c.self.invariant in
     rw c.in-Some-2.is at (c.in_ok-opening.ensures.task c.args.self.now.job.program (is.fits c.in-Some.post.grant c.in-Some-sub.sub.now there))
 
-pub returns-in-Some-2 : goal.returns-in-Some-2
-returns-in-Some-2 c =
+pub give-requires-clause-saved : goal.give-requires-clause-saved
+give-requires-clause-saved c = λ s at.
+    let sub = c.in-Some-sub.sub.now in
+    let there : sub_in c.in-Some.post.grant c.args.self.now.node.subs ≡ Some sub = search rules in
+    let same : sub ≡ s = cc in
+    rw (← same) c.in_ok-saved-in-Some-2.ensures.below
+
+pub returns-in_ok-saved-in-Some-2 : goal.returns-in_ok-saved-in-Some-2
+returns-in_ok-saved-in-Some-2 c =
     let sub = c.in-Some-sub.sub.now in
     let first : shallowest c.args.self.now.posts ≡ Some c.in-Some.post = search rules in
     let there : sub_in c.in-Some.post.grant c.args.self.now.node.subs ≡ Some sub = search rules in

@@ -14,7 +14,7 @@ returns-in-Some-clause-ready c =
     let records : AreInOrder name_of_record c.args.self.content.records = search rules in
     let sound : IsSound c.args.self.content = search rules in
     let is : Some c.in-Some.again ≡ done_again c.args.self.content (record_in c.args.grant c.args.self.content.records) = search rules in
-    rw c.of.ensures (redo_tells c.args.self.content c.args.self.content c.args.grant c.in-Some.again refl sound frames records is).ready
+    (redo_tells c.args.self.content c.args.self.content c.args.grant c.in-Some.again refl sound frames records is).ready
 
 pub returns-in-Some-clause-records : goal.returns-in-Some-clause-records
 returns-in-Some-clause-records c =
@@ -22,9 +22,9 @@ returns-in-Some-clause-records c =
     let records : AreInOrder name_of_record c.args.self.content.records = search rules in
     let sound : IsSound c.args.self.content = search rules in
     let is : Some c.in-Some.again ≡ done_again c.args.self.content (record_in c.args.grant c.args.self.content.records) = search rules in
-    rw c.of.ensures (redo_tells c.args.self.content c.args.self.content c.args.grant c.in-Some.again refl sound frames records is).records
+    (redo_tells c.args.self.content c.args.self.content c.args.grant c.in-Some.again refl sound frames records is).records
 
 pub returns-in-Some-clause-fits : goal.returns-in-Some-clause-fits
 returns-in-Some-clause-fits c = λ p fits.
     let is : Some c.in-Some.again ≡ done_again c.args.self.content (record_in c.args.grant c.args.self.content.records) = search rules in
-    rw c.of.ensures (redo_fits p c.args.self.content c.args.self.content c.args.grant c.in-Some.again refl is fits)
+    (redo_fits p c.args.self.content c.args.self.content c.args.grant c.in-Some.again refl is fits)

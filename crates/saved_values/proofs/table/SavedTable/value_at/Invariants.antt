@@ -1,6 +1,0 @@
-use Rattle.std.proofs.Common.{◌≡◌, ◌∷◌, drop}
-use Rattle.saved_values.specs.Saved.{known_by}
-use Rattle.saved_values.proofs.table.SavedTable.value_at.Given as goal
-
-abbrev pub invariant-loop-saved : goal.invariant-loop-saved
-invariant-loop-saved l = known_by (drop l.saved-index l.saved-items) (l.hole ∷ l.place) ≡ known_by l.fn.self (l.fn.hole ∷ l.fn.place)
