@@ -10,12 +10,13 @@ file lies one that says whose it is. A reader of this script's own, made of docs
 
 - `cilknow store` prints that record, or refuses the file as no store (E71) or as one of another version (E73), and changes nothing;
 - `cilknow run --store` answers the outcome that is kept at once; or makes the store of an empty file, begins the next epoch, and keeps
-  the outcome; or refuses the file, of another job (E70) or as above, or where no epoch or commit is left (E62). What is refused by E70,
-  E71 or E73 stays byte for byte, and so does the file beside a store. One of the older form that isn't refused so, and whose sequence isn't
-  spent, becomes one of the newer form.
+  the outcome beside what is saved; or refuses the file, of another job (E70) or as above, or where no epoch or commit is left (E62). What
+  is refused by E70, E71 or E73 stays byte for byte, and so does the file beside a store. One of the older form that isn't refused so, and
+  whose sequence isn't spent, becomes one of the newer form.
 
-Then the file beside a store is broken byte by byte: another digest is refused (E70), what is no line of one too (E71), and one that isn't there
-is told. The last line counts; the status is 1 where anything failed.
+Runs that carry out each frame alone take fewer turns by what is saved, and believe it. Then the file beside a store is broken byte by byte:
+another digest is refused (E70), what is no line of one too (E71), and one that isn't there is told. The last line counts; the status is 1
+where anything failed.
 """
 import collections
 import hashlib
@@ -189,16 +190,12 @@ def ran(content, found):
         moved = found = found._replace(form=LARGE, sequence=0)
     if found.tag != NONE:
         return (0, f"{outcome_line(found)}\n", ""), moved
-    if found.saved:
-        # (what is saved is dropped by a commit of its own)
-        if found.sequence == LAST_SEQUENCE:
-            return refusal(62), moved
-        moved = found = found._replace(saved=(), sequence=found.sequence + 1)
     if found.epoch == LAST_EPOCH or found.sequence == LAST_SEQUENCE:
         return refusal(62), moved
     begun = found._replace(epoch=found.epoch + 1, sequence=found.sequence + 1)
     if begun.sequence == LAST_SEQUENCE:
         return refusal(62), begun
+    # (so small a job is evaluated in one step, which asks for nothing that is saved)
     return (0, f"value {VALUE}\n", ""), begun._replace(tag=IS_VALUE, value=VALUE, sequence=begun.sequence + 1)
 
 
@@ -242,6 +239,20 @@ def is_refused_by(program, path, content, name, line, wanted):
     os.remove(path)
     os.remove(beside(path))
     return well
+
+
+def is_served(program, path, line, saved, value, turns):
+    """Whether a run that carries out each frame alone computes with what is saved, whatever that is, and takes so many turns."""
+    written(path, file_of(slot_of(Record(JOB, 5, NONE, 0, 9, saved=saved)), bytes(LARGE.size)))
+    written(beside(path), line)
+    status, out, err = called(program, "run", FIB, "--store", path, "--grain", "0", "--stats", INPUT)
+    told = status, out, err.split("\n")[0], read_store(bytes_of(path))
+    wanted = 0, f"value {value}\n", f"turns {turns}", Record(JOB, 6, IS_VALUE, value, 11, saved=saved)
+    if told != wanted:
+        print(f"{saved} are saved: a run answers {told}, not {wanted}", file=sys.stderr)
+    os.remove(path)
+    os.remove(beside(path))
+    return told == wanted
 
 
 def is_nobodys(program, path, content, found):
@@ -429,6 +440,10 @@ def main(words):
         broken = [(it, *other) for it in stores for other in others]
         tried += pool.map(lambda it: is_refused_by(program, f"{folder}/line {it[0]}", *it[1]), enumerate(broken))
         tried += (is_nobodys(program, f"{folder}/nobody's", it, read_store(it)) for it in stores)
+        # (the numbers of turns are those of 7 and of 4 to 6)
+        served = [((), VALUE, 61), ((((1,), 8),), 13, 24), ((((2,), 5),), 13, 39), ((((1,), 8), ((2,), 5)), 13, 2), ((((1, 2), 3),), 13, 48)]
+        served += [((((1,), 100), ((2,), 5)), 105, 2), ((((3,), 1), ((1, 3), 1)), 13, 61)]
+        tried += (is_served(program, f"{folder}/served", line, *it) for it in served)
         missing = f"{folder}/none"
         tried.append(called(program, "store", missing) == (4, "", "cilknow: file\n") and not os.path.exists(missing))
     kinds = collections.Counter("a store" if isinstance(read_store(it), Record) else f"E{read_store(it)}" for _, it in all_files)

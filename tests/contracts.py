@@ -11,7 +11,6 @@ import re
 
 from common import CRATES, TOP, files_in, in_tree, read
 
-PAGE = f"{TOP}/docs/DEFINITIONS.md"
 # What is no code of a file of sources: comments, texts and characters. (A lifetime has no second quote.)
 NO_CODE = re.compile(r"//[^\n]*|b?\"(?:\\.|[^\"\\])*\"|b?'(?:\\.|[^'\\\n])'", re.S)
 USE = re.compile(r"ghost use Rattle\.([\w.]+?)(?:\.\{([^}]*)\}|(?: as (\w+))?)\s*;", re.S)
@@ -185,9 +184,9 @@ def declared_in(text):
     return found
 
 
-def definitions():
-    """The definitions that public clauses name: for each file and name a call that does."""
-    found, known = {}, {it for it in os.listdir(CRATES) if os.path.isdir(f"{CRATES}/{it}")}
+def namings():
+    """What public clauses name: the file and the name of a definition, and the call."""
+    known = {it for it in os.listdir(CRATES) if os.path.isdir(f"{CRATES}/{it}")}
     for crate in sorted(known):
         for call in calls(crate):
             pairs = {pair for _, _, text in call.clauses for pair in named(text, call.brings)}
@@ -196,36 +195,18 @@ def definitions():
                 if own not in known or path.split(".")[0] in ("declared", "contracts", ""):
                     continue
                 file, name = declaration(own, path, name)
-                found.setdefault((in_tree(file), name), f"{crate}: {f'{call.of}::' if call.of else ''}{call.name}")
-    return found
+                yield in_tree(file), name, f"{crate}: {f'{call.of}::' if call.of else ''}{call.name}"
 
 
-def listed():
-    """What the page of definitions names: pairs of a file and a name."""
-    pairs, files = set(), []
-    for line in read(PAGE).splitlines():
-        cells = line.strip().strip("|").split(" | ")
-        if not line.startswith("|") or len(cells) < 3:
-            continue
-        if cells[-1].strip().rstrip("|").strip() != "same":
-            files, folder = [], ""
-            for file in re.findall(r"`([^`]+\.antt)`", cells[-1]):
-                folder = os.path.dirname(file) or folder
-                files.append(os.path.join(folder, os.path.basename(file)))
-        for name in re.findall(r"``? ?([^`]+?) ?`", cells[0]):
-            pairs.update((file, name) for file in files)
-    return pairs
+def definitions():
+    """The definitions that public clauses name: pairs of a file and a name."""
+    return {(file, name) for file, name, _ in namings()}
 
 
-def listed_definitions():
-    """The definitions that the page lists, each by the path of its file and its name there."""
-    found = set()
-    for file, name in listed():
-        path = f"{TOP}/{file}"
-        if os.path.exists(path):
-            # (an operator may stand on the page without its gaps)
-            found.update((path, it) for it in items(path) if name in (it, it.replace("◌", "")))
-    return found
+def named_definitions():
+    """The definitions that public clauses name, each by the path of its file and its name there."""
+    found = {(f"{TOP}/{file}", name) for file, name in definitions()}
+    return {(path, name) for path, name in found if os.path.exists(path) and name in items(path)}
 
 
 def without_comments(text):
@@ -287,20 +268,26 @@ def origin(module, name):
     return f"{in_tree(path)}: {own}"
 
 
+def named_by(path, name):
+    """The definitions that one names, as pairs of a file and a name."""
+    item, found = items(path)[name], set()
+    for module, own in named("\n".join([*item.around, *item.lines]), scope_of(path)):
+        crate, _, file = module.partition(".specs.")
+        if os.path.isdir(f"{CRATES}/{crate}") and file.split(".")[0] not in ("declared", "contracts", ""):
+            there, own = declaration(crate, file, own)
+            if os.path.exists(there) and own in items(there):
+                found.add((there, own))
+    return found
+
+
 def stood_on(pairs):
     """The definitions of pairs of a file and a name, and all that these stand on, as such pairs."""
     found, left = set(), list(pairs)
     while left:
-        path, name = left.pop()
-        if (path, name) in found:
-            continue
-        found.add((path, name))
-        item = items(path)[name]
-        for module, own in named("\n".join([*item.around, *item.lines]), scope_of(path)):
-            crate, _, file = module.partition(".specs.")
-            if os.path.isdir(f"{CRATES}/{crate}") and file.split(".")[0] not in ("declared", "contracts", ""):
-                there, own = declaration(crate, file, own)
-                left += [(there, own)] if os.path.exists(there) and own in items(there) else []
+        pair = left.pop()
+        if pair not in found:
+            found.add(pair)
+            left += named_by(*pair)
     return found
 
 

@@ -28,7 +28,6 @@ named:
     crates          crates
     transcripts     files of transcripts/
     scripts         scripts of examples/scripts
-    listed          definitions that the page of definitions lists
     named           definitions that public clauses name
     errors          numbers on the page of errors
 
@@ -89,7 +88,6 @@ OF_CRATE = {
 # What is counted of the whole.
 OF_ALL = {
     "scripts": lambda: len(files_in(f"{TOP}/examples/scripts", ".script")),
-    "listed": lambda: len(contracts.listed_definitions()),
     "named": lambda: len(contracts.definitions()),
     "errors": lambda: len({*re.findall(r"(?m)^\| E(\d+)\b", read(f"{TOP}/docs/ERRORS.md"))}),
 }

@@ -4,8 +4,8 @@ reader sees.
 usage: bin/lock_promises           compares; the status is 1 where something differs
        bin/lock_promises --write   writes the file anew
 
-The file has a section for each public call with a clause, and for each definition that docs/DEFINITIONS.md or
-docs/PROMISES.md names with its file:
+The file has a section for each public call with a clause, for each definition that such a clause names, or
+docs/PROMISES.md with its file, and for each that one of these names:
 
     == FILE: CALL           the call's head, and a line or more for each clause, with its name
     == FILE: DEFINITION     its lines
@@ -27,7 +27,7 @@ from common import TOP, Tally, crates, in_tree, read, write
 LOCK = f"{TOP}/docs/promises.lock"
 PROMISES = f"{TOP}/docs/PROMISES.md"
 HEAD = """\
-# What is promised: the public clauses, and the definitions that the pages name, as they stand in the sources.
+# What is promised: the public clauses, and the definitions that they name, as they stand in the sources.
 # `bin/lock_promises --write` writes this file, and the gate compares it (`bin/lock_promises`).
 """
 
@@ -87,7 +87,8 @@ def text_of(path, name):
 
 def of_definitions():
     """The sections of definitions, and those of what they stand on."""
-    pairs = on_page() | contracts.listed_definitions()
+    pairs = on_page() | contracts.named_definitions()
+    pairs = pairs.union(*(contracts.named_by(*pair) for pair in pairs))
     for path, name in pairs:
         yield f"{in_tree(path)}: {name}", text_of(path, name)
     below = collections.defaultdict(list)

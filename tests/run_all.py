@@ -23,7 +23,7 @@ GATE = "gate"
 CHECKS = {
     "count": "bin/count",
     "promises": "bin/lock_promises",
-    "definitions": "tests/check_definitions.py",
+    "definitions": "bin/definitions --look",
     "paths": "tests/check_paths.py",
     "tried_edits": "bin/wrong_bodies --look",
     "protocols": "bin/wrong_protocols --look",

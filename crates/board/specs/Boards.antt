@@ -1,11 +1,19 @@
 -- A board and its notes, as callers see them.
-use Rattle.std.specs.Prelude.{◌≡◌, ℕ, IfSome, Option, Some}
+use Rattle.std.specs.Prelude.{◌≡◌, ℕ, IfSome, List, Option, Some}
 use Rattle.ids.specs.declared.outcome.Outcome.{Outcome}
+use Rattle.saved_values.specs.declared.value.SavedValue.{SavedValue}
+use Rattle.serial_meaning.specs.Job.{JobOf, meaning_of}
+use Rattle.agreement.specs.Agreement.{AllSavedAgree}
 
--- a board: which it is, and the outcome that it takes
+-- a board: which it is, its job, and the saved values with which that goes on
 pub record BoardOf : Type 0 where
   pub board : ℕ
-  pub outcome : Outcome
+  pub job : JobOf
+  pub saved : List SavedValue
+
+-- an outcome is the job's meaning, where the values agree with which it goes on; where there are none it is the meaning
+abbrev pub IsMeant : JobOf → List SavedValue → Outcome → Type 0
+IsMeant job saved o = AllSavedAgree job saved → o ≡ meaning_of job
 
 -- a note: the board that it is of, and the outcome that it knows, if it knows one
 pub record NoteOf : Type 0 where

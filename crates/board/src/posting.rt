@@ -1,42 +1,58 @@
-ghost use Rattle.std.specs.Prelude.{◌≡◌, IfErr, None, OnOk, Some};
-ghost use Rattle.serial_meaning.specs.Job.{meaning_of};
-ghost use Rattle.board.specs.Boards.{Agree, StaysKnown};
+ghost use Rattle.std.specs.Prelude.{◌≡◌, [], IfErr, None, OnOk, Some};
+ghost use Rattle.board.specs.Boards.{Agree, IsMeant, StaysKnown};
 
 use crate::notes::Note;
 use once_cell::race::OnceBox;
+use saved_values::SavedTable;
 use serial_meaning::{Job, Outcome};
 use std::alloc::Global;
 use std::marker::Model;
 use std::snapshot::Snapshot;
 
-/// Where the outcome of a job stands once it is known. Threads share it by reference. Contracts see which board it is, and the
-/// outcome that it takes, the meaning of its job.
+/// Where the outcome of a job stands once it is known. Threads share it by reference. Contracts see which board it is, its job, and the
+/// saved values with which that goes on.
 #[derive(Drop)]
 pub struct Board {
     cell: OnceBox<Outcome>,
     alloc: Global,
     job: Snapshot<Job>,
+    saved: Snapshot<SavedTable>,
 }
 
 impl Model for Board {
     ghost use Rattle.once_cell.specs.Once.{cell_name};
-    ghost use Rattle.serial_meaning.specs.Job.{meaning_of};
+    ghost use Rattle.std.specs.Coded.{codes as known};
+    ghost use Rattle.task_tree.specs.contracts.tree.Expr as expr;
+    ghost use Rattle.task_tree.specs.contracts.tree.Block as block;
+    ghost use Rattle.task_tree.specs.contracts.tree.End as end;
     ghost use Rattle.board.specs.Boards.{BoardOf};
 
     ghost Value = { BoardOf };
 
-    ghost view = { λ b. record { board = cell_name b.cell; outcome = meaning_of b.job.value } };
+    ghost coded = { Prim.hlevel (known, expr.the_row.coded, block.the_row.coded, end.the_row.coded) };
+
+    ghost view = { λ b. record { board = cell_name b.cell; job = b.job.value; saved = b.saved.value } };
 }
 
 impl Board {
     /// An empty board for a job; takes no memory.
     pub fn new(alloc: Global, job: &Job) -> Board
-        ensures { result.outcome ≡ meaning_of job.now }
+        ensures job { result.job ≡ job.now }
+        ensures saved { result.saved ≡ [] }
+    {
+        Board::over(alloc, job, &SavedTable::new())
+    }
+
+    /// An empty board for a job that goes on with saved values; takes no memory.
+    pub fn over(alloc: Global, job: &Job, saved: &SavedTable) -> Board
+        ensures job { result.job ≡ job.now }
+        ensures saved { result.saved ≡ saved.now }
     {
         Board {
             cell: OnceBox::new(alloc),
             alloc,
             job: Snapshot::of(job),
+            saved: Snapshot::of(saved),
         }
     }
 
@@ -49,11 +65,11 @@ impl Board {
         }
     }
 
-    /// Sets the outcome, which has to be the meaning of the board's job. Where one is set already, or without memory, it comes
-    /// back.
+    /// Sets the outcome, which has to be the meaning of the board's job, if the saved values agree with which that goes on. Where one is set
+    /// already, or without memory, it comes back.
     pub fn publish(&self, note: &mut Note, outcome: Outcome) -> Result<(), Outcome>
         requires board { note.old.board ≡ self.now.board }
-        requires meaning { outcome ≡ self.now.outcome }
+        requires meaning { IsMeant self.now.job self.now.saved outcome }
         ensures board { note.new.board ≡ note.old.board }
         ensures ok { OnOk result ((note.old.known ≡ None) × (note.new.known ≡ Some outcome)) }
         ensures err { IfErr result (λ o. o ≡ outcome) }

@@ -1,5 +1,6 @@
 ghost use Rattle.std.specs.Prelude.{◌≡◌, IfOk};
 ghost use Rattle.serial_meaning.specs.Job.{meaning_of};
+ghost use Rattle.board.specs.Boards.{IsMeant};
 
 use crate::{Board, Note, Outcome};
 use kind_check::check;
@@ -45,7 +46,7 @@ fn an_outcome_is_read_on_another_thread(rt: HostRuntime) -> Result<(), Fail> {
     let (published, ()) = join(
         &rt,
         || -> Result<(), Outcome>
-            requires { outcome ≡ shared.now.outcome }
+            requires { IsMeant shared.now.job shared.now.saved outcome }
         { shared.publish(&mut shared.note(), outcome) },
         || (),
     );

@@ -4,6 +4,7 @@ use Rattle.std.proofs.Math.Seq.{drop-cons}
 use Rattle.ids.specs.declared.outcome.Outcome.{Outcome}
 use Rattle.disk.specs.Device.{Device}
 use Rattle.serial_meaning.specs.Job.{JobOf, meaning_of}
+use Rattle.world_steps.specs.Agrees.{StoredAgree}
 use Rattle.world_steps.specs.Calls.{told_of}
 use Rattle.world_steps.specs.Runs.{Runs, ends, goes}
 use Rattle.world_steps.specs.Runs.{Entry as RunEntry}
@@ -44,6 +45,6 @@ module _ (job : JobOf) where
   meant None f = tt
   meant (Some o) f = f o refl
 
-  pub first_meant : (disk : Device) (entries : List Entry) (first : Option Outcome) → first ≡ first_outcome entries → IsSafeHistory job disk entries → IfSome first (λ o. o ≡ meaning_of job)
-  first_meant disk entries first is h =
-      meant first (λ o told. all_meant (first_over disk) h.history.steps h.history.worlds h.history.runs (λ i v at. h.safe.safe.each (suc i) v at) o (ap first_outcome h.history.told ∙ (sym is ∙ told)))
+  pub first_meant : (disk : Device) (entries : List Entry) (first : Option Outcome) → first ≡ first_outcome entries → IsSafeHistory job disk entries → StoredAgree job disk → IfSome first (λ o. o ≡ meaning_of job)
+  first_meant disk entries first is h agree =
+      meant first (λ o told. all_meant (first_over disk) h.history.steps h.history.worlds h.history.runs (λ i v at. (h.safe agree).safe.each (suc i) v at) o (ap first_outcome h.history.told ∙ (sym is ∙ told)))

@@ -6,6 +6,7 @@ use Rattle.serial_meaning.specs.Job.{JobOf, IsJob, meaning_of}
 use Rattle.event_script.specs.declared.event.Event.{Event}
 use Rattle.run_tables.specs.Tables.{◌∈◌}
 use Rattle.world_steps.specs.declared.parts.EventAnswer.{EventAnswer}
+use Rattle.world_steps.specs.Agrees.{StoredAgree}
 use Rattle.world_steps.specs.Answers.{StepResult}
 use Rattle.world_steps.specs.Calls.{WorldOn, told_of}
 use Rattle.world_steps.specs.First.{IsFirst}
@@ -94,23 +95,23 @@ goes_on job disk entries more world next event told same stepped there =
     let g = grown job disk entries there.history event told o (subst (λ w. Step job event w o) there.here stepped.1) stepped.3 in
     subst (λ es. Reaches job disk es next false) (sym same) (record { own = there.own; history = g.history; here = stepped.2 ∙ sym g.last })
 
--- each world of a history is safe
-worlds_safe : (job : JobOf) (disk : Device) (entries : List Entry) (ok : IsJob job) (h : IsHistory job disk entries) (w : WorldOf) → w ∈ (first_over disk ∷ h.worlds) → SafeWorld job w
-worlds_safe job disk entries ok h w m = each_safe job ok disk h.steps h.worlds (first_can job disk h.first) h.runs w m
+-- each world of a history is safe, where what is saved on the disk agrees
+worlds_safe : (job : JobOf) (disk : Device) (entries : List Entry) (ok : IsJob job) (h : IsHistory job disk entries) → StoredAgree job disk → (w : WorldOf) → w ∈ (first_over disk ∷ h.worlds) → SafeWorld job w
+worlds_safe job disk entries ok h agree w m = each_safe job ok disk h.steps h.worlds (first_can job disk h.first agree) h.runs w m
 
 -- what is told then is the job's meaning
 pub tells_meaning : (job : JobOf) (disk : Device) (entries : List Entry) (world next : WorldOf) (event : Event) (told : EventAnswer) → Stepped job event told world next → Reaches job disk entries world false
-    → (x : Outcome) → outcome_told told ≡ Some x → x ≡ meaning_of job
-tells_meaning job disk entries world next event told stepped there x is =
+    → StoredAgree job disk → (x : Outcome) → outcome_told told ≡ Some x → x ≡ meaning_of job
+tells_meaning job disk entries world next event told stepped there agree x is =
     let o : StepResult = stepped.0 in
     let step : Step job event (reached there.history) o = subst (λ w. Step job event w o) there.here stepped.1 in
     let g = grown job disk entries there.history event told o step stepped.3 in
-    let safe : SafeWorld job o.world = subst (λ w. SafeWorld job w) g.last (worlds_safe job disk (entries ++ entry event told ∷ []) there.own g.history _ (last_there (first_over disk) g.history.worlds)) in
+    let safe : SafeWorld job o.world = subst (λ w. SafeWorld job w) g.last (worlds_safe job disk (entries ++ entry event told ∷ []) there.own g.history agree _ (last_there (first_over disk) g.history.worlds)) in
     safe.outcome x (told_recorded job event _ o step x (ap outcome_told (sym stepped.3) ∙ is))
 
 -- a history that reaches a world is a safe one
 pub safe_history : (job : JobOf) (disk : Device) (entries : List Entry) → IsJob job → IsHistory job disk entries → IsSafeHistory job disk entries
-safe_history job disk entries ok h = record { history = h; safe = all_safe job ok disk h.steps h.worlds (first_can job disk h.first) h.runs }
+safe_history job disk entries ok h = record { history = h; safe = λ agree. all_safe job ok disk h.steps h.worlds (first_can job disk h.first agree) h.runs }
 
 -- and what stands then is what it leaves
 pub left_by : (job : JobOf) (first : Device) (entries : List Entry) (world : WorldOf) (out_of_memory : Bool) (disk : Device) → Reaches job first entries world out_of_memory → disk ≡ world.disk → IsLeftBy job first entries out_of_memory disk

@@ -7,6 +7,7 @@ use Rattle.event_script.specs.declared.event.Event.{Event}
 use Rattle.event_script.specs.declared.event.Event.TheVariants.{Start, AtNode, Crash, AtHouse, HouseCrash, Cut}
 use Rattle.world_steps.specs.declared.parts.EventAnswer.{EventAnswer}
 use Rattle.world_steps.specs.declared.parts.EventAnswer.TheVariants as told
+use Rattle.world_steps.specs.Agrees.{StoredAgree}
 use Rattle.world_steps.specs.Calls.{told_of}
 use Rattle.world_steps.specs.First.{IsFirst}
 use Rattle.world_steps.specs.Runs.{Runs, last_of}
@@ -68,10 +69,11 @@ pub record IsHistory (job : JobOf) (disk : Device) (entries : List Entry) : Type
   pub runs : Runs job (first_over disk) steps worlds
   pub told : map told_entry steps ≡ entries
 
--- and all worlds of the run are safe, agree with the serial meaning, and have lost nothing
+-- and where the values agree that are saved on the disk, all worlds of the run are safe, agree with the serial meaning, and have lost
+-- nothing; on a disk that was formatted for the job no value is saved
 pub record IsSafeHistory (job : JobOf) (disk : Device) (entries : List Entry) : Type 0 where
   pub history : IsHistory job disk entries
-  pub safe : AllSafe job (first_over disk ∷ history.worlds)
+  pub safe : StoredAgree job disk → AllSafe job (first_over disk ∷ history.worlds)
 
 -- the world that it reaches
 abbrev pub reached : {job : JobOf} {disk : Device} {entries : List Entry} → IsHistory job disk entries → WorldOf

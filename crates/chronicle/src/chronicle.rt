@@ -3,6 +3,7 @@ ghost use Rattle.std.specs.List.{range_with_len};
 ghost use Rattle.ids.specs.declared.outcome.Outcome.{Outcome};
 ghost use Rattle.kind_check.specs.Total.{Takes};
 ghost use Rattle.serial_meaning.specs.Job.{meaning_of};
+ghost use Rattle.world_steps.specs.Agrees.{StoredAgree};
 ghost use Rattle.world_steps.specs.Answers.{StepResult};
 ghost use Rattle.world_steps.specs.Calls.{IsOfJob, IsWholeOfJob, told_of};
 ghost use Rattle.world_steps.specs.Steps.{Step as StepOf};
@@ -153,8 +154,8 @@ impl<'a, D: SteadyDisk + Drop> Chronicle<'a, D> {
     }
 
     /// An event of the seat's actor is carried out, and becomes the seat's next entry. What it tells is of a step of the world that was
-    /// under the lock, and an outcome that it tells is the job's meaning. E9 where there is no memory, and from then on; the seat is
-    /// as it was then.
+    /// under the lock. Where what is saved on the disk agrees with which the history begins, an outcome that it tells is the job's meaning.
+    /// E9 where there is no memory, and from then on; the seat is as it was then.
     pub fn commit<R: Wait>(
         &self,
         rt: &R,
@@ -167,8 +168,8 @@ impl<'a, D: SteadyDisk + Drop> Chronicle<'a, D> {
         ensures entry { IfOk result (λ c. seat.new.entries ≡ seat.old.entries ++ entry event c.told ∷ []) }
         ensures step { IfOk result (λ c. (w : WorldOf) × (o : StepResult) × StepOf self.now.job event w o
             × (c.told ≡ told_of o.answer)) }
-        ensures outcome { IfOk result (λ c. (o : Outcome) → outcome_told c.told ≡ Some o
-            → o ≡ meaning_of self.now.job) }
+        ensures outcome { IfOk result (λ c. StoredAgree self.now.job self.now.first → (o : Outcome)
+            → outcome_told c.told ≡ Some o → o ≡ meaning_of self.now.job) }
         ensures err { OnErr result (seat.new ≡ seat.old) }
     {
         let continued = self.enter(rt, seat, event, None, None, None)?;
@@ -195,8 +196,8 @@ impl<'a, D: SteadyDisk + Drop> Chronicle<'a, D> {
         ensures entry { IfOk result (λ c. seat.new.entries ≡ seat.old.entries ++ entry event c.committed.told ∷ []) }
         ensures step { IfOk result (λ c. (w : WorldOf) × (o : StepResult) × StepOf self.now.job event w o
             × (c.committed.told ≡ told_of o.answer)) }
-        ensures outcome { IfOk result (λ c. (o : Outcome) → outcome_told c.committed.told ≡ Some o
-            → o ≡ meaning_of self.now.job) }
+        ensures outcome { IfOk result (λ c. StoredAgree self.now.job self.now.first → (o : Outcome)
+            → outcome_told c.committed.told ≡ Some o → o ≡ meaning_of self.now.job) }
         ensures fits { IfOk result (λ c. IfSome c.next (λ w. Takes self.now.job.program w.thread (length w.numbers))) }
         ensures err { OnErr result (seat.new ≡ seat.old) }
     {
@@ -228,8 +229,8 @@ impl<'a, D: SteadyDisk + Drop> Chronicle<'a, D> {
         ensures entry { IfOk result (λ c. seat.new.entries ≡ seat.old.entries ++ entry event c.committed.told ∷ []) }
         ensures step { IfOk result (λ c. (w : WorldOf) × (o : StepResult) × StepOf self.now.job event w o
             × (c.committed.told ≡ told_of o.answer)) }
-        ensures outcome { IfOk result (λ c. (o : Outcome) → outcome_told c.committed.told ≡ Some o
-            → o ≡ meaning_of self.now.job) }
+        ensures outcome { IfOk result (λ c. StoredAgree self.now.job self.now.first → (o : Outcome)
+            → outcome_told c.committed.told ≡ Some o → o ≡ meaning_of self.now.job) }
         ensures fits { IfOk result (λ c. IfSome c.next (λ w. Takes self.now.job.program w.thread (length w.numbers))) }
         ensures err { OnErr result (seat.new ≡ seat.old) }
     {
@@ -260,8 +261,8 @@ impl<'a, D: SteadyDisk + Drop> Chronicle<'a, D> {
         ensures entry { IfOk result (λ d. seat.new.entries ≡ seat.old.entries ++ entered place d) }
         ensures step { IfOk result (λ d. IfSome (told_in place d) (λ e. (w : WorldOf) × (o : StepResult)
             × StepOf self.now.job e.event w o × (e.told ≡ told_of o.answer))) }
-        ensures outcome { IfOk result (λ d. IfSome (told_in place d) (λ e. (o : Outcome)
-            → outcome_told e.told ≡ Some o → o ≡ meaning_of self.now.job)) }
+        ensures outcome { IfOk result (λ d. IfSome (told_in place d) (λ e. StoredAgree self.now.job self.now.first
+            → (o : Outcome) → outcome_told e.told ≡ Some o → o ≡ meaning_of self.now.job)) }
         ensures err { OnErr result (seat.new ≡ seat.old) }
     {
         let mut kept = self.lock.take(rt, &mut seat.seat);
@@ -291,8 +292,8 @@ impl<'a, D: SteadyDisk + Drop> Chronicle<'a, D> {
         ensures entry { IfOk result (λ c. seat.new.entries ≡ seat.old.entries ++ entry event c.committed.told ∷ []) }
         ensures step { IfOk result (λ c. (w : WorldOf) × (o : StepResult) × StepOf self.now.job event w o
             × (c.committed.told ≡ told_of o.answer)) }
-        ensures outcome { IfOk result (λ c. (o : Outcome) → outcome_told c.committed.told ≡ Some o
-            → o ≡ meaning_of self.now.job) }
+        ensures outcome { IfOk result (λ c. StoredAgree self.now.job self.now.first → (o : Outcome)
+            → outcome_told c.committed.told ≡ Some o → o ≡ meaning_of self.now.job) }
         ensures fits { IfOk result (λ c. IfSome c.next (λ w. Takes self.now.job.program w.thread (length w.numbers))) }
         ensures err { OnErr result (seat.new ≡ seat.old) }
     {
@@ -455,8 +456,8 @@ fn comes<'a, D: SteadyDisk + Drop>(
     ensures history { IfOk result (λ d. kept.new.entries ≡ kept.old.entries ++ entered place d) }
     ensures step { IfOk result (λ d. IfSome (told_in place d) (λ e. (w : WorldOf) × (o : StepResult)
         × StepOf kept.old.on.job e.event w o × (e.told ≡ told_of o.answer))) }
-    ensures outcome { IfOk result (λ d. IfSome (told_in place d) (λ e. (o : Outcome)
-        → outcome_told e.told ≡ Some o → o ≡ meaning_of kept.old.on.job)) }
+    ensures outcome { IfOk result (λ d. IfSome (told_in place d) (λ e. StoredAgree kept.old.on.job kept.old.first
+        → (o : Outcome) → outcome_told e.told ≡ Some o → o ≡ meaning_of kept.old.on.job)) }
     ensures err { OnErr result (kept.new.entries ≡ kept.old.entries) }
 
     // A packet that was found comes, or there is no memory for it; where none was found nothing changes.

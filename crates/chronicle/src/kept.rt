@@ -2,6 +2,7 @@ ghost use Rattle.std.specs.Prelude.{◌≡◌, ◌++◌, ◌⊎◌, [], ◌∷�
 ghost use Rattle.ids.specs.declared.outcome.Outcome.{Outcome as OutcomeOf};
 ghost use Rattle.serial_meaning.specs.Job.{meaning_of};
 ghost use Rattle.turn_lock.specs.Histories.{own};
+ghost use Rattle.world_steps.specs.Agrees.{StoredAgree};
 ghost use Rattle.world_steps.specs.Answers.{StepResult};
 ghost use Rattle.world_steps.specs.Calls.{IsOfJob, IsOutOfMemory, IsWholeOfJob, told_of};
 ghost use Rattle.world_steps.specs.First.{IsFirst};
@@ -129,8 +130,8 @@ impl<'a, D: SteadyDisk + Drop> Kept<'a, D> {
 
     /// An event of the seat's actor is carried out, an Exec by the turn at hand and a Whole by the task that was evaluated whole, if it is
     /// the ready frame's own. It goes to the end of
-    /// the history, which had of the actor just the seat's entries; an outcome that is told is the job's meaning. E9 where there is no
-    /// memory, also from then on: the history is as it was, and so is the world, except that a clearinghouse that was to answer
+    /// the history, which had of the actor just the seat's entries; where what is saved on the first disk agrees, an outcome that is told
+    /// is the job's meaning. E9 where there is no memory, also from then on: the history is as it was, and so is the world, except that a clearinghouse that was to answer
     /// is stopped.
     pub fn enter(
         &mut self,
@@ -150,8 +151,8 @@ impl<'a, D: SteadyDisk + Drop> Kept<'a, D> {
         ensures step { IfOk result (λ c. (o : StepResult) × StepOf self.old.on.job event self.old.on.world o
             × (self.new.on.world ≡ o.world) × (c.told ≡ told_of o.answer)) }
         ensures history { IfOk result (λ c. self.new.entries ≡ self.old.entries ++ entry event c.told ∷ []) }
-        ensures outcome { IfOk result (λ c. (o : OutcomeOf) → outcome_told c.told ≡ Some o
-            → o ≡ meaning_of self.old.on.job) }
+        ensures outcome { IfOk result (λ c. StoredAgree self.old.on.job self.old.first → (o : OutcomeOf)
+            → outcome_told c.told ≡ Some o → o ≡ meaning_of self.old.on.job) }
         ensures out_of_memory { OnErr result ((self.new.entries ≡ self.old.entries) × (self.new.out_of_memory ≡ true)) }
         ensures left { OnErr result ((self.new.on.world ≡ self.old.on.world)
             ⊎ ((o : StepResult) × IsOutOfMemory event self.old.on self.new.on.is_placed o

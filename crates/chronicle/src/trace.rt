@@ -4,6 +4,7 @@ ghost use Rattle.serial_meaning.specs.Job.{JobOf, meaning_of};
 ghost use Rattle.event_script.specs.Back.{IsRead};
 ghost use Rattle.event_script.specs.Scripts.{script};
 ghost use Rattle.event_script.specs.Written.{written};
+ghost use Rattle.world_steps.specs.Agrees.{StoredAgree};
 ghost use Rattle.chronicle.specs.History.{IsSafeHistory, first_outcome};
 ghost use Rattle.chronicle.specs.Texts.{ended, events_of, text_of};
 
@@ -54,10 +55,10 @@ impl Trace {
     }
 
     /// The outcome that an event of the clearinghouse told first, if one did. It is the job's meaning, where the trace is a safe history
-    /// of the job.
+    /// of the job over a disk on which what is saved agrees.
     pub fn outcome(&self) -> Option<Outcome>
         ensures first { result ≡ first_outcome self.now }
-        ensures meant { (job : JobOf) (first : Device) → IsSafeHistory job first self.now
+        ensures meant { (job : JobOf) (first : Device) → IsSafeHistory job first self.now → StoredAgree job first
             → IfSome result (λ o. o ≡ meaning_of job) }
     {
         first_outcome(self.entries.as_slice())

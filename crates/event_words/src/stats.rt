@@ -7,7 +7,7 @@ use task_tree::Program;
 use world::RunCounts;
 
 /// The kinds of packets, by their numbers from 1 on.
-const KINDS: [&str; 13] = [
+const KINDS: [&str; 15] = [
     "Join",
     "Roster",
     "Steal",
@@ -21,6 +21,8 @@ const KINDS: [&str; 13] = [
     "Abort",
     "Beat",
     "Piece",
+    "Save",
+    "SavedGrant",
 ];
 
 /// Writes how many turns were taken, how many by each thread that took one, and the level of the deepest place; a line each.

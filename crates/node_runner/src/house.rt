@@ -1,8 +1,10 @@
 ghost use Rattle.std.specs.Prelude.{◌≡◌, Some};
 ghost use Rattle.ids.specs.declared.outcome.Outcome.{Outcome as OutcomeOf};
 ghost use Rattle.serial_meaning.specs.Job.{meaning_of};
+ghost use Rattle.world_steps.specs.Agrees.{StoredAgree};
 ghost use Rattle.chronicle.specs.History.{outcome_told};
 ghost use Rattle.chronicle.specs.Seats.{IsSeatIn};
+ghost use Rattle.node_runner.specs.Runs.{TakesOutcomesOf};
 
 use crate::counts::{End, Turns};
 use crate::fates::Fates;
@@ -46,7 +48,7 @@ pub(crate) fn run_house<'a, R: Wait + Clock, G: Gate + Sync, D: SteadyDisk + Dro
     mut seat: ActorSeat<'a, D>,
 ) -> ActorSeat<'a, D>
     requires seat { IsSeatIn shared.now.chronicle.now seat }
-    requires tie { shared.now.board.now.outcome ≡ meaning_of shared.now.chronicle.now.job }
+    requires tie { TakesOutcomesOf shared.now.chronicle.now shared.now.board.now }
     ensures { IsSeatIn shared.entry.now.chronicle.now result }
 {
     let mut note = shared.board.note();
@@ -84,7 +86,7 @@ fn turn<'a, R: Wait + Clock, G: Gate + Sync, D: SteadyDisk + Drop>(
     house: &mut House,
 ) -> bool
     requires seat { IsSeatIn shared.now.chronicle.now seat.old }
-    requires tie { shared.now.board.now.outcome ≡ meaning_of shared.now.chronicle.now.job }
+    requires tie { TakesOutcomesOf shared.now.chronicle.now shared.now.board.now }
     requires note { note.old.board ≡ shared.now.board.now.board }
     ensures seat { IsSeatIn shared.entry.now.chronicle.now seat.new }
     ensures note { note.new.board ≡ note.old.board }
@@ -129,7 +131,7 @@ fn saves<'a, R: Wait + Clock, G: Gate + Sync, D: SteadyDisk + Drop>(
     house: &mut House,
 ) -> bool
     requires seat { IsSeatIn shared.now.chronicle.now seat.old }
-    requires tie { shared.now.board.now.outcome ≡ meaning_of shared.now.chronicle.now.job }
+    requires tie { TakesOutcomesOf shared.now.chronicle.now shared.now.board.now }
     requires note { note.old.board ≡ shared.now.board.now.board }
     ensures seat { IsSeatIn shared.entry.now.chronicle.now seat.new }
     ensures note { note.new.board ≡ note.old.board }
@@ -161,7 +163,7 @@ fn goes_on<'a, R: Wait, G: Gate + Sync, D: SteadyDisk + Drop>(
     event: HouseEvent,
 ) -> bool
     requires seat { IsSeatIn shared.now.chronicle.now seat.old }
-    requires tie { shared.now.board.now.outcome ≡ meaning_of shared.now.chronicle.now.job }
+    requires tie { TakesOutcomesOf shared.now.chronicle.now shared.now.board.now }
     requires note { note.old.board ≡ shared.now.board.now.board }
     ensures seat { IsSeatIn shared.entry.now.chronicle.now seat.new }
     ensures note { note.new.board ≡ note.old.board }
@@ -180,10 +182,10 @@ fn follows<G: Gate + Sync, D: SteadyDisk + Drop>(
     note: &mut Note,
     committed: &Committed,
 ) -> bool
-    requires tie { shared.now.board.now.outcome ≡ meaning_of shared.now.chronicle.now.job }
+    requires tie { TakesOutcomesOf shared.now.chronicle.now shared.now.board.now }
     requires note { note.old.board ≡ shared.now.board.now.board }
-    requires outcome { (o : OutcomeOf) → outcome_told committed.now.told ≡ Some o
-        → o ≡ meaning_of shared.now.chronicle.now.job }
+    requires outcome { StoredAgree shared.now.chronicle.now.job shared.now.chronicle.now.first → (o : OutcomeOf)
+        → outcome_told committed.now.told ≡ Some o → o ≡ meaning_of shared.now.chronicle.now.job }
     ensures { note.new.board ≡ note.old.board }
 {
     if let Some(outcome) = committed.outcome() {

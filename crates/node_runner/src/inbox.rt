@@ -1,6 +1,7 @@
 ghost use Rattle.std.specs.Prelude.{◌≡◌, IfOk, IfSome, Some};
 ghost use Rattle.ids.specs.declared.outcome.Outcome.{Outcome as OutcomeOf};
 ghost use Rattle.serial_meaning.specs.Job.{meaning_of};
+ghost use Rattle.world_steps.specs.Agrees.{StoredAgree};
 ghost use Rattle.chronicle.specs.Deliveries.{delivery};
 ghost use Rattle.chronicle.specs.History.{actor_number, outcome_told};
 ghost use Rattle.chronicle.specs.Seats.{IsSeatIn};
@@ -57,8 +58,8 @@ impl Inbox {
     ) -> Result<Option<Delivered>, NoMemory>
         requires { IsSeatIn chronicle.now seat.old }
         ensures same { IsSeatIn chronicle.entry.now seat.new }
-        ensures outcome { IfOk result (λ d. IfSome d (λ came. (o : OutcomeOf)
-            → outcome_told came.committed.told ≡ Some o → o ≡ meaning_of chronicle.entry.now.job)) }
+        ensures outcome { IfOk result (λ d. IfSome d (λ came. StoredAgree chronicle.entry.now.job chronicle.entry.now.first
+            → (o : OutcomeOf) → outcome_told came.committed.told ≡ Some o → o ≡ meaning_of chronicle.entry.now.job)) }
     {
         if !seat.owns(&delivery_to(self.place, 0)) {
             return Ok(None);
@@ -132,8 +133,8 @@ impl Inbox {
         requires seat { IsSeatIn chronicle.now seat.old }
         requires owns { actor_number (delivery self.old.place 0) ≡ seat.old.actor }
         ensures same { IsSeatIn chronicle.entry.now seat.new }
-        ensures outcome { IfOk result (λ d. IfSome d (λ came. (o : OutcomeOf)
-            → outcome_told came.committed.told ≡ Some o → o ≡ meaning_of chronicle.entry.now.job)) }
+        ensures outcome { IfOk result (λ d. IfSome d (λ came. StoredAgree chronicle.entry.now.job chronicle.entry.now.first
+            → (o : OutcomeOf) → outcome_told came.committed.told ≡ Some o → o ≡ meaning_of chronicle.entry.now.job)) }
     {
         let place = self.place;
         match chronicle.commit_delivery(rt, alloc, seat, self.next, self.receiver, place)? {

@@ -1,9 +1,8 @@
 ghost use Rattle.std.specs.Prelude.{◌≡◌, All, IfOk, Some, vec_len};
-ghost use Rattle.serial_meaning.specs.Job.{meaning_of};
 ghost use Rattle.world_steps.specs.Found.{IsKeptOf};
 ghost use Rattle.chronicle.specs.Kept.{IsLeftBy};
 ghost use Rattle.chronicle.specs.Seats.{IsSeatIn};
-ghost use Rattle.node_runner.specs.Runs.{IsContextIn, IsRanOf, IsWorkerOf, KeepsOutcome};
+ghost use Rattle.node_runner.specs.Runs.{IsContextIn, IsRanOf, IsWorkerOf, KeepsOutcome, TakesOutcomesOf};
 
 use crate::config::RunConfig;
 use crate::counts::{Counts, End};
@@ -41,9 +40,10 @@ pub struct Ran<D: Drop> {
 }
 
 /// Runs a job over the disk with which its run begins, on as many nodes as the configuration says, each on a thread of its own and with as many
-/// body workers as it says, each on another, with a clearinghouse on one more, under the faults that it says. The outcome is the job's meaning;
-/// the trace is a safe history of the job over the very disk that is given, and tells this outcome first; and the disk that comes back is the one
-/// that this history leaves, read once more, and keeps the outcome, whatever a crash leaves of it.
+/// body workers as it says, each on another, with a clearinghouse on one more, under the faults that it says. What was saved on the disk isn't
+/// done again. The outcome is the job's meaning, where what was saved there agrees, as it does on a disk that was formatted for the job, and
+/// then at each moment of a run over it. The trace is a safe history of the job over the very disk that is given, and tells this outcome first;
+/// and the disk that comes back is the one that this history leaves, read once more, and keeps the outcome, whatever a crash leaves of it.
 ///
 /// Refused as `TurnsSpent` (E95) where all turns were taken before there was an outcome, as `Memory` (E96) where there is no memory or the
 /// system refuses a thread, and as `Disk` (E97) where the clearinghouse can't go on, or the outcome isn't found on the disk: what that keeps is
@@ -65,6 +65,7 @@ pub fn run_job<'a, R: Threads + Wait + Clock + Sync, G: Gate + Sync, D: SteadyDi
     ensures kept { IfOk result (λ r. KeepsOutcome (D.device r.disk).file first.entry.job.number r.outcome) }
 {
     let job = first.job();
+    let saved = first.saved().copied();
     let mut first = first;
     let mut patience = PATIENCE;
     for _ in 0..u64::MAX {
@@ -98,7 +99,7 @@ pub fn run_job<'a, R: Threads + Wait + Clock + Sync, G: Gate + Sync, D: SteadyDi
             return Err(RunError::Memory);
         }
         rests(rt);
-        first = FirstDisk::of(job, disk);
+        first = FirstDisk::of(job, disk, saved.copied());
         patience = patience.saturating_mul(2).min(MOST_PATIENCE);
     }
     Err(RunError::Memory)
@@ -138,6 +139,7 @@ fn traced<'a, R: Threads + Wait + Clock + Sync, G: Gate + Sync, D: SteadyDisk + 
     ensures { IfOk result (λ r. IsLeftBy first.entry.job (D.device first.entry.disk) r.trace r.out_of_memory (D.device r.disk)) }
 {
     let job = first.job();
+    let board = Board::over(alloc, job, first.saved());
     let nodes = config.nodes();
     let Ok((chronicle, seats)) = Chronicle::new(alloc, first, nodes) else {
         return Err(RunError::Memory);
@@ -162,7 +164,6 @@ fn traced<'a, R: Threads + Wait + Clock + Sync, G: Gate + Sync, D: SteadyDisk + 
     let Ok(leavers) = Leavers::new(alloc, config) else {
         return Err(RunError::Memory);
     };
-    let board = Board::new(alloc, job);
     let shared = Shared {
         chronicle: &chronicle,
         words: &words,
@@ -192,7 +193,7 @@ fn all_turns<'a, R: Threads + Wait + Clock + Sync, G: Gate + Sync, D: SteadyDisk
 ) -> Result<Vec<ActorSeat<'a, D>>, AllocError>
     requires contexts { All (IsContextIn shared.now.chronicle.now shared.now.words.now) contexts.items }
     requires workers { All (IsWorkerOf shared.now.chronicle.now.job) workers.items }
-    requires tie { shared.now.board.now.outcome ≡ meaning_of shared.now.chronicle.now.job }
+    requires tie { TakesOutcomesOf shared.now.chronicle.now shared.now.board.now }
     ensures seats { IfOk result (λ seats. All (IsSeatIn shared.entry.now.chronicle.now) seats.items) }
     ensures count { IfOk result (λ seats. vec_len seats ≡ vec_len contexts.entry) }
 {
@@ -203,7 +204,7 @@ fn all_turns<'a, R: Threads + Wait + Clock + Sync, G: Gate + Sync, D: SteadyDisk
         { all_work(rt, alloc, shared, workers) },
         || -> Result<Vec<ActorSeat<D>>, AllocError>
             requires contexts { All (IsContextIn shared.now.chronicle.now shared.now.words.now) contexts.items }
-            requires tie { shared.now.board.now.outcome ≡ meaning_of shared.now.chronicle.now.job }
+            requires tie { TakesOutcomesOf shared.now.chronicle.now shared.now.board.now }
             ensures seats { IfOk result (λ seats. All (IsSeatIn shared.entry.now.chronicle.now) seats.items) }
             ensures count { IfOk result (λ seats. vec_len seats ≡ vec_len contexts.entry) }
         { all_act(rt, alloc, shared, contexts) },
@@ -240,7 +241,7 @@ fn all_act<'a, R: Threads + Wait + Clock + Sync, G: Gate + Sync, D: SteadyDisk +
     contexts: Vec<ActorContext<'a, D>>,
 ) -> Result<Vec<ActorSeat<'a, D>>, AllocError>
     requires contexts { All (IsContextIn shared.now.chronicle.now shared.now.words.now) contexts.items }
-    requires tie { shared.now.board.now.outcome ≡ meaning_of shared.now.chronicle.now.job }
+    requires tie { TakesOutcomesOf shared.now.chronicle.now shared.now.board.now }
     ensures seats { IfOk result (λ seats. All (IsSeatIn shared.entry.now.chronicle.now) seats.items) }
     ensures count { IfOk result (λ seats. vec_len seats ≡ vec_len contexts.entry) }
 {
@@ -249,7 +250,7 @@ fn all_act<'a, R: Threads + Wait + Clock + Sync, G: Gate + Sync, D: SteadyDisk +
         contexts,
         &|context: ActorContext<D>| -> ActorSeat<D>
             requires context { IsContextIn shared.now.chronicle.now shared.now.words.now context }
-            requires tie { shared.now.board.now.outcome ≡ meaning_of shared.now.chronicle.now.job }
+            requires tie { TakesOutcomesOf shared.now.chronicle.now shared.now.board.now }
             ensures { IsSeatIn shared.entry.now.chronicle.now result }
         { act(rt, alloc, shared, context) },
     );
@@ -267,7 +268,7 @@ fn act<'a, R: Wait + Clock, G: Gate + Sync, D: SteadyDisk + Drop>(
     context: ActorContext<'a, D>,
 ) -> ActorSeat<'a, D>
     requires context { IsContextIn shared.now.chronicle.now shared.now.words.now context }
-    requires tie { shared.now.board.now.outcome ≡ meaning_of shared.now.chronicle.now.job }
+    requires tie { TakesOutcomesOf shared.now.chronicle.now shared.now.board.now }
     ensures { IsSeatIn shared.entry.now.chronicle.now result }
 {
     let ActorContext { seat, node } = context;

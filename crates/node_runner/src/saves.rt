@@ -6,6 +6,7 @@
 ghost use Rattle.std.specs.Prelude.{◌≡◌, IfOk, IfSome, Some};
 ghost use Rattle.ids.specs.declared.outcome.Outcome.{Outcome as OutcomeOf};
 ghost use Rattle.serial_meaning.specs.Job.{meaning_of};
+ghost use Rattle.world_steps.specs.Agrees.{StoredAgree};
 ghost use Rattle.chronicle.specs.History.{outcome_told};
 ghost use Rattle.chronicle.specs.Seats.{IsSeatIn};
 
@@ -61,8 +62,8 @@ impl Saves {
     ) -> Result<Option<Committed>, NoMemory>
         requires { IsSeatIn chronicle.now seat.old }
         ensures same { IsSeatIn chronicle.entry.now seat.new }
-        ensures outcome { IfOk result (λ d. IfSome d (λ committed. (o : OutcomeOf)
-            → outcome_told committed.told ≡ Some o → o ≡ meaning_of chronicle.entry.now.job)) }
+        ensures outcome { IfOk result (λ d. IfSome d (λ committed. StoredAgree chronicle.entry.now.job chronicle.entry.now.first
+            → (o : OutcomeOf) → outcome_told committed.told ≡ Some o → o ≡ meaning_of chronicle.entry.now.job)) }
     {
         if !seat.owns(&delivery_to(None, 0)) {
             return Ok(None);

@@ -1,6 +1,7 @@
 ghost use Rattle.std.specs.Prelude.{◌≡◌, IfSome, Some};
 ghost use Rattle.ids.specs.declared.outcome.Outcome.{Outcome as OutcomeOf};
 ghost use Rattle.serial_meaning.specs.Job.{meaning_of};
+ghost use Rattle.world_steps.specs.Agrees.{StoredAgree};
 ghost use Rattle.chronicle.specs.History.{outcome_told};
 ghost use Rattle.chronicle.specs.Seats.{IsSeatIn};
 
@@ -42,8 +43,8 @@ pub(crate) fn commit<'a, R: Wait, D: SteadyDisk + Drop>(
 ) -> Option<Committed>
     requires { IsSeatIn chronicle.now seat.old }
     ensures same { IsSeatIn chronicle.entry.now seat.new }
-    ensures outcome { IfSome result (λ c. (o : OutcomeOf) → outcome_told c.told ≡ Some o
-        → o ≡ meaning_of chronicle.entry.now.job) }
+    ensures outcome { IfSome result (λ c. StoredAgree chronicle.entry.now.job chronicle.entry.now.first → (o : OutcomeOf)
+        → outcome_told c.told ≡ Some o → o ≡ meaning_of chronicle.entry.now.job) }
 {
     if !seat.owns(&event) {
         return None;

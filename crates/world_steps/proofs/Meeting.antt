@@ -5,8 +5,8 @@ use Rattle.ids.specs.declared.outcome.Outcome.{Outcome}
 use Rattle.disk.specs.declared.cells.Cell.{Cell}
 use Rattle.disk.specs.Crash.{Shrinks}
 use Rattle.disk.specs.Device.{Device, Unarmed, armed, armed_bytes, called, crashed, passed}
-use Rattle.disk.specs.File.{CrashLeaves, synced}
-use Rattle.disk.proofs.Crashes.{settled-shrinks, synced-shrinks}
+use Rattle.disk.specs.File.{CrashLeaves, bytes_of, synced}
+use Rattle.disk.proofs.Crashes.{crash-leaves-bytes_of, settled-shrinks, synced-shrinks}
 use Rattle.checkpoint.specs.Calls.{Passed, after}
 use Rattle.checkpoint.specs.Commit.{formatting}
 use Rattle.checkpoint.specs.Format.{IsFormatted, fresh}
@@ -16,9 +16,10 @@ use Rattle.checkpoint.specs.declared.record.CheckpointRecord.{CheckpointRecord}
 use Rattle.checkpoint.specs.declared.record.SlotId.TheVariants.{Large}
 use Rattle.event_script.specs.declared.event.Cut.{Cut as CutOf}
 use Rattle.agreement.specs.Agreement.{AllSavedAgree}
+use Rattle.saved_values.specs.declared.value.SavedValue.{SavedValue}
 use Rattle.serial_meaning.specs.Job.{JobOf}
-use Rattle.world_steps.specs.Agrees.{Agrees}
-use Rattle.world_steps.specs.First.{IsFirst}
+use Rattle.world_steps.specs.Agrees.{Agrees, StoredAgree}
+use Rattle.world_steps.specs.First.{IsFirst, IsFirstWith}
 use Rattle.world_steps.specs.Runs.{CanBegin, IsFormattedFor}
 use Rattle.world_steps.specs.Steps.{Applies}
 use Rattle.world_steps.proofs.Cutting.{crashed_armed, cuts}
@@ -152,28 +153,44 @@ can_begin job d is = record {
   saved = tt;
 }
 
--- so one can begin over it
-pub formatted_first : (job : JobOf) (d : Device) → IsStill d → IsFormattedFor job d → IsFirst job d
-formatted_first job d still is = record {
-  still = still;
-  sequence = 0;
-  found = fresh job.number;
-  kept = record { slot = Large false; each = λ c crash. (is.formatted c crash).store };
-  own = refl;
-  no_outcome = refl;
-  none_saved = refl;
-}
+-- so one can begin over it, and nothing is saved there
+pub formatted_first : (job : JobOf) (d : Device) → IsStill d → IsFormattedFor job d → IsFirstWith job d []
+formatted_first job d still is = (
+  record {
+    still = still;
+    sequence = 0;
+    found = fresh job.number;
+    kept = record { slot = Large false; each = λ c crash. (is.formatted c crash).store };
+    own = refl;
+    no_outcome = refl;
+  },
+  refl,
+)
 
--- a run can begin on a disk over which one begins
-pub first_can : (job : JobOf) (d : Device) → IsFirst job d → CanBegin job d
-first_can job d is = record {
+-- where a disk keeps a record, what is saved there is what that has
+pub kept_agree : (job : JobOf) (d : Device) (n : ℕ) (r : CheckpointRecord) → KeepsRecord d.file n r → AllSavedAgree job r.saved → StoredAgree job d
+kept_agree job d n r keeps agree content left m s reads = subst (λ (x : CheckpointRecord). AllSavedAgree job x.saved) (sym (one_store content reads.0 keeps.slot m n s r reads.1 (keeps.each content left)).2) agree
+
+pub formatted_agree : (job : JobOf) (d : Device) → IsFormattedFor job d → StoredAgree job d
+formatted_agree job d is = kept_agree job d 0 (fresh job.number) (record { slot = Large false; each = λ c crash. (is.formatted c crash).store }) tt
+
+agree_kept : (job : JobOf) (d : Device) (n : ℕ) (r : CheckpointRecord) → KeepsRecord d.file n r → StoredAgree job d → AllSavedAgree job r.saved
+agree_kept job d n r keeps agree = agree (bytes_of d.file) (crash-leaves-bytes_of d.file) n r (keeps.slot, keeps.each (bytes_of d.file) (crash-leaves-bytes_of d.file))
+
+-- where the values agree that are saved on a disk over which a run begins, all that a crash leaves of it does
+pub first_agree : (job : JobOf) (d : Device) (saved : List SavedValue) → IsFirstWith job d saved → AllSavedAgree job saved → StoredAgree job d
+first_agree job d saved is agree = kept_agree job d is.0.sequence is.0.found is.0.kept (subst (AllSavedAgree job) (sym is.1) agree)
+
+-- a run can begin on a disk over which one begins, where what is saved there agrees
+pub first_can : (job : JobOf) (d : Device) → IsFirst job d → StoredAgree job d → CanBegin job d
+first_can job d is agree = record {
   unarmed = is.still.unarmed;
   sequence = is.sequence;
   found = is.found;
   kept = is.kept;
   own = is.own;
   meant = λ o there. absurd (no_outcome o (sym is.no_outcome ∙ there));
-  saved = rw (is.none_saved) tt;
+  saved = agree_kept job d is.sequence is.found is.kept agree;
 }
 
 -- all in the first world agrees
@@ -182,7 +199,7 @@ first_agrees job d can = record {
   packets = λ i p is. absurd cc;
   held = λ a g at. absurd (let none = at.up in cc);
   known = λ a g at. absurd (let none = at.up in cc);
-  stored = λ content left n r reads. subst (λ (x : CheckpointRecord). AllSavedAgree job x.saved) (sym (one_store content reads.0 can.kept.slot n can.sequence r can.found reads.1 (can.kept.each content left)).2) can.saved;
+  stored = kept_agree job d can.sequence can.found can.kept can.saved;
   parts = λ a i j n x y up of there. absurd cc;
 }
 

@@ -1,16 +1,17 @@
 //! The disk over which a run of a job begins.
-ghost use Rattle.std.specs.Prelude.{◌≡◌, ◌≢◌, ◌⊎◌, false, IfErr, IfOk};
-ghost use Rattle.checkpoint.specs.Store.{IsSpent, KeepsItself};
+ghost use Rattle.std.specs.Prelude.{◌≡◌, ◌≢◌, IfErr, IfOk};
+ghost use Rattle.agreement.specs.Agreement.{AllSavedAgree};
 ghost use Rattle.disk.specs.Crash.{Only, Shrinks};
 ghost use Rattle.disk.specs.File.{CrashLeaves, bytes_of};
 ghost use Rattle.job_store.specs.Failed.{HasFailed};
-ghost use Rattle.world_steps.specs.First.{IsFirst};
-ghost use Rattle.world_steps.specs.Found.{IsFoundOn, IsRefusedOn, begun_over};
+ghost use Rattle.world_steps.specs.Agrees.{StoredAgree};
+ghost use Rattle.world_steps.specs.First.{IsFirst, IsFirstWith};
+ghost use Rattle.world_steps.specs.Found.{IsFoundOn, IsRefusedOn, StillAgrees};
 ghost use Rattle.world_steps.specs.Runs.{IsFormattedFor};
 ghost use Rattle.world_steps.specs.Seats.{IsStill};
 
 use crate::parts::NoMemory;
-use checkpoint::{Store, StoreError};
+use checkpoint::StoreError;
 use disk::{Disk, MemDisk, SteadyDisk};
 use ids::Outcome;
 use job_store::open_store;
@@ -20,11 +21,13 @@ use std::alloc::Global;
 use std::marker::Model;
 
 /// A disk over which a run of a job can begin: it isn't armed, all of it is there for good, and it is the job's checkpoint, without
-/// an outcome and with no value saved. Contracts see the job and the disk.
+/// an outcome. The values that are saved there are those that an earlier run of the job saved: no test tells that they are the job's.
+/// Contracts see the job, the disk and these values.
 #[derive(Drop)]
 pub struct FirstDisk<'a, D: SteadyDisk + Drop = MemDisk> {
     job: &'a Job,
     disk: D,
+    saved: SavedTable,
 }
 
 impl<'a, D: SteadyDisk + Drop> Model for FirstDisk<'a, D> {
@@ -32,15 +35,15 @@ impl<'a, D: SteadyDisk + Drop> Model for FirstDisk<'a, D> {
     ghost use Rattle.task_tree.specs.contracts.tree.Expr as expr;
     ghost use Rattle.task_tree.specs.contracts.tree.Block as block;
     ghost use Rattle.task_tree.specs.contracts.tree.End as end;
-    ghost use Rattle.world_steps.specs.First.{FirstOf, IsFirst};
+    ghost use Rattle.world_steps.specs.First.{FirstOf, IsFirstWith};
 
     ghost Value = { FirstOf D };
 
     ghost coded = { Prim.hlevel (known, expr.the_row.coded, block.the_row.coded, end.the_row.coded) };
 
-    ghost view = { λ f. record { job = f.job.now; disk = f.disk } };
+    ghost view = { λ f. record { job = f.job.now; disk = f.disk; saved = f.saved } };
 
-    ghost invariant = { λ f. IsFirst f.job.now (D.device f.disk) };
+    ghost invariant = { λ f. IsFirstWith f.job.now (D.device f.disk) f.saved };
 }
 
 /// What was found on a disk: the outcome of its job, or that a run can begin.
@@ -51,13 +54,18 @@ pub enum Found<'a, D: SteadyDisk + Drop> {
 }
 
 impl<'a> FirstDisk<'a, MemDisk> {
-    /// A disk in memory, formatted for a job. Refused only when out of memory (E9).
+    /// A disk in memory, formatted for a job; nothing is saved there. Refused only when out of memory (E9).
     pub fn formatted(alloc: Global, job: &'a Job) -> Result<FirstDisk<'a, MemDisk>, NoMemory>
-        ensures { IfOk result (λ f. (f.job ≡ job.now) × IsFormattedFor job.now (⟦<MemDisk as Disk>⟧.device f.disk)) }
+        ensures formatted { IfOk result (λ f. (f.job ≡ job.now) × IsFormattedFor job.now (⟦<MemDisk as Disk>⟧.device f.disk)) }
+        ensures agree { IfOk result (λ f. StoredAgree job.now (⟦<MemDisk as Disk>⟧.device f.disk)) }
     {
         let mut disk = MemDisk::new(alloc);
         match checkpoint::format(&mut disk, job.number()) {
-            Ok(()) => Ok(FirstDisk { job, disk }),
+            Ok(()) => Ok(FirstDisk {
+                job,
+                disk,
+                saved: SavedTable::new(),
+            }),
             Err(_) => Err(NoMemory),
         }
     }
@@ -65,12 +73,12 @@ impl<'a> FirstDisk<'a, MemDisk> {
 
 impl<'a, D: SteadyDisk + Drop> FirstDisk<'a, D> {
     /// What a disk holds of a job. What is armed is disarmed, as by a crash, and what isn't there for good is synced; where it is empty
-    /// then, the job's checkpoint is made. Where it has no outcome, the values that were saved are dropped, by one commit. Refused, it
-    /// gives the disk back, in this order: E72; E71 for a file that doesn't begin as a checkpoint; E73 for another version; E71 for one
-    /// that is none; E70 for another job; E62 where the sequence is spent of one of the older form, or of one that has saved values. Where
-    /// a byte is there, nothing is written but what makes a checkpoint of the older form one of the newer form, and that commit.
+    /// then, the job's checkpoint is made. Refused, it gives the disk back, in this order: E72; E71 for a file that doesn't begin as a
+    /// checkpoint; E73 for another version; E71 for one that is none; E70 for another job; E62 where the sequence of one of the older form
+    /// is spent. Where a byte is there, nothing is written but what makes a checkpoint of the older form one of the newer form.
     pub fn found(alloc: Global, job: &'a Job, disk: D) -> Result<Found<'a, D>, (StoreError, D)>
         ensures found { IfOk result (IsFoundOn D.device job.now (D.device disk)) }
+        ensures agree { IfOk result (StillAgrees D.device job.now (D.device disk)) }
         ensures refused { IfErr result (λ e. e.0 ≢ StoreError.Device → IsRefusedOn e.0 (D.device disk).file job.now.number) }
         ensures failed { IfErr result (λ e. e.0 ≡ StoreError.Device → HasFailed (D.device disk) (D.device e.1)) }
 
@@ -79,23 +87,24 @@ impl<'a, D: SteadyDisk + Drop> FirstDisk<'a, D> {
             → Shrinks (CrashLeaves (D.device disk).file) (CrashLeaves (D.device e.1).file)) }
     {
         let disk = settled(disk)?;
-        let opened = open_store(alloc, disk, job.number())?;
-        let store = begun(opened)?;
+        let store = open_store(alloc, disk, job.number())?;
         let kept = store.record().outcome;
+        let saved = store.record().saved.copied();
         let disk = settled(store.into_disk())?;
         match kept {
             Some(outcome) => Ok(Found::Kept(outcome, disk)),
-            None => Ok(Found::Begins(FirstDisk { job, disk })),
+            None => Ok(Found::Begins(FirstDisk { job, disk, saved })),
         }
     }
 
-    /// A disk that is one over which a run of the job can begin.
-    pub fn of(job: &'a Job, disk: D) -> FirstDisk<'a, D>
-        requires { IsFirst job.now (D.device disk) }
+    /// A disk that is one over which a run of the job can begin, on which these values are saved.
+    pub fn of(job: &'a Job, disk: D, saved: SavedTable) -> FirstDisk<'a, D>
+        requires { IsFirstWith job.now (D.device disk) saved }
         ensures job { result.job ≡ job.now }
         ensures disk { result.disk ≡ disk }
+        ensures saved { result.saved ≡ saved }
     {
-        FirstDisk { job, disk }
+        FirstDisk { job, disk, saved }
     }
 
     /// The job.
@@ -113,38 +122,23 @@ impl<'a, D: SteadyDisk + Drop> FirstDisk<'a, D> {
         &self.disk
     }
 
+    /// The values that are saved there: those with which a run goes on. Where they agree, all that a crash leaves of the disk does.
+    pub fn saved(&self) -> &SavedTable
+        ensures same { result.now ≡ self.now.saved }
+        ensures first { IsFirstWith self.now.job (D.device self.now.disk) self.now.saved }
+        ensures agree { AllSavedAgree self.now.job self.now.saved → StoredAgree self.now.job (D.device self.now.disk) }
+    {
+        &self.saved
+    }
+
     /// The job and the disk.
     pub(crate) fn into_parts(self) -> (&'a Job, D)
         ensures job { result.0.now ≡ self.entry.job }
         ensures disk { result.1 ≡ self.entry.disk }
         ensures first { IsFirst self.entry.job (D.device result.1) }
     {
-        let FirstDisk { job, disk } = self;
+        let FirstDisk { job, disk, .. } = self;
         (job, disk)
-    }
-}
-
-/// A store as a run begins over it. Where it has no outcome, it has no saved values either: those that it has are dropped, by one commit.
-/// E62 where the sequence is spent; E72.
-fn begun<D: SteadyDisk + Drop>(store: Store<D>) -> Result<Store<D>, (StoreError, D)>
-    requires { store.ended ≡ false }
-    ensures begun { IfOk result (λ s. s.record ≡ begun_over store.record.outcome store.record) }
-    ensures kept { IfOk result (λ s. KeepsItself D.device store → KeepsItself D.device s) }
-    ensures passed { IfOk result (λ s. (D.device s.disk).failures ≡ (D.device store.disk).failures) }
-    ensures refused { IfErr result (λ e. (e.0 ≡ StoreError.Device) ⊎ (e.0 ≡ StoreError.Spent)) }
-    ensures spent { IfErr result (λ e. e.0 ≡ StoreError.Spent → IsSpent store × (e.1 ≡ store.disk)) }
-    ensures failed { IfErr result (λ e. e.0 ≡ StoreError.Device → HasFailed (D.device store.disk) (D.device e.1)) }
-{
-    if store.record().outcome.is_some() {
-        return Ok(store);
-    }
-    if store.record().saved.as_slice().is_empty() {
-        return Ok(store);
-    }
-    let mut store = store;
-    match store.save(SavedTable::new()) {
-        Ok(()) => Ok(store),
-        Err(fault) => Err((fault, store.into_disk())),
     }
 }
 

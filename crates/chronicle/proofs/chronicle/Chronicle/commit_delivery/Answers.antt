@@ -1,4 +1,4 @@
-use Rattle.std.proofs.Common.{rules}
+use Rattle.std.proofs.Common.{rules, ◌≡◌}
 use Rattle.chronicle.proofs.Seats.{free_seat}
 use Rattle.chronicle.proofs.Commits.{grows_by, gains_by}
 use Rattle.chronicle.proofs.chronicle.Chronicle.commit_delivery.Goals as goal
@@ -13,3 +13,9 @@ put-requires-clause-grown g c =
 pub returns-clause-entry : goal.returns-clause-entry
 returns-clause-entry g c =
     gains_by c.args.place c.comes-answer.result c.args.seat.now.actor c.take-kept.result.entries c.comes-answer.new.kept.entries c.args.seat.now.entries c.put.new.seat.entries c.requires.owns c.comes-answer.ensures.history (search rules) (search rules)
+
+pub returns-clause-outcome : goal.returns-clause-outcome
+returns-clause-outcome g c =
+    let same : c.take-kept.result.on.job ≡ c.args.self.now.job = search rules in
+    let first : c.take-kept.result.first ≡ c.args.self.now.first = search rules in
+    rw same at (rw first at c.comes-answer.ensures.outcome)

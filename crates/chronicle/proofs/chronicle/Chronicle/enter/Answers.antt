@@ -13,3 +13,9 @@ put-requires-clause-grown g c =
 pub returns-clause-entry : goal.returns-clause-entry
 returns-clause-entry g c =
     rw c.in_ok-committed.was at (gains c.enter-answer.result c.args.event c.args.seat.now.actor c.take-kept.result.entries c.enter-answer.new.self.entries c.args.seat.now.entries c.put.new.seat.entries c.requires.owns c.enter-answer.ensures.history (search rules) (search rules))
+
+pub returns-clause-outcome : goal.returns-clause-outcome
+returns-clause-outcome g c =
+    let same : c.take-kept.result.on.job ≡ c.args.self.now.job = search rules in
+    let first : c.take-kept.result.first ≡ c.args.self.now.first = search rules in
+    rw same at (rw first at (rw c.in_ok-committed.was at c.enter-answer.ensures.outcome))

@@ -1,6 +1,7 @@
 use Rattle.std.proofs.Common.{◌≡◌, Some, rules, inl, inr, refl, subst, sym, true}
 use Rattle.ids.specs.declared.outcome.Outcome.{Outcome}
 use Rattle.serial_meaning.specs.Job.{meaning_of}
+use Rattle.world_steps.specs.Agrees.{StoredAgree}
 use Rattle.world_steps.specs.Calls.{WorldOn}
 use Rattle.chronicle.specs.History.{outcome_told}
 use Rattle.chronicle.specs.Kept.{Reaches}
@@ -36,4 +37,4 @@ returns-clause-outcome g c =
     let reached : Reaches on.job (g.D.Disk.device c.self.inside.first.value) c.self.inside.entries.items on.world c.self.inside.out_of_memory = subst (λ (w : WorldOn). Reaches w.job (g.D.Disk.device c.self.inside.first.value) c.self.inside.entries.items w.world c.self.inside.out_of_memory) (sym c.deref_mut.ensures.value) c.self.invariant in
     let here = subst (λ b. Reaches on.job (g.D.Disk.device c.self.inside.first.value) c.self.inside.entries.items on.world b) c.if-self.false reached in
     let told = tells_meaning on.job (g.D.Disk.device c.self.inside.first.value) c.self.inside.entries.items on.world c.step_with.new.self.world c.args.event c.in-Ok.told c.in-Ok.ensures.step here in
-    rw (← c.self.view_is) (subst (λ (w : WorldOn). (o : Outcome) → outcome_told c.in-Ok.told ≡ Some o → o ≡ meaning_of w.job) c.deref_mut.ensures.value told)
+    rw (← c.self.view_is) (subst (λ (w : WorldOn). StoredAgree w.job (g.D.Disk.device c.self.inside.first.value) → (o : Outcome) → outcome_told c.in-Ok.told ≡ Some o → o ≡ meaning_of w.job) c.deref_mut.ensures.value told)

@@ -1,0 +1,208 @@
+//! A node of a host.
+ghost use Rattle.std.specs.Prelude.{◌≡◌, ◌<◌, ◌==◌, ◌∷◌, [], Err, IfErr, IfOk, MatchOption, OnOk, length};
+ghost use Rattle.node_core.specs.Calls as calls;
+ghost use Rattle.node_core.specs.Cases as cases;
+ghost use Rattle.node_core.specs.Choosing.{own_candidate};
+ghost use Rattle.node_core.specs.Meeting.{Meets};
+ghost use Rattle.node_core.specs.declared.error.NodeError.TheVariants.{Memory};
+ghost use Rattle.node_core.specs.declared.parts.Victim.TheVariants as victim;
+ghost use Rattle.actors.specs.Actors.{NodeCalled, NodeTells};
+ghost use Rattle.actors.specs.declared.error.NodeCallError.TheVariants.{Unsent};
+
+use crate::error::NodeCallError;
+use crate::outbox::Outbox;
+use codec::Datagram;
+use ids::Incarnation;
+use node_core::{Node, NodeError, Step, Victim};
+use serial_meaning::{Flat, Job};
+use std::alloc::Global;
+use std::marker::Model;
+
+/// A node of a host, and the packets that wait for it. Contracts see the node with its job, and these packets in their order.
+///
+/// A call that may send is refused where packets wait (`Unsent`), and changes nothing. Else it is one case of the protocol: what the node
+/// sends waits then, and it is told whether a packet was ignored, or why the node refuses the call.
+#[derive(Drop)]
+pub struct NodeActor<'a> {
+    alloc: Global,
+    node: Node<'a>,
+    flat: Flat,
+    outbox: Outbox,
+}
+
+impl<'a> Model for NodeActor<'a> {
+    ghost use Rattle.std.specs.Prelude.{◌≡◌};
+    ghost use Rattle.std.specs.Coded.{codes as known};
+    ghost use Rattle.task_tree.specs.contracts.tree.Expr as expr;
+    ghost use Rattle.task_tree.specs.contracts.tree.Block as block;
+    ghost use Rattle.task_tree.specs.contracts.tree.End as end;
+    ghost use Rattle.actors.specs.Actors.{NodeActorOf};
+
+    ghost Value = { NodeActorOf };
+
+    ghost coded = { Prim.hlevel (known, expr.the_row.coded, block.the_row.coded, end.the_row.coded) };
+
+    ghost view = { λ a. record { on = a.node; waits = a.outbox } };
+
+    ghost invariant = { λ a. a.flat.program ≡ a.node.job.program };
+}
+
+impl<'a> NodeActor<'a> {
+    /// A node that starts; its Join waits. Refused only when out of memory (E63).
+    pub fn start(
+        alloc: Global,
+        job: &'a Job,
+        incarnation: Incarnation,
+    ) -> Result<NodeActor<'a>, NodeError>
+        ensures actor { IfOk result (λ a. a ≡ record {
+          on = record { job = job.now; node = (calls.start job.now incarnation).after; posts = [] };
+          waits = (calls.start job.now incarnation).sent;
+        }) }
+        ensures memory { IfErr result (λ e. e ≡ Memory) }
+    {
+        let flat = Flat::of(alloc, job.checked())?;
+        let (node, step) = Node::start(alloc, job, incarnation)?;
+        let mut outbox = Outbox::new(alloc);
+        outbox.keep(step.sent);
+        Ok(NodeActor {
+            alloc,
+            node,
+            flat,
+            outbox,
+        })
+    }
+
+    /// The node.
+    pub fn node(&self) -> &Node<'a>
+        ensures { result.now ≡ self.now.on }
+    {
+        &self.node
+    }
+
+    /// Whether no packet waits.
+    pub fn is_clear(&self) -> bool
+        ensures { result ≡ (length self.now.waits == 0) }
+    {
+        self.outbox.is_empty()
+    }
+
+    /// The first packet that waits, which waits no longer. It takes no memory.
+    pub fn next(&mut self) -> Option<Datagram>
+        ensures taken { MatchOption result ((self.old.waits ≡ []) × (self.new.waits ≡ [])) (λ p. self.old.waits ≡ p ∷ self.new.waits) }
+        ensures node { self.new.on ≡ self.old.on }
+    {
+        self.outbox.next()
+    }
+
+    /// What comes in a packet's bytes is done: the case of `Node::on_bytes`.
+    pub fn take(&mut self, bytes: &[u8]) -> Result<bool, NodeCallError>
+        ensures unsent { 0 < length self.old.waits → (result ≡ Err Unsent) × (self.new ≡ self.old) }
+        ensures called { self.old.waits ≡ [] → NodeCalled (Meets (cases.on_bytes self.old.on.job (own_candidate self.old.on.posts)
+            bytes.now self.old.on.node)) result self.old self.new }
+    {
+        self.sends()?;
+        let answer = self.node.on_bytes(self.alloc, bytes);
+        self.tells(answer)
+    }
+
+    /// Carries out a ready frame, by its numbers: the case of `Node::exec_ready`.
+    pub fn exec(&mut self, minter: u64, number: u64, frame: u64) -> Result<bool, NodeCallError>
+        ensures unsent { 0 < length self.old.waits → (result ≡ Err Unsent) × (self.new ≡ self.old) }
+        ensures called { self.old.waits ≡ [] → NodeCalled (Meets (calls.exec_ready self.old.on.job
+            (record { minter = minter; number = number }) frame self.old.on.node)) result self.old self.new }
+    {
+        self.sends()?;
+        let answer = self
+            .node
+            .exec_ready_named(self.alloc, minter, number, frame);
+        self.tells(answer)
+    }
+
+    /// Carries out a ready frame, by its numbers, with its task's whole value in at most so many turns: the case of `Node::whole_ready`.
+    pub fn whole(
+        &mut self,
+        minter: u64,
+        number: u64,
+        frame: u64,
+        most_turns: u64,
+    ) -> Result<bool, NodeCallError>
+        ensures unsent { 0 < length self.old.waits → (result ≡ Err Unsent) × (self.new ≡ self.old) }
+        ensures called { self.old.waits ≡ [] → NodeCalled (Meets (calls.whole_ready self.old.on.job most_turns
+            (record { minter = minter; number = number }) frame self.old.on.node)) result self.old self.new }
+    {
+        self.sends()?;
+        let answer = self
+            .node
+            .whole_ready_named(self.alloc, &self.flat, minter, number, frame, most_turns);
+        self.tells(answer)
+    }
+
+    /// Asks the clearinghouse for work: the case of `Node::ask`.
+    pub fn ask_house(&mut self) -> Result<bool, NodeCallError>
+        ensures unsent { 0 < length self.old.waits → (result ≡ Err Unsent) × (self.new ≡ self.old) }
+        ensures called { self.old.waits ≡ [] → NodeCalled (Meets (calls.ask self.old.on.job victim.House self.old.on.node))
+            result self.old self.new }
+    {
+        self.sends()?;
+        let answer = self.node.ask(self.alloc, Victim::House);
+        self.tells(answer)
+    }
+
+    /// Asks another worker for work, by its start word: the same.
+    pub fn ask(&mut self, word: u64) -> Result<bool, NodeCallError>
+        ensures unsent { 0 < length self.old.waits → (result ≡ Err Unsent) × (self.new ≡ self.old) }
+        ensures called { self.old.waits ≡ [] → NodeCalled (Meets (calls.ask self.old.on.job (victim.Worker word) self.old.on.node))
+            result self.old self.new }
+    {
+        self.sends()?;
+        let answer = self.node.ask_named(self.alloc, word);
+        self.tells(answer)
+    }
+
+    /// Sends again what isn't answered: the case of `Node::resend`.
+    pub fn resend(&mut self) -> Result<bool, NodeCallError>
+        ensures unsent { 0 < length self.old.waits → (result ≡ Err Unsent) × (self.new ≡ self.old) }
+        ensures called { self.old.waits ≡ [] → NodeCalled (Meets (calls.resend self.old.on.job self.old.on.node)) result self.old self.new }
+    {
+        self.sends()?;
+        let answer = self.node.resend(self.alloc);
+        self.tells(answer)
+    }
+
+    /// Leaves, and hands its work to an heir, by its start word: the case of `Node::depart`.
+    pub fn depart(&mut self, heir: u64) -> Result<bool, NodeCallError>
+        ensures unsent { 0 < length self.old.waits → (result ≡ Err Unsent) × (self.new ≡ self.old) }
+        ensures called { self.old.waits ≡ [] → NodeCalled (Meets (calls.depart self.old.on.job heir self.old.on.node)) result self.old self.new }
+    {
+        self.sends()?;
+        let answer = self.node.depart_named(self.alloc, heir);
+        self.tells(answer)
+    }
+
+    /// A call that may send is refused where packets wait.
+    fn sends(&self) -> Result<(), NodeCallError>
+        ensures ok { OnOk result (self.now.waits ≡ []) }
+        ensures err { IfErr result (λ e. (e ≡ Unsent) × (0 < length self.now.waits)) }
+    {
+        if self.outbox.is_empty() {
+            Ok(())
+        } else {
+            Err(NodeCallError::Unsent)
+        }
+    }
+
+    /// What a call sends waits, and what is told of it is answered.
+    fn tells(&mut self, answer: Result<Step, NodeError>) -> Result<bool, NodeCallError>
+        ensures told { NodeTells answer result self.old.waits self.new.waits }
+        ensures node { self.new.on ≡ self.old.on }
+    {
+        match answer {
+            Ok(step) => {
+                let Step { sent, ignored, .. } = step;
+                self.outbox.keep(sent);
+                Ok(ignored)
+            }
+            Err(error) => Err(NodeCallError::Node(error)),
+        }
+    }
+}
