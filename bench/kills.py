@@ -9,9 +9,9 @@ import time
 
 PROGRAM, EXAMPLES = sys.argv[1:3]
 WORDS = sys.argv[3:]
-INPUT = int(WORDS[0]) if WORDS else 42
+INPUT = int(WORDS[0]) if WORDS else 45
 KILLS = int(WORDS[1]) if len(WORDS) > 1 else 20
-MOST_SECONDS = float(WORDS[2]) if len(WORDS) > 2 else 3.0
+MOST_SECONDS = float(WORDS[2]) if len(WORDS) > 2 else 15.0
 FIB = f"{EXAMPLES}/fib.ck"
 NODES = ("--nodes", "4", "--turns", "1000000000000")
 SEED = 7
