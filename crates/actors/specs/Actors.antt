@@ -1,11 +1,16 @@
 -- Calls of actors.
-use Rattle.std.specs.Prelude.{◌≡◌, Bool, List, Result, Ok, Err}
+use Rattle.std.specs.Prelude.{◌≡◌, Bool, List, Result, Ok, Err, IsErrOf}
 use Rattle.codec.specs.Table.{PacketOf}
+use Rattle.clearinghouse.specs.Errors.{error_of_stop}
+use Rattle.clearinghouse.specs.House.{Stopped}
 use Rattle.clearinghouse.specs.Meeting.{HouseOn}
 use Rattle.clearinghouse.specs.declared.error.HouseError.{HouseError}
 use Rattle.clearinghouse.specs.declared.parts.HouseStep.{HouseStep}
-use Rattle.node_core.specs.Meeting.{NodeOn}
+use Rattle.clearinghouse.specs.declared.parts.Stop.{Stop}
+use Rattle.node_core.specs.Meeting.{Meets, NodeOn}
+use Rattle.node_core.specs.Steps.{Answer}
 use Rattle.node_core.specs.declared.error.NodeError.{NodeError}
+use Rattle.node_core.specs.declared.error.NodeError.TheVariants.{Memory}
 use Rattle.node_core.specs.declared.parts.Step.{Step}
 use Rattle.actors.specs.declared.error.HouseCallError.{HouseCallError}
 use Rattle.actors.specs.declared.error.HouseCallError.TheVariants.{House}
@@ -22,6 +27,10 @@ abbrev pub NodeTells : Result Step NodeError → Result Bool NodeCallError → (
 NodeTells (Ok step) result before after = (result ≡ Ok step.ignored) × (after ≡ step.sent)
 NodeTells (Err e) result before after = (result ≡ Err (Node e)) × (after ≡ before)
 
+-- what a node answers meets a case, and being out of memory comes only where it may
+abbrev pub MeetsUnless : Answer → (Answer → Type 0) → Result Step NodeError → NodeOn → NodeOn → Type 0
+MeetsUnless expected may_lack r old new = Meets expected r old new × (IsErrOf r Memory → may_lack expected)
+
 -- what a node answers meets a case, and so is told
 abbrev pub NodeCalled : (Result Step NodeError → NodeOn → NodeOn → Type 0) → Result Bool NodeCallError → (old new : NodeActorOf) → Type 0
 NodeCalled meets result old new = (r : Result Step NodeError) × meets r old.on new.on × NodeTells r result old.waits new.waits
@@ -30,6 +39,10 @@ NodeCalled meets result old new = (r : Result Step NodeError) × meets r old.on 
 pub record HouseActorOf (D : Type 0) : Type 0 where
   pub on : HouseOn D
   pub waits : List PacketOf
+
+-- what a clearinghouse answers meets a case, and one that is stopped answers why, and stays as it is
+abbrev pub MeetsStopped : {D : Type 0} → (Result HouseStep HouseError → HouseOn D → HouseOn D → Type 0) → Result HouseStep HouseError → HouseOn D → HouseOn D → Type 0
+MeetsStopped meets r old new = meets r old new × ((s : Stop) → old.state ≡ Stopped s → IsErrOf r (error_of_stop s) × (new ≡ old))
 
 abbrev pub HouseTells : Result HouseStep HouseError → Result Bool HouseCallError → (before after : List PacketOf) → Type 0
 HouseTells (Ok step) result before after = (result ≡ Ok step.ignored) × (after ≡ step.sent)

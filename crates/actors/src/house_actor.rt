@@ -1,11 +1,12 @@
 //! The clearinghouse of a host.
-ghost use Rattle.std.specs.Prelude.{◌≡◌, ◌+◌, ◌<◌, ◌==◌, ◌∷◌, ℕ, [], Err, IfErr, IfOk, MatchOption, OnOk, length};
-ghost use Rattle.checkpoint.specs.Store.{KeepsRecord};
+ghost use Rattle.std.specs.Prelude.{◌≡◌, ◌⊎◌, ◌+◌, ◌<◌, ◌==◌, ◌∷◌, ℕ, [], Err, IfErr, IfOk, MatchOption, OnOk, length};
+ghost use Rattle.checkpoint.specs.Store.{KeepsRecord, ReadsAsStore};
+ghost use Rattle.disk.specs.File.{bytes_of};
 ghost use Rattle.checkpoint.specs.declared.record.CheckpointRecord.{CheckpointRecord as Stored};
 ghost use Rattle.checkpoint.specs.Commit.{next_of};
 ghost use Rattle.clearinghouse.specs.Calls as calls;
 ghost use Rattle.clearinghouse.specs.Meeting.{HouseMeets, IsOpened, IsRefusedOver, KeepsOneOf};
-ghost use Rattle.actors.specs.Actors.{HouseCalled, HouseTells};
+ghost use Rattle.actors.specs.Actors.{HouseCalled, HouseTells, MeetsStopped};
 ghost use Rattle.actors.specs.declared.error.HouseCallError.TheVariants.{Unsent};
 
 use crate::error::HouseCallError;
@@ -53,6 +54,9 @@ impl<'a, D: Disk> HouseActor<'a, D> {
     ) -> Result<HouseActor<'a, D>, (HouseError, D)>
         ensures opened { IfOk result (λ a. IsOpened D.device D.planned job.now limit disk a.on × (a.waits ≡ [])) }
         ensures refused { IfErr result (λ e. IsRefusedOver D.device D.planned e.0 job.now disk e.1) }
+        ensures alone { IfErr result (λ e. (n : ℕ) (r : Stored)
+            → ReadsAsStore (bytes_of (D.device disk).file) n r → r.job ≡ job.now.number
+            → (e.0 ≡ HouseError.Device) ⊎ (e.0 ≡ HouseError.Spent)) }
         ensures kept_back { IfErr result (λ e. (n : ℕ) (r : Stored) → KeepsRecord (D.device disk).file n r
             → KeepsOneOf (D.device e.1).file r (next_of r (r.epoch + 1) r.outcome)) }
     {
@@ -89,8 +93,8 @@ impl<'a, D: Disk> HouseActor<'a, D> {
     /// What comes in a packet's bytes is done: the case of `House::on_bytes`.
     pub fn take(&mut self, bytes: &[u8]) -> Result<bool, HouseCallError>
         ensures unsent { 0 < length self.old.waits → (result ≡ Err Unsent) × (self.new ≡ self.old) }
-        ensures called { self.old.waits ≡ [] → HouseCalled (HouseMeets D.device D.planned (calls.on_bytes self.old.on.job bytes.now
-            self.old.on.state)) result self.old self.new }
+        ensures called { self.old.waits ≡ [] → HouseCalled (MeetsStopped (HouseMeets D.device D.planned (calls.on_bytes
+            self.old.on.job bytes.now self.old.on.state))) result self.old self.new }
     {
         self.sends()?;
         let answer = self.house.on_bytes(self.alloc, bytes);
@@ -100,8 +104,8 @@ impl<'a, D: Disk> HouseActor<'a, D> {
     /// A moment comes: the case of `House::tick`.
     pub fn tick(&mut self, now: u64) -> Result<bool, HouseCallError>
         ensures unsent { 0 < length self.old.waits → (result ≡ Err Unsent) × (self.new ≡ self.old) }
-        ensures called { self.old.waits ≡ [] → HouseCalled (HouseMeets D.device D.planned (calls.tick self.old.on.job now
-            self.old.on.state)) result self.old self.new }
+        ensures called { self.old.waits ≡ [] → HouseCalled (MeetsStopped (HouseMeets D.device D.planned (calls.tick
+            self.old.on.job now self.old.on.state))) result self.old self.new }
     {
         self.sends()?;
         let answer = self.house.tick(self.alloc, now);

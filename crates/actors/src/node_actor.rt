@@ -3,10 +3,10 @@ ghost use Rattle.std.specs.Prelude.{◌≡◌, ◌<◌, ◌==◌, ◌∷◌, [],
 ghost use Rattle.node_core.specs.Calls as calls;
 ghost use Rattle.node_core.specs.Cases as cases;
 ghost use Rattle.node_core.specs.Choosing.{own_candidate};
-ghost use Rattle.node_core.specs.Meeting.{Meets};
+ghost use Rattle.node_core.specs.Meeting.{LacksMemoryLast, MayLackMemory, Meets};
 ghost use Rattle.node_core.specs.declared.error.NodeError.TheVariants.{Memory};
 ghost use Rattle.node_core.specs.declared.parts.Victim.TheVariants as victim;
-ghost use Rattle.actors.specs.Actors.{NodeCalled, NodeTells};
+ghost use Rattle.actors.specs.Actors.{MeetsUnless, NodeCalled, NodeTells};
 ghost use Rattle.actors.specs.declared.error.NodeCallError.TheVariants.{Unsent};
 
 use crate::error::NodeCallError;
@@ -108,8 +108,8 @@ impl<'a> NodeActor<'a> {
     /// Carries out a ready frame, by its numbers: the case of `Node::exec_ready`.
     pub fn exec(&mut self, minter: u64, number: u64, frame: u64) -> Result<bool, NodeCallError>
         ensures unsent { 0 < length self.old.waits → (result ≡ Err Unsent) × (self.new ≡ self.old) }
-        ensures called { self.old.waits ≡ [] → NodeCalled (Meets (calls.exec_ready self.old.on.job
-            (record { minter = minter; number = number }) frame self.old.on.node)) result self.old self.new }
+        ensures called { self.old.waits ≡ [] → NodeCalled (MeetsUnless (calls.exec_ready self.old.on.job
+            (record { minter = minter; number = number }) frame self.old.on.node) MayLackMemory) result self.old self.new }
     {
         self.sends()?;
         let answer = self
@@ -127,8 +127,8 @@ impl<'a> NodeActor<'a> {
         most_turns: u64,
     ) -> Result<bool, NodeCallError>
         ensures unsent { 0 < length self.old.waits → (result ≡ Err Unsent) × (self.new ≡ self.old) }
-        ensures called { self.old.waits ≡ [] → NodeCalled (Meets (calls.whole_ready self.old.on.job most_turns
-            (record { minter = minter; number = number }) frame self.old.on.node)) result self.old self.new }
+        ensures called { self.old.waits ≡ [] → NodeCalled (MeetsUnless (calls.whole_ready self.old.on.job most_turns
+            (record { minter = minter; number = number }) frame self.old.on.node) MayLackMemory) result self.old self.new }
     {
         self.sends()?;
         let answer = self
@@ -140,8 +140,8 @@ impl<'a> NodeActor<'a> {
     /// Asks the clearinghouse for work: the case of `Node::ask`.
     pub fn ask_house(&mut self) -> Result<bool, NodeCallError>
         ensures unsent { 0 < length self.old.waits → (result ≡ Err Unsent) × (self.new ≡ self.old) }
-        ensures called { self.old.waits ≡ [] → NodeCalled (Meets (calls.ask self.old.on.job victim.House self.old.on.node))
-            result self.old self.new }
+        ensures called { self.old.waits ≡ [] → NodeCalled (MeetsUnless (calls.ask self.old.on.job victim.House self.old.on.node)
+            LacksMemoryLast) result self.old self.new }
     {
         self.sends()?;
         let answer = self.node.ask(self.alloc, Victim::House);
@@ -151,8 +151,8 @@ impl<'a> NodeActor<'a> {
     /// Asks another worker for work, by its start word: the same.
     pub fn ask(&mut self, word: u64) -> Result<bool, NodeCallError>
         ensures unsent { 0 < length self.old.waits → (result ≡ Err Unsent) × (self.new ≡ self.old) }
-        ensures called { self.old.waits ≡ [] → NodeCalled (Meets (calls.ask self.old.on.job (victim.Worker word) self.old.on.node))
-            result self.old self.new }
+        ensures called { self.old.waits ≡ [] → NodeCalled (MeetsUnless (calls.ask self.old.on.job (victim.Worker word) self.old.on.node)
+            LacksMemoryLast) result self.old self.new }
     {
         self.sends()?;
         let answer = self.node.ask_named(self.alloc, word);
@@ -162,7 +162,8 @@ impl<'a> NodeActor<'a> {
     /// Sends again what isn't answered: the case of `Node::resend`.
     pub fn resend(&mut self) -> Result<bool, NodeCallError>
         ensures unsent { 0 < length self.old.waits → (result ≡ Err Unsent) × (self.new ≡ self.old) }
-        ensures called { self.old.waits ≡ [] → NodeCalled (Meets (calls.resend self.old.on.job self.old.on.node)) result self.old self.new }
+        ensures called { self.old.waits ≡ [] → NodeCalled (MeetsUnless (calls.resend self.old.on.job self.old.on.node) MayLackMemory)
+            result self.old self.new }
     {
         self.sends()?;
         let answer = self.node.resend(self.alloc);
@@ -172,7 +173,8 @@ impl<'a> NodeActor<'a> {
     /// Leaves, and hands its work to an heir, by its start word: the case of `Node::depart`.
     pub fn depart(&mut self, heir: u64) -> Result<bool, NodeCallError>
         ensures unsent { 0 < length self.old.waits → (result ≡ Err Unsent) × (self.new ≡ self.old) }
-        ensures called { self.old.waits ≡ [] → NodeCalled (Meets (calls.depart self.old.on.job heir self.old.on.node)) result self.old self.new }
+        ensures called { self.old.waits ≡ [] → NodeCalled (MeetsUnless (calls.depart self.old.on.job heir self.old.on.node) MayLackMemory)
+            result self.old self.new }
     {
         self.sends()?;
         let answer = self.node.depart_named(self.alloc, heir);
