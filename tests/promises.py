@@ -1,7 +1,7 @@
 """Compares what is promised with docs/promises.lock, or writes that file: so a change of a promise is one that a
 reader sees.
 
-usage: bin/lock_promises           compares; the status is 1 where something differs
+usage: bin/lock_promises [--look]  compares; the status is 1 where something differs
        bin/lock_promises --write   writes the file anew
 
 The file has a section for each public call with a clause, for each definition that such a clause names, or
@@ -120,6 +120,7 @@ def locked():
 
 
 def main(words):
+    words = [] if words == ["--look"] else words
     if words not in ([], ["--write"]):
         print(__doc__, file=sys.stderr if words != ["--help"] else sys.stdout)
         return 0 if words == ["--help"] else 2

@@ -9,15 +9,16 @@
 //! both back. So events come one after another, and the thread bodies of the program can be evaluated outside the lock: a turn that
 //! was evaluated before is used where it is the ready frame's own, and put aside else.
 //!
-//! **Proved**, whatever threads do and in whatever order. A history under the lock is that of a run, over the very disk that the
-//! chronicle was made with, and the world beside it is the one to which that run leads; `finish` gives the disk of that world. Once an event found no memory (E9), each later one does,
-//! the history stays, and the world differs at most in that a clearinghouse that was to answer is stopped. `Kept::enter` adds exactly
-//! its event, with the answer of a step from the world that was kept; by `commit` and `commit_turn` this entry becomes the seat's next
-//! one, or on E9 nothing of the seat changes. An outcome that is told is the job's meaning. The trace of `finish` has of each actor just
-//! the entries of its seat, in their order, and no others; it is the history of a run, of which all is promised that `safe_runs`
-//! promises: no slot is filled twice, each value is the serial program's, no grant has two live holders, an outcome stays. The script
-//! of a trace is read again as just its events, so that whoever has it can replay the run. What `ready` and `commit_turn` hand out fits
-//! the program, so that its turn can be evaluated with no further test.
+//! **Proved**, whatever threads do and in whatever order. A history under the lock is that of a run, over the very disk that the chronicle
+//! was made with, and the world beside it is the one to which that run leads; `finish` gives the disk of that world. Once an event found
+//! no memory (E9), each later one does, the history stays, and the world differs at most in that a clearinghouse that was to answer is
+//! stopped. `Kept::enter` adds exactly its event, with the answer of a step from the world that was kept; by `commit` and `commit_turn`
+//! this entry becomes the seat's next one, or on E9 nothing of the seat changes. The trace of `finish` has of each actor just the entries
+//! of its seat, in their order, and no others; it is the history of a run. Where what is saved on the first disk agrees, as it does on one
+//! that was formatted for the job, an outcome that is told is the job's meaning, and all is promised of this run that `safe_runs`
+//! promises: no slot is filled twice, each value is the serial program's, no grant has two live holders, an outcome stays. The script of a
+//! trace is read again as just its events, so that whoever has it can replay the run. What `ready` and `commit_turn` hand out fits the
+//! program, so that its turn can be evaluated with no further test.
 //!
 //! A chronicle may be shared by threads, and a seat may go to another one (`proofs/Crossing`).
 //!

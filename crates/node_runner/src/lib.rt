@@ -21,11 +21,13 @@
 //! place from the end. It leaves to one that doesn't leave itself, and waits while another node leaves to it (`Leavers`).
 //!
 //! **The disk** is the caller's, and the clearinghouse keeps its record there: in memory, or in a file, which holds the outcome once a run is
-//! through. A call of it that fails ends the run. Values that nodes hand in to be saved are taken where there is time (`Saves`).
+//! through. A call of it that fails ends the run. Values that nodes hand in to be saved are taken where there is time (`Saves`), and a later
+//! run over the disk goes on with them.
 //!
-//! **Proved**: an outcome that `run_job` answers is the job's meaning, its trace is a safe history of the job which tells it first, whatever
-//! threads do, and the disk that it gives back keeps the outcome, whatever a crash leaves of it; packets have the fates that the generator
-//! gives.
+//! **Proved**: an outcome that `run_job` answers is the job's meaning, where what was saved on the disk that was given agrees, as it does on
+//! one that was formatted for the job; its trace is a history of the job over this disk which tells the outcome first, and a safe one under
+//! the same premise, whatever threads do; and the disk that it gives back keeps the outcome, whatever a crash leaves of it. Packets have the
+//! fates that the generator gives.
 //!
 //! **Not proved**: that an outcome comes, which of its refusals comes when, that the nodes share the work, that each ready frame is offered
 //! and body workers evaluate it, and that the crashes and departures come that are asked for.
