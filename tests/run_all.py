@@ -17,6 +17,7 @@ import sys
 from common import TOP, module_in
 
 CILKNOW, NOWSIM, PLAY, HELD = (f"crates/{it}/out/{it}" for it in ("cilknow", "nowsim", "play", "shared_times"))
+MACHINES = "out/machines"
 # What the gate is called by.
 GATE = "gate"
 # Each check with its words, in their order.
@@ -39,6 +40,8 @@ CHECKS = {
     "wholes": f"tests/whole_scripts.py {CILKNOW} {NOWSIM}",
     "nodes": f"tests/run_nodes.py {CILKNOW} {NOWSIM} {HELD}",
     "stores": f"tests/run_stores.py {CILKNOW}",
+    "library": "make -s -C machines all tests sanitized",
+    "machines": f"tests/run_machines.py {MACHINES} {CILKNOW} 50",
     "broken_stores": f"tests/broken_stores.py {CILKNOW}",
     "calls": f"tests/refuse_calls.py {CILKNOW}",
     "transcripts": f"tests/play_all.py {PLAY}",
@@ -51,7 +54,7 @@ CHECKS = {
     "growths": "tests/refuse_growth --built",
 }
 # The commands that they call, and the files of a system that they read or write.
-COMMANDS = "rt python3 bash cmp cp find mktemp readlink seq tr".split()
+COMMANDS = "rt python3 bash cmp cp find mktemp readlink realpath seq tr make cc ar".split()
 FILES = ("/dev/full", "/dev/null", "/proc/self/stat")
 LEAST_PYTHON = (3, 9)
 

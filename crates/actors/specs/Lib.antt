@@ -1,1 +1,4 @@
 pub mod Actors
+pub mod Called
+pub mod Hosted
+pub mod Numbers

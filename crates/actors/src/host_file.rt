@@ -13,14 +13,37 @@ use std::os::unix::fs::FileExt;
 use std::rc::Rc;
 
 /// What is to be done to a file.
-#[derive(Drop, Debug, PartialEq, Eq)]
-pub enum FileCall {
+#[derive(Drop)]
+enum FileCall {
     /// These bytes are written at this offset, at most the file's length.
     Write(u64, Vec<u8>),
     /// The file is cut to this length, or made as long with zeros.
     SetLen(u64),
     /// All that was written is on the disk for good.
     Sync,
+}
+
+/// How many bytes of a call as it is given stand before those that are written.
+const HEAD: usize = 9;
+
+impl FileCall {
+    /// Copies it to the beginning of a buffer that is long enough. How many bytes it has.
+    fn copy_to(&self, buffer: &mut [u8]) -> usize
+        ensures { length buffer.new ≡ length buffer.old }
+    {
+        let (kind, number, bytes): (u8, u64, &[u8]) = match self {
+            FileCall::Write(at, bytes) => (1, *at, bytes.as_slice()),
+            FileCall::SetLen(len) => (2, *len, &[]),
+            FileCall::Sync => (3, 0, &[]),
+        };
+        let count = bytes.len().saturating_add(HEAD);
+        if count <= buffer.len() {
+            buffer[0] = kind;
+            buffer[1..HEAD].copy_from_slice(&number.to_be_bytes());
+            buffer[HEAD..count].copy_from_slice(bytes);
+        }
+        count
+    }
 }
 
 /// The content, and what was done to it and waits, in its order.
@@ -62,13 +85,23 @@ impl HostFile {
 }
 
 impl FileCalls {
-    /// The first call that waits, which waits no longer.
-    pub fn next(&self) -> Option<FileCall> {
-        let mut kept = self.kept.as_ref().try_borrow_mut().ok()?;
-        if kept.calls.is_empty() {
-            return None;
+    /// Copies the first call that waits to the beginning of a buffer that is long enough, and it waits no longer: one byte, 1 for bytes that
+    /// are written, 2 for a new length, 3 for a sync; then eight, the highest first, the offset or the new length; then the bytes. How many
+    /// bytes that has; 0 where none waits.
+    pub fn give(&self, buffer: &mut [u8]) -> usize
+        ensures { length buffer.new ≡ length buffer.old }
+    {
+        let Ok(mut kept) = self.kept.as_ref().try_borrow_mut() else {
+            return 0;
+        };
+        let Some(call) = kept.calls.first() else {
+            return 0;
+        };
+        let count = call.copy_to(buffer);
+        if count <= buffer.len() {
+            let _ = kept.calls.remove(0);
         }
-        Some(kept.calls.remove(0))
+        count
     }
 
     /// Whether none waits.

@@ -1,18 +1,17 @@
 //! The clearinghouse of a host.
-ghost use Rattle.std.specs.Prelude.{◌≡◌, ◌⊎◌, ◌+◌, ◌<◌, ◌==◌, ◌∷◌, ℕ, [], Err, IfErr, IfOk, MatchOption, OnOk, length};
+ghost use Rattle.std.specs.Prelude.{◌≡◌, ◌⊎◌, ◌+◌, ◌<◌, ◌==◌, ℕ, [], Err, IfErr, IfOk, OnOk, length};
 ghost use Rattle.checkpoint.specs.Store.{KeepsRecord, ReadsAsStore};
 ghost use Rattle.disk.specs.File.{bytes_of};
 ghost use Rattle.checkpoint.specs.declared.record.CheckpointRecord.{CheckpointRecord as Stored};
 ghost use Rattle.checkpoint.specs.Commit.{next_of};
 ghost use Rattle.clearinghouse.specs.Calls as calls;
 ghost use Rattle.clearinghouse.specs.Meeting.{HouseMeets, IsOpened, IsRefusedOver, KeepsOneOf};
-ghost use Rattle.actors.specs.Actors.{HouseCalled, HouseTells, MeetsStopped};
+ghost use Rattle.actors.specs.Actors.{HouseCalled, HouseTells, IsGiven, MeetsStopped};
 ghost use Rattle.actors.specs.declared.error.HouseCallError.TheVariants.{Unsent};
 
 use crate::error::HouseCallError;
 use crate::outbox::Outbox;
 use clearinghouse::{House, HouseError, HouseStep};
-use codec::Datagram;
 use disk::Disk;
 use serial_meaning::Job;
 use std::alloc::Global;
@@ -82,12 +81,12 @@ impl<'a, D: Disk> HouseActor<'a, D> {
         self.outbox.is_empty()
     }
 
-    /// The first packet that waits, which waits no longer. It takes no memory.
-    pub fn next(&mut self) -> Option<Datagram>
-        ensures taken { MatchOption result ((self.old.waits ≡ []) × (self.new.waits ≡ [])) (λ p. self.old.waits ≡ p ∷ self.new.waits) }
+    /// Copies the first packet that waits to a buffer that is long enough, and it waits no longer. How many bytes it has; 0 where none waits.
+    pub fn give(&mut self, buffer: &mut [u8]) -> usize
+        ensures given { IsGiven result buffer.old buffer.new self.old.waits self.new.waits }
         ensures house { self.new.on ≡ self.old.on }
     {
-        self.outbox.next()
+        self.outbox.give(buffer)
     }
 
     /// What comes in a packet's bytes is done: the case of `House::on_bytes`.

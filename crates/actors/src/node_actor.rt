@@ -1,22 +1,31 @@
 //! A node of a host.
-ghost use Rattle.std.specs.Prelude.{◌≡◌, ◌<◌, ◌==◌, ◌∷◌, [], Err, IfErr, IfOk, MatchOption, OnOk, length};
+ghost use Rattle.std.specs.Prelude.{◌≡◌, ◌<◌, ◌==◌, [], Err, IfErr, IfOk, IfSome, None, OnOk, Some, length};
 ghost use Rattle.node_core.specs.Calls as calls;
 ghost use Rattle.node_core.specs.Cases as cases;
 ghost use Rattle.node_core.specs.Choosing.{own_candidate};
 ghost use Rattle.node_core.specs.Meeting.{LacksMemoryLast, MayLackMemory, Meets};
 ghost use Rattle.node_core.specs.declared.error.NodeError.TheVariants.{Memory};
 ghost use Rattle.node_core.specs.declared.parts.Victim.TheVariants as victim;
-ghost use Rattle.actors.specs.Actors.{MeetsUnless, NodeCalled, NodeTells};
+ghost use Rattle.actors.specs.Actors.{Did, IsCarried, IsGiven, IsWorked, MeetsUnless, NodeCalled, NodeTells, carried};
 ghost use Rattle.actors.specs.declared.error.NodeCallError.TheVariants.{Unsent};
 
 use crate::error::NodeCallError;
 use crate::outbox::Outbox;
-use codec::Datagram;
-use ids::Incarnation;
-use node_core::{Node, NodeError, Step, Victim};
-use serial_meaning::{Flat, Job};
+use grain::{KeptValues, TaskSizes, evaluate, takes_its_numbers};
+use ids::{FrameNo, GrantId, Incarnation};
+use node_core::{Node, NodeError, Step, Victim, Work};
+use serial_meaning::{Flat, Job, Whole};
 use std::alloc::Global;
 use std::marker::Model;
+
+/// A frame that was carried out, by its numbers: by its own turn, or by its task's whole value, which was found in so many turns.
+#[derive(Clone, Copy)]
+pub struct Worked {
+    pub minter: u64,
+    pub number: u64,
+    pub frame: u64,
+    pub turns: Option<u64>,
+}
 
 /// A node of a host, and the packets that wait for it. Contracts see the node with its job, and these packets in their order.
 ///
@@ -25,8 +34,11 @@ use std::marker::Model;
 #[derive(Drop)]
 pub struct NodeActor<'a> {
     alloc: Global,
+    job: &'a Job,
     node: Node<'a>,
     flat: Flat,
+    sizes: TaskSizes,
+    kept: KeptValues,
     outbox: Outbox,
 }
 
@@ -44,15 +56,17 @@ impl<'a> Model for NodeActor<'a> {
 
     ghost view = { λ a. record { on = a.node; waits = a.outbox } };
 
-    ghost invariant = { λ a. a.flat.program ≡ a.node.job.program };
+    ghost invariant = { λ a. (a.job.now ≡ a.node.job) × (a.flat.program ≡ a.node.job.program) × (a.kept ≡ a.node.job.program) };
 }
 
 impl<'a> NodeActor<'a> {
-    /// A node that starts; its Join waits. Refused only when out of memory (E63).
+    /// A node that starts; its Join waits. Each call of `work` evaluates a task in at most so many turns. Refused only when out of memory
+    /// (E63).
     pub fn start(
         alloc: Global,
         job: &'a Job,
         incarnation: Incarnation,
+        most_turns: u64,
     ) -> Result<NodeActor<'a>, NodeError>
         ensures actor { IfOk result (λ a. a ≡ record {
           on = record { job = job.now; node = (calls.start job.now incarnation).after; posts = [] };
@@ -61,13 +75,18 @@ impl<'a> NodeActor<'a> {
         ensures memory { IfErr result (λ e. e ≡ Memory) }
     {
         let flat = Flat::of(alloc, job.checked())?;
+        let sizes = TaskSizes::new(alloc, most_turns)?;
+        let kept = KeptValues::new(alloc, job.checked());
         let (node, step) = Node::start(alloc, job, incarnation)?;
         let mut outbox = Outbox::new(alloc);
         outbox.keep(step.sent);
         Ok(NodeActor {
             alloc,
+            job,
             node,
             flat,
+            sizes,
+            kept,
             outbox,
         })
     }
@@ -79,6 +98,11 @@ impl<'a> NodeActor<'a> {
         &self.node
     }
 
+    /// Whether a frame is ready. Refused only when out of memory (E63).
+    pub fn is_ready(&self) -> Result<bool, NodeError> {
+        Ok(self.node.ready_at(self.alloc, 0)?.is_some())
+    }
+
     /// Whether no packet waits.
     pub fn is_clear(&self) -> bool
         ensures { result ≡ (length self.now.waits == 0) }
@@ -86,12 +110,12 @@ impl<'a> NodeActor<'a> {
         self.outbox.is_empty()
     }
 
-    /// The first packet that waits, which waits no longer. It takes no memory.
-    pub fn next(&mut self) -> Option<Datagram>
-        ensures taken { MatchOption result ((self.old.waits ≡ []) × (self.new.waits ≡ [])) (λ p. self.old.waits ≡ p ∷ self.new.waits) }
+    /// Copies the first packet that waits to a buffer that is long enough, and it waits no longer. How many bytes it has; 0 where none waits.
+    pub fn give(&mut self, buffer: &mut [u8]) -> usize
+        ensures given { IsGiven result buffer.old buffer.new self.old.waits self.new.waits }
         ensures node { self.new.on ≡ self.old.on }
     {
-        self.outbox.next()
+        self.outbox.give(buffer)
     }
 
     /// What comes in a packet's bytes is done: the case of `Node::on_bytes`.
@@ -102,6 +126,120 @@ impl<'a> NodeActor<'a> {
     {
         self.sends()?;
         let answer = self.node.on_bytes(self.alloc, bytes);
+        self.tells(answer)
+    }
+
+    /// Carries out the ready frame that comes first, the newest of the deepest level: by its task's whole value, where one evaluation or a
+    /// value that an earlier one kept gives it, else by its own turn. None where no frame is ready.
+    pub fn work(&mut self) -> Result<Option<Worked>, NodeCallError>
+        ensures unsent { 0 < length self.old.waits → (result ≡ Err Unsent) × (self.new ≡ self.old) }
+        ensures worked { self.old.waits ≡ [] → IsWorked result self.old self.new }
+    {
+        self.sends()?;
+        let work = match self.node.ready_at(self.alloc, 0) {
+            Ok(Some(work)) => work,
+            Ok(None) => return Ok(None),
+            Err(error) => return Err(NodeCallError::Node(error)),
+        };
+        let (grant, frame) = (work.grant, work.frame);
+        let found = self.value_of(work);
+        let turns = self.carries_out(grant, frame, found)?;
+        Ok(Some(Worked {
+            minter: grant.minter().word(),
+            number: grant.number(),
+            frame: u64::from(frame.number()),
+            turns,
+        }))
+    }
+
+    /// The whole value of a ready frame's task, where it is tried and found, or was kept.
+    fn value_of(&mut self, work: Work) -> Option<Whole>
+        ensures same { self.new ≡ self.old }
+        ensures own { IfSome result (λ w. w.program ≡ self.old.on.job.program) }
+    {
+        let checked = self.job.checked();
+        if !takes_its_numbers(checked, &work) || self.sizes.is_short(checked, &work) {
+            return None;
+        }
+        if let Some(whole) = self.kept.take(&work) {
+            self.sizes.ends_kept(&whole);
+            return Some(whole);
+        }
+        let most_turns = self.sizes.most_turns();
+        if most_turns == 0 || self.sizes.was_large(&work) {
+            return None;
+        }
+        let Work {
+            thread,
+            numbers,
+            room,
+            ..
+        } = work;
+        match evaluate(
+            self.alloc,
+            checked,
+            &self.flat,
+            room,
+            thread,
+            numbers,
+            most_turns,
+            self.sizes.levels(),
+        ) {
+            Ok(whole) => {
+                self.sizes.ends(&whole);
+                Some(whole)
+            }
+            Err((_, left)) => {
+                self.kept.add(self.sizes.fails(thread, left));
+                None
+            }
+        }
+    }
+
+    /// A ready frame is carried out by its task's whole value, where that was found, or by its own turn. In how many turns it was found.
+    fn carries_out(
+        &mut self,
+        grant: GrantId,
+        frame: FrameNo,
+        found: Option<Whole>,
+    ) -> Result<Option<u64>, NodeCallError>
+        requires { IfSome found (λ w. w.program ≡ self.old.on.job.program) }
+        ensures { IsCarried grant frame result self.old self.new }
+    {
+        match found {
+            Some(whole) => {
+                let turns = whole.turns();
+                self.sends_whole(grant, frame, &whole)?;
+                Ok(Some(turns))
+            }
+            None => {
+                self.sends_turn(grant, frame)?;
+                Ok(None)
+            }
+        }
+    }
+
+    /// A ready frame is carried out by its task's whole value.
+    fn sends_whole(
+        &mut self,
+        grant: GrantId,
+        frame: FrameNo,
+        whole: &Whole,
+    ) -> Result<bool, NodeCallError>
+        requires { whole.now.program ≡ self.old.on.job.program }
+        ensures { Did (carried self.old.on.job grant frame (Some whole.now.turns) self.old.on.node) result self.old self.new }
+    {
+        let answer = self
+            .node
+            .whole_with(self.alloc, &self.flat, grant, frame, whole.turns(), whole);
+        self.tells(answer)
+    }
+
+    /// A ready frame is carried out by its own turn.
+    fn sends_turn(&mut self, grant: GrantId, frame: FrameNo) -> Result<bool, NodeCallError>
+        ensures { Did (carried self.old.on.job grant frame None self.old.on.node) result self.old self.new }
+    {
+        let answer = self.node.exec_ready(self.alloc, grant, frame);
         self.tells(answer)
     }
 

@@ -1,24 +1,29 @@
 //! Packets that wait for the host.
-ghost use Rattle.std.specs.Prelude.{◌≡◌, ◌==◌, ◌∷◌, [], MatchOption, length};
+ghost use Rattle.std.specs.Prelude.{◌≡◌, ◌==◌, [], length};
+ghost use Rattle.actors.specs.Actors.{IsGiven};
 
 use codec::Datagram;
 use ids::Listed;
 use std::alloc::Global;
 use std::marker::Model;
 
-/// Packets that wait, the first one last: so it leaves in no time. Contracts see them in their order.
+/// Packets that wait. Contracts see them in their order.
 #[derive(Drop)]
 pub struct Outbox {
+    // The first one, where it was looked at and still waits.
+    first: Option<Datagram>,
+    // The others, the next one last: so it leaves in no time.
     turned: Vec<Datagram>,
 }
 
 impl Model for Outbox {
-    ghost use Rattle.std.specs.Prelude.{List, reverse};
+    ghost use Rattle.std.specs.Prelude.{List};
     ghost use Rattle.codec.specs.Table.{PacketOf};
+    ghost use Rattle.actors.specs.Actors.{waiting};
 
     ghost Value = { List PacketOf };
 
-    ghost view = { λ o. reverse o.turned.items };
+    ghost view = { λ o. waiting o.first o.turned.items };
 }
 
 impl Outbox {
@@ -27,6 +32,7 @@ impl Outbox {
         ensures { result ≡ [] }
     {
         Outbox {
+            first: None,
             turned: Vec::new(alloc),
         }
     }
@@ -35,6 +41,7 @@ impl Outbox {
     pub fn keep(&mut self, sent: Listed<Datagram>)
         ensures { self.new ≡ sent }
     {
+        self.first = None;
         self.turned = sent.into_vec();
         self.turned.reverse();
     }
@@ -43,13 +50,25 @@ impl Outbox {
     pub fn is_empty(&self) -> bool
         ensures { result ≡ (length self.now == 0) }
     {
-        self.turned.is_empty()
+        self.first.is_none() && self.turned.is_empty()
     }
 
-    /// The first one, which waits no longer.
-    pub fn next(&mut self) -> Option<Datagram>
-        ensures { MatchOption result ((self.old ≡ []) × (self.new ≡ [])) (λ p. self.old ≡ p ∷ self.new) }
+    /// Copies the first one to the beginning of a buffer that is long enough, and it waits no longer. How many bytes it has; 0 where none waits.
+    pub fn give(&mut self, buffer: &mut [u8]) -> usize
+        ensures { IsGiven result buffer.old buffer.new self.old self.new }
     {
-        self.turned.pop()
+        if self.first.is_none() {
+            self.first = self.turned.pop();
+        }
+        let Some(packet) = &self.first else {
+            return 0;
+        };
+        let bytes = packet.as_bytes();
+        let count = bytes.len();
+        if count <= buffer.len() {
+            buffer[..count].copy_from_slice(bytes);
+            self.first = None;
+        }
+        count
     }
 }

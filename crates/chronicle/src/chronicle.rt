@@ -25,8 +25,8 @@ use crate::trace::Trace;
 use body_eval::Done;
 use disk::{MemDisk, SteadyDisk};
 use event_script::{Event, FrameOf, HouseEvent, NodeEvent, NodePlace};
+use grain::takes_its_numbers;
 use ids::{FrameNo, GrantId};
-use kind_check::Checked;
 use level_deques::Posts;
 use node_core::Work;
 use serial_meaning::{Job, Whole};
@@ -538,16 +538,6 @@ fn frame_named(grant: GrantId, frame: FrameNo) -> FrameOf {
         number: grant.number(),
         frame: u64::from(frame.number()),
     }
-}
-
-/// Whether the thread of a ready frame is there and takes its numbers, as it does of each frame that a node has.
-pub fn takes_its_numbers(checked: &Checked, work: &Work) -> bool
-    ensures { result ≡ true → Takes checked.now work.now.thread (length work.now.numbers) }
-{
-    if usize::from(work.thread) >= checked.threads() {
-        return false;
-    }
-    checked.program().thread(work.thread).numbers.len() == work.numbers.len()
 }
 
 /// The first packet from the one of a number on that is addressed to a receiver, with its bytes if it is a Roster. Else how many were

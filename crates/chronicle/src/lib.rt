@@ -41,7 +41,6 @@ mod trace;
 pub use beginning::Beginning;
 pub use chronicle::{
     Arrived, Chronicle, Continued, Delivery, Finished, Receiver, delivery_to, frame_of,
-    takes_its_numbers,
 };
 pub use kept::{Committed, Entry, Kept};
 pub use seat::ActorSeat;

@@ -3,9 +3,10 @@
 use crate::command::CommandFault;
 use crate::failure::Failure;
 use crate::named::{Place, beside_of, folder_of};
-use crate::whose::{is_ours, is_said, line_of, write_beside};
+use crate::whose::{is_ours, is_said, write_beside};
 use checkpoint::{Info, StoreError, inspect};
 use disk::{Disk, FileDisk};
+use job_line::line_of;
 use node_runner::RunError;
 use serial_meaning::Job;
 use std::alloc::Global;

@@ -42,14 +42,16 @@ use Rattle.node_runner.specs.contracts.turn.Found as Found
 use Rattle.serial_meaning.specs.contracts.whole.Whole as Whole
 use Rattle.serial_meaning.specs.contracts.keeping.UnderWay as UnderWay
 use Rattle.node_runner.specs.contracts.turn.Finished as Finished
-use Rattle.node_runner.specs.contracts.kept.KeptValues as KeptValues
-use Rattle.node_runner.specs.contracts.large.LargeTasks as LargeTasks
+use Rattle.grain.specs.contracts.kept.KeptValues as KeptValues
+use Rattle.grain.specs.contracts.large.LargeTasks as LargeTasks
+use Rattle.grain.specs.contracts.left.Left as Left
+use Rattle.grain.specs.contracts.sizes.TaskSizes as TaskSizes
 use Rattle.node_runner.specs.contracts.leavers.Leavers as Leavers
 use Rattle.node_runner.specs.contracts.line.Line as Line
 use Rattle.node_runner.specs.contracts.pace.Pace as Pace
 use Rattle.node_runner.specs.contracts.shared.Shared as Shared
 use Rattle.node_runner.proofs.bells.Bells.TheSendSync as bells
-use Rattle.node_runner.proofs.budget.Budget.TheSendSync as budget
+use Rattle.grain.proofs.budget.Budget.TheSendSync as budget
 use Rattle.node_runner.proofs.counts.Counts.TheSendSync as counts
 use Rattle.node_runner.proofs.config.RunConfig.TheSendSync as config
 
@@ -121,8 +123,11 @@ under_ways = Vec-send UnderWay.the_row under_way
 found_field : IsSend (Found.the_field).row
 found_field = enum_send (cases Found.the_type) ((search (sendable, done) depth 12, tt), ((search (sendable, whole) depth 12, tt), tt))
 
+left_field : IsSend (Left.the_field).row
+left_field = struct_send (shape Left.the_type) (search sendable depth 12, (search (sendable, wholes) depth 12, (search (sendable, under_ways) depth 12, (search sendable depth 12, tt))))
+
 evaluated_field : IsSend (Evaluated.the_field).row
-evaluated_field = struct_send (shape Evaluated.the_type) (search sendable depth 12, (search sendable depth 12, (found_field, (search (sendable, wholes) depth 12, (search (sendable, under_ways) depth 12, (search sendable depth 12, (search sendable depth 12, tt)))))))
+evaluated_field = struct_send (shape Evaluated.the_type) (search sendable depth 12, (search sendable depth 12, (found_field, (left_field, tt))))
 
 evaluated : IsSend Evaluated.the_row
 evaluated = recorded_send (Evaluated.the_field).row _ _ (Evaluated.the_type).to_one evaluated_field
@@ -141,6 +146,9 @@ home_field = struct_send (shape Home.the_type) (line_field, (search (sendable, k
 
 large_field : IsSend (LargeTasks.the_field).row
 large_field = struct_send (shape LargeTasks.the_type) (search (sendable, under_ways) depth 12, (search (sendable, crosses) depth 12, (search (sendable, crosses) depth 12, tt)))
+
+sizes_field : IsSend (TaskSizes.the_field).row
+sizes_field = struct_send (shape TaskSizes.the_type) (search (sendable, budget.the_send) depth 12, (large_field, (search sendable depth 12, (search sendable depth 12, tt))))
 
 own : IsSend (Owner.the_row Ticket.the_row)
 own = search (sendable, owner.the_send, ticket) depth 25
@@ -161,23 +169,14 @@ desk_field = struct_send (shape Desk.the_type) (
       (
         search sendable depth 12,
         (
-          search (sendable, budget.the_send) depth 12,
+          sizes_field,
           (
-            large_field,
+            search sendable depth 12,
             (
-              search sendable depth 12,
+              search (sendable, crosses) depth 12,
               (
-                search sendable depth 12,
-                (
-                  search sendable depth 12,
-                  (
-                    search (sendable, crosses) depth 12,
-                    (
-                      search (sendable, frames) depth 12,
-                      tt,
-                    ),
-                  ),
-                ),
+                search (sendable, frames) depth 12,
+                tt,
               ),
             ),
           ),

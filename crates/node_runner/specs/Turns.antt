@@ -13,7 +13,7 @@ IsFoundOf p (Turn d) = d.program ≡ p
 IsFoundOf p (Whole w) = w.program ≡ p
 
 abbrev pub IsEvaluatedOf : Program → Evaluated → Type 0
-IsEvaluatedOf p e = IsFoundOf p e.found × AreWholesOf p e.kept.items
+IsEvaluatedOf p e = IsFoundOf p e.found × AreWholesOf p e.left.kept.items
 
 -- a program, and what was evaluated of it, if something was
 pub record FinishedOf : Type 0 where

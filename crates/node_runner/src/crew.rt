@@ -7,11 +7,11 @@ ghost use Rattle.node_runner.specs.Runs.{IsContextIn, IsNodeIn, IsWorkerOf};
 
 use crate::bells::Bells;
 use crate::desk::{Desk, Home, Ticket};
-use crate::kept::KeptValues;
 use crate::line::Line;
 use crate::turn::Finished;
 use chronicle::ActorSeat;
 use disk::SteadyDisk;
+use grain::KeptValues;
 use local_pool::{BodyWorker, LocalPool, TurnPass, TurnQueue};
 use serial_meaning::Job;
 use start_words::Pen;

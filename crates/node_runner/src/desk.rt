@@ -4,14 +4,12 @@ ghost use Rattle.node_runner.specs.Lines.{IsHomeOf};
 ghost use Rattle.node_runner.specs.Turns.{IsFoundOf};
 
 use crate::bells::Bells;
-use crate::budget::Budget;
-use crate::kept::{KeptValues, LEVELS};
-use crate::large::LargeTasks;
 use crate::line::Line;
 use crate::turn::{Evaluated, Found};
 use chronicle::frame_of;
 use event_script::FrameOf;
-use kind_check::{BlockCode, Checked, EndCode, Leaf};
+use grain::{KeptValues, TaskSizes};
+use kind_check::Checked;
 use local_pool::Owner;
 use node_core::Work;
 use serial_meaning::Whole;
@@ -20,9 +18,6 @@ use std::sync::{Arc, Wait};
 
 /// How many tickets of a node are out at most for each of its body workers.
 const TICKETS: usize = 2;
-
-/// After how many evaluations in a row that came to their end the next ones keep values on few levels.
-const MOST_ENDED: u64 = 64;
 
 /// A ready frame of a node that waits for a body worker, with the number of the ticket, and in at most how many turns its task is to be
 /// evaluated whole; 0 where only its own turn is. On so many levels below it is kept what was finished and what was under way.
@@ -56,11 +51,7 @@ pub(crate) struct Desk {
     pub(crate) home: Home,
     bells: Arc<Bells, Global>,
     workers: usize,
-    budget: Budget,
-    large: LargeTasks,
-    // On how many levels the next evaluation keeps values, and how many of the last ones came to their end in a row.
-    levels: u16,
-    ended: u64,
+    sizes: TaskSizes,
     next: u64,
     // The tickets that are out, and the frame of each at the same index.
     tickets: Vec<u64>,
@@ -85,10 +76,7 @@ impl Desk {
             home,
             bells,
             workers,
-            budget: Budget::new(grain),
-            large: LargeTasks::new(alloc)?,
-            levels: LEVELS,
-            ended: 0,
+            sizes: TaskSizes::new(alloc, grain)?,
             next: 0,
             tickets: Vec::with_capacity(alloc, room)?,
             frames: Vec::with_capacity(alloc, room)?,
@@ -130,9 +118,9 @@ impl Desk {
         }
         let ticket = Ticket {
             number,
-            most_turns: self.budget.most_turns(),
+            most_turns: self.sizes.most_turns(),
             work,
-            levels: self.levels,
+            levels: self.sizes.levels(),
         };
         if self.owner.offer(ticket).is_err() {
             self.removes(number);
@@ -147,14 +135,14 @@ impl Desk {
     pub(crate) fn is_short(&self, checked: &Checked, work: &Work) -> bool
         requires { Takes checked.now work.now.thread (length work.now.numbers) }
     {
-        self.budget.is_some() && only_sends(checked.body(work.thread))
+        self.sizes.is_short(checked, work)
     }
 
     /// Whether a ready frame's task is known to be large, which it isn't any more then, or isn't tried, as its thread's tasks are.
     pub(crate) fn was_large(&mut self, work: &Work) -> bool
         ensures { self.new.home ≡ self.old.home }
     {
-        self.large.takes(work) || self.large.passes_over(work.thread)
+        self.sizes.was_large(work)
     }
 
     /// The value of a ready frame's task, where an evaluation kept it. It isn't kept any more then.
@@ -165,34 +153,8 @@ impl Desk {
     {
         let _ = checked;
         let whole = self.home.kept.take(work)?;
-        self.budget.ends_kept(whole.turns());
+        self.sizes.ends_kept(&whole);
         Some(whole)
-    }
-
-    /// A task was evaluated to its end. Where those before it were too, the next ones keep few values.
-    fn ends(&mut self, whole: &Whole)
-        ensures { self.new.home ≡ self.old.home }
-    {
-        self.budget.ends(whole.turns());
-        self.large.ends(whole.thread());
-        self.ended = self.ended.saturating_add(1);
-        if self.ended >= MOST_ENDED {
-            self.levels = LEVELS;
-        }
-    }
-
-    /// A task of a thread was tried in so many turns, and not evaluated to its end. Those that follow keep values on so many levels. Where none
-    /// may be evaluated whole it wasn't tried.
-    fn fails(&mut self, thread: u8, turns: u64, levels: u16)
-        ensures { self.new.home ≡ self.old.home }
-    {
-        if turns == 0 {
-            return;
-        }
-        self.budget.fails(turns);
-        self.large.fails(thread);
-        self.levels = levels;
-        self.ended = 0;
     }
 
     /// A ticket is out. Whether there was memory.
@@ -219,18 +181,13 @@ impl Desk {
             ticket,
             frame,
             found,
-            kept,
-            large,
-            levels,
-            vain,
+            left,
         } = self.home.line.take(rt, checked)?;
         self.removes(ticket);
         match &found {
-            Found::Whole(whole) => self.ends(whole),
-            Found::Turn(turn) => self.fails(turn.thread(), vain, levels),
+            Found::Whole(whole) => self.sizes.ends(whole),
+            Found::Turn(turn) => self.home.kept.add(self.sizes.fails(turn.thread(), left)),
         }
-        self.large.learns(large);
-        self.home.kept.add(kept);
         Some(Returned { frame, found })
     }
 
@@ -254,8 +211,7 @@ impl Desk {
         self.takes_back();
         self.tickets.clear();
         self.frames.clear();
-        self.large.forgets();
-        self.budget.forgets();
+        self.sizes.forgets();
         self.home.kept.clear();
     }
 
@@ -270,14 +226,5 @@ impl Desk {
         if index < self.frames.len() {
             let _ = self.frames.swap_remove(index);
         }
-    }
-}
-
-/// Whether a body gives a number however it ends.
-fn only_sends(block: &BlockCode) -> bool {
-    match &block.end {
-        EndCode::Leaf(Leaf::Sends(_)) => true,
-        EndCode::Leaf(Leaf::Joins(_, _)) => false,
-        EndCode::If(_, first, second) => only_sends(first) && only_sends(second),
     }
 }

@@ -13,7 +13,7 @@
 //! the turn is stale, and the event refuses it. Before a crash or a departure the node takes its tickets back.
 //!
 //! **Whole tasks.** Where the configuration allows so many turns, a body worker evaluates the task of its ticket whole, in as many turns as
-//! those before it suggest (`Budget`). What it finished below a task that takes more is kept, and frames are carried out by it; the frames of
+//! those before it suggest (`grain::TaskSizes`). What it finished below a task that takes more is kept, and frames are carried out by it; the frames of
 //! tasks that are known to be large, and those of threads that spawn nothing, take their turns in the node itself (`does_itself`).
 //!
 //! **Faults** are drawn from one word, for each place by itself: packets that are lost and that come twice (`Fates`), and whom a node asks.
@@ -34,7 +34,6 @@
 #![tactic(auto)]
 
 mod bells;
-mod budget;
 mod config;
 mod counts;
 mod crew;
@@ -44,8 +43,6 @@ mod fates;
 mod gate;
 mod house;
 mod inbox;
-mod kept;
-mod large;
 mod leavers;
 mod line;
 mod members;

@@ -15,9 +15,10 @@ use crate::resting::{YIELDS, asks_in_vain, nap, pause, pauses, rest, rest_idle, 
 use crate::shared::{Shared, commit, commit_turn, commit_whole};
 use crate::turn::Found;
 use body_eval::Done;
-use chronicle::{ActorSeat, Continued, Receiver, frame_of, takes_its_numbers};
+use chronicle::{ActorSeat, Continued, Receiver, frame_of};
 use disk::SteadyDisk;
 use event_script::{Event, FrameOf, NodeEvent, NodePlace};
+use grain::takes_its_numbers;
 use node_core::{NodeError, Work};
 use serial_meaning::Whole;
 use start_words::Pen;

@@ -4,9 +4,10 @@ ghost use Rattle.node_runner.specs.Turns.{IsEvaluatedOf};
 
 use body_eval::Done;
 use event_script::FrameOf;
+use grain::Left;
 use kind_check::Checked;
 use local_pool::Stamped;
-use serial_meaning::{UnderWay, Whole};
+use serial_meaning::Whole;
 use std::marker::Model;
 use std::snapshot::Snapshot;
 
@@ -17,18 +18,14 @@ pub(crate) enum Found {
     Whole(Whole),
 }
 
-/// What a body worker evaluated: the number of the ticket, its frame, and what was found; and where its task wasn't evaluated to its end, what
-/// was kept of tasks below it, which ones are known to be large, on how many levels the next evaluation should keep values, and how many turns were
-/// tried in vain.
+/// What a body worker evaluated: the number of the ticket, its frame, and what was found; and what is left where its task wasn't evaluated to its
+/// end.
 #[derive(Drop)]
 pub(crate) struct Evaluated {
     pub(crate) ticket: u64,
     pub(crate) frame: FrameOf,
     pub(crate) found: Found,
-    pub(crate) kept: Vec<Whole>,
-    pub(crate) large: Vec<UnderWay>,
-    pub(crate) levels: u16,
-    pub(crate) vain: u64,
+    pub(crate) left: Left,
 }
 
 /// What comes back from body workers, all of one program. The first one has nothing, and stands for the program. Contracts see both.

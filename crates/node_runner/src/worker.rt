@@ -8,8 +8,6 @@ use crate::counts::{Counts, End, Turns};
 use crate::crew::WorkerContext;
 use crate::desk::Ticket;
 use crate::gate::Gate;
-use crate::kept::{LEVELS, levels_behind};
-use crate::large::large_of;
 use crate::line::Line;
 use crate::muster::musters;
 use crate::resting::{YIELDS, rest};
@@ -17,11 +15,12 @@ use crate::shared::Shared;
 use crate::turn::{Evaluated, Finished, Found};
 use board::Note;
 use body_eval::Done;
-use chronicle::{frame_of, takes_its_numbers};
+use chronicle::frame_of;
 use disk::SteadyDisk;
+use grain::{Left, evaluate, takes_its_numbers};
 use kind_check::Checked;
 use node_core::Work;
-use serial_meaning::{Flat, Keeper, Whole};
+use serial_meaning::Flat;
 use std::alloc::Global;
 use std::sync::Wait;
 use std::thread::yield_now;
@@ -153,16 +152,15 @@ fn evaluates(
         ..
     } = ticket.work;
     let most = counts.takes_for(ticket.most_turns);
-    let mut keeper = Keeper::new(alloc, checked, ticket.levels);
-    match Whole::of(
+    match evaluate(
         alloc,
         checked,
         flat,
-        &mut keeper,
         room,
         thread,
         numbers,
         most,
+        ticket.levels,
     ) {
         Ok(whole) => {
             counts.gives_back(most - whole.turns());
@@ -170,26 +168,17 @@ fn evaluates(
                 ticket: ticket.number,
                 frame,
                 found: Found::Whole(whole),
-                kept: Vec::new(alloc),
-                large: Vec::new(alloc),
-                levels: LEVELS,
-                vain: 0,
+                left: Left::nothing(alloc),
             })
         }
-        Err((numbers, _)) => {
-            let (kept, mut large) = keeper.into_parts();
-            let levels = levels_behind(kept.as_slice(), room, most);
-            large_of(&mut large, kept.as_slice(), most);
+        Err((numbers, left)) => {
             counts.wastes(most);
             let turn = Done::on(alloc, checked, thread, numbers).ok()?;
             Some(Evaluated {
                 ticket: ticket.number,
                 frame,
                 found: Found::Turn(turn),
-                kept,
-                large,
-                levels,
-                vain: most,
+                left,
             })
         }
     }

@@ -4,7 +4,7 @@ ghost use Rattle.serial_meaning.specs.Whole.{AreWholesOf};
 
 use kind_check::Checked;
 use node_core::Work;
-use serial_meaning::{ALL_LEVELS, Whole};
+use serial_meaning::Whole;
 use std::alloc::Global;
 use std::marker::Model;
 use std::snapshot::Snapshot;
@@ -12,12 +12,9 @@ use std::snapshot::Snapshot;
 /// From how many values on older ones are forgotten.
 const MOST_KEPT: usize = 2_048;
 
-/// On how many levels below a task an evaluation keeps values at most. To do so on all of them takes up to a half longer.
-pub(crate) const LEVELS: u16 = 7;
-
 /// Values of tasks of one program. Contracts see the program alone.
 #[derive(Drop)]
-pub(crate) struct KeptValues {
+pub struct KeptValues {
     // It has no bytes.
     program: Snapshot<Checked>,
     values: Vec<Whole>,
@@ -42,7 +39,7 @@ impl Model for KeptValues {
 
 impl KeptValues {
     /// None is kept yet.
-    pub(crate) fn new(alloc: Global, checked: &Checked) -> KeptValues
+    pub fn new(alloc: Global, checked: &Checked) -> KeptValues
         ensures { result ≡ checked.now }
     {
         KeptValues {
@@ -52,7 +49,7 @@ impl KeptValues {
     }
 
     /// The value of a ready frame's task, if it is kept. It isn't any more.
-    pub(crate) fn take(&mut self, work: &Work) -> Option<Whole>
+    pub fn take(&mut self, work: &Work) -> Option<Whole>
         ensures same { self.new ≡ self.old }
         ensures own { IfSome result (λ w. w.program ≡ self.old) }
     {
@@ -64,7 +61,7 @@ impl KeptValues {
     }
 
     /// Values are kept, as far as there is memory.
-    pub(crate) fn add(&mut self, mut values: Vec<Whole>)
+    pub fn add(&mut self, mut values: Vec<Whole>)
         requires { AreWholesOf self.old values.items }
         ensures { self.new ≡ self.old }
     {
@@ -75,26 +72,10 @@ impl KeptValues {
     }
 
     /// None is kept any more.
-    pub(crate) fn clear(&mut self)
+    pub fn clear(&mut self)
         ensures { self.new ≡ self.old }
     {
         self.values.clear();
-    }
-}
-
-/// On how many levels those evaluations should keep values that follow one of a task with so many places below its own, which took so many
-/// turns and didn't come to its end: on all of them, where what it kept on the first ones is less than three quarters of what it did.
-pub(crate) fn levels_behind(kept: &[Whole], room: u16, turns: u64) -> u16 {
-    let mut near: u64 = 0;
-    for value in kept {
-        if room.saturating_sub(value.room()) <= LEVELS {
-            near = near.saturating_add(value.turns());
-        }
-    }
-    if near < turns - turns / 4 {
-        ALL_LEVELS
-    } else {
-        LEVELS
     }
 }
 
