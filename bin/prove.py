@@ -36,7 +36,17 @@ EVERY = 300
 
 
 def toolchain():
-    """Loads what `rt` is made of."""
+    """Loads what `rt` is made of, and has it take over what other clones have proved."""
+    command = load_command()
+    # (earlier releases of the toolchain take over nothing from other clones)
+    if hasattr(command, "share_work"):
+        command.share_work(True)
+    remember_sums(command.rtlib)
+    return command.rtlib
+
+
+def load_command():
+    """Loads the command `rt`."""
     if shutil.which("rt") is None:
         print("missing: the command `rt`, of the toolchain", file=sys.stderr)
         sys.exit(2)
@@ -46,11 +56,7 @@ def toolchain():
     sys.modules["rt_command"] = command
     loader.exec_module(command)
     command.rtlib.guarded()
-    # (earlier releases of the toolchain take over nothing from other clones)
-    if hasattr(command, "share_work"):
-        command.share_work(True)
-    remember_sums(command.rtlib)
-    return command.rtlib
+    return command
 
 
 def remember_sums(rtlib):
@@ -177,6 +183,21 @@ def mark(program):
     of_file = os.stat(program)
     with open(f"{program}.proved", "w", encoding="utf-8") as it:
         it.write(f"{of_file.st_ino} {of_file.st_size} {int(of_file.st_mtime)}\n")
+
+
+def stamp_libraries(name):
+    """Says of each library below a crate that it is proved from the files that are there. To be called behind `rt ci`, which has just proved and built
+    it in this place, and leaves it without the stamp by which `rt lib` knows that."""
+    command, where = load_command(), os.getcwd()
+    os.chdir(TOP)
+    command.Crate.cuts_libraries, command.Crate.allowed = True, command.handles_of(TOP)
+    of_name = {it.name: it for it in command.crates_of(TOP)}
+    for crate in of_name[name].below():
+        rlib = f"{crate.folder}/out/rlib"
+        if os.path.isfile(f"{rlib}/{crate.name}.rlib/format"):
+            with open(f"{rlib}/stamp", "w", encoding="utf-8") as it:
+                it.write(crate.stamp())
+    os.chdir(where)
 
 
 def main(words):

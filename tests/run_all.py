@@ -109,6 +109,8 @@ def main(words):
             # (so that bin/proved takes what the gate has proved and built)
             for it in (CILKNOW, NOWSIM, PLAY, HELD):
                 module_in("bin", "prove").mark(f"{TOP}/{it}")
+            # (and bin/library what is below the library for C)
+            module_in("bin", "prove").stamp_libraries("cilknow_c")
     sys.stdout.buffer.write(of_gate)
     return 0
 
