@@ -1,6 +1,5 @@
 """Runs on processes that reach each other over UDP, timed: see bench/machines."""
 import os
-import resource
 import signal
 import socket
 import subprocess
@@ -62,7 +61,7 @@ def ticks(number):
         return sum(map(int, it.read().rpartition(")")[2].split()[11:13]))
 
 
-def many_idle():
+def idle():
     """Of so many workers that find nothing to do, each: the processor time in a second; and that of the house."""
     with tempfile.TemporaryDirectory() as folder:
         run = Run(("60",), folder)
@@ -81,32 +80,10 @@ def many_idle():
         return took[0], sum(took[1:]) / MANY
 
 
-def idle():
-    """Of a worker that finds nothing to do: its processor time in a second, and how many requests it makes."""
-    with tempfile.TemporaryDirectory() as folder:
-        run = Run(("60",), folder)
-        # (one that holds the root and does nothing)
-        holder = run.worker()
-        time.sleep(0.5)
-        holder.send_signal(signal.SIGSTOP)
-        before = resource.getrusage(resource.RUSAGE_CHILDREN)
-        worker = run.worker()
-        time.sleep(IDLE_SECONDS)
-        worker.send_signal(signal.SIGTERM)
-        _, told = worker.communicate()
-        after = resource.getrusage(resource.RUSAGE_CHILDREN)
-        holder.kill(), run.house.kill()
-        holder.wait(), run.house.wait()
-        asks = [int(line.split()[1]) for line in told.splitlines() if line.startswith("asks ")]
-        return (after.ru_utime + after.ru_stime - before.ru_utime - before.ru_stime) / IDLE_SECONDS, asks[0] / IDLE_SECONDS
-
-
 alone = min(serial() for _ in range(TIMES))
 print(f"FIB {INPUT}: serial {alone:.2f} s")
 for count in range(1, MOST_WORKERS + 1):
     took = min(machines(count) for _ in range(TIMES))
     print(f"a house and {count} workers: {took:.2f} s, {alone / took:.2f} times as fast as serial")
-share, asked = idle()
-print(f"a worker without work: {100 * share:.2f} % of a core, {asked:.0f} requests a second")
-house, each = many_idle()
+house, each = idle()
 print(f"{MANY} workers without work: {100 * each:.2f} % of a core each, and the house {100 * house:.2f} %")
