@@ -342,6 +342,11 @@ def refusals():
             (("worker", "--join", at, "--key", job.key, "--store", job.store), 2, "not for a worker"),
             (("house", FIB, INPUT, *own, "--grain", "5"), 2, "not for a house"),
             (("house", FIB, "x", *own), 2, "no number"),
+            (("house", FIB, "9223372036854775808", *own), 2, "no number"),
+            (("house", FIB, *own, "--", "--job"), 2, "no number"),
+            (("house", FIB, *("1",) * 65, *own), 2, "more than 64 inputs"),
+            (("house", FIB, INPUT, *own, "--job"), 2, "no such option"),
+            (("house", FIB, INPUT, *own, "--silence", "0.1"), 2, "doesn't fit"),
             (("house", FIB, INPUT, *own, "--none"), 2, "no such option"),
             (("house", f"{folder}/absent.ck", INPUT, *own), 4, "No such file"),
             (("house", f"{folder}/wrong.ck", INPUT, *own), 1, "E2"),
@@ -369,6 +374,11 @@ def refusals():
             refused(job, ("house", f"{EXAMPLES}/gcd.ck", "10", "4", *own), 3, "E70")
             refused(job, ("house", FIB, "10", *own, "--job", "2"), 3, "E70")
             tell(told(job.begin(*small), 20)[:2] == (0, "value 55\n"), "a small job again")
+            # inputs below 0, also behind options and `--`
+            for words in (("-3", *own), (*own, "-3"), (*own, "--", "-3")):
+                os.remove(job.store), os.remove(f"{job.store}.job")
+                house, worker = job.begin("house", FIB, *words), job.worker()
+                tell(told(house, 20)[:2] == (0, "value -3\n") and told(worker, 20)[0] == 0, f"an input below 0: {words}")
         finally:
             job.end()
 

@@ -86,23 +86,20 @@ int words_of(int count, char **given, struct words *words) {
     const char *address = NULL;
     bool fits = true;
     opterr = 0, optind = 2;
-    /* (a number below 0 is an input: what begins with `-` and a digit isn't an option) */
-    for (;;) {
-        if (optind < count && given[optind][0] == '-' && given[optind][1] >= '0' && given[optind][1] <= '9') {
-            if (words->inputs == 64) return misused("more than 64 inputs", NULL);
-            char *end;
-            errno = 0;
-            words->input[words->inputs++] = strtoll(given[optind], &end, 10);
-            if (*end || errno) return misused("no number", given[optind]);
-            optind++;
+    for (bool only_words = false; optind < count;) {
+        const char *word = given[optind];
+        if (!only_words && !strcmp(word, "--")) {
+            only_words = true, optind++;
             continue;
         }
-        int option = getopt_long(count, given, "+", options, NULL);
-        if (option == -1) {
-            if (optind >= count) break;
-            const char *word = given[optind++];
+        /* (a number below 0 is an input: what begins with `-` and a digit isn't an option) */
+        if (only_words || word[0] != '-' || (word[1] >= '0' && word[1] <= '9')) {
+            optind++;
             if (!words->house) return misused("a worker takes no FILE and no INPUT", word);
-            if (!words->file) { words->file = word; continue; }
+            if (!words->file) {
+                words->file = word;
+                continue;
+            }
             if (words->inputs == 64) return misused("more than 64 inputs", NULL);
             char *end;
             errno = 0;
@@ -110,6 +107,7 @@ int words_of(int count, char **given, struct words *words) {
             if (!*word || *end || errno) return misused("no number", word);
             continue;
         }
+        int option = getopt_long(count, given, "+", options, NULL);
         if (option == HELP) return fputs(usage, stdout), -1;
         if (option == '?') return misused("no such option, or one without what it takes", given[optind - 1]);
         if (is_others((enum which)option, words->house)) return misused(words->house ? "not for a house" : "not for a worker", given[optind - 1]);
