@@ -2,7 +2,8 @@
 others behind it first, each with its share of the processors that are free, and then the program. (`rt run` proves
 one after the other.) What is proved stays where this is broken off.
 
-usage: bin/prove.py PROGRAM, as bin/proved does
+usage: bin/prove.py PROGRAM, as bin/proved does; or that of a static library, as bin/library does, which proves and
+builds the libraries below it alone
 
 It says at its start about how long it will take, by what each crate took last (docs/times.tsv), and then as each one
 is done. It goes by the toolchain's own parts and takes the locks that `rt all` takes, so that no other `rt` works on
@@ -207,10 +208,11 @@ def main(words):
     rtlib, (program,) = toolchain(), words
     os.chdir(f"{TOP}/crates")
     whole = {it.name: it for it in rtlib.crates_below(os.getcwd())}
-    if program not in whole or not whole[program].is_program:
+    if program not in whole or not (whole[program].is_program or whole[program].is_static):
         say(f"there is no program {program}")
         return 2
-    crates = {it.name: whole[it.name] for it in [*whole[program].below(), whole[program]]}
+    top = [whole[program]] if whole[program].is_program else []
+    crates = {it.name: whole[it.name] for it in [*whole[program].below(), *top]}
     chain = Chain(crates, free_lanes())
     held = rtlib.lock(list(crates.values()))
     for name in chain.order:
@@ -219,14 +221,15 @@ def main(words):
             chain.done.add(name)
             chain.left.remove(name)
     if chain.left:
-        count = len(chain.left) - (program in chain.left)
-        say(f"{program}: {count} of {len(crates) - 1} libraries and the program have to be proved on {chain.lanes} "
+        count, and_it = len(chain.left) - (program in chain.left), " and the program" if top else ""
+        say(f"{program}: {count} of {len(crates) - len(top)} libraries{and_it} have to be proved on {chain.lanes} "
             f"processors, by what they took last in {told(chain.estimate())}, or more where these have other work")
         failed = prove(rtlib, chain)
         if failed:
             say(f"the proof of {failed} failed: {crates[failed].folder}/out/build.log")
             os._exit(FAILED)
-    mark(f"{crates[program].folder}/out/{program}")
+    if top:
+        mark(f"{crates[program].folder}/out/{program}")
     del held
     return 0
 
