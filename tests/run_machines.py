@@ -308,7 +308,7 @@ def launchers():
             tell((status, out) == (0, f"{VALUE}\n"), f"while_idle: {status} {out} {err}")
         finally:
             idle.terminate()
-            tell(idle.wait(40) == 0, "while_idle ends")
+            tell(idle.wait(60) == 0, "while_idle ends")
             job.end()
 
 

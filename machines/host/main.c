@@ -7,46 +7,55 @@
 #include <sys/wait.h>
 #include <unistd.h>
 
+enum { MOST_WORKERS = 1024 };
+static volatile pid_t workers[MOST_WORKERS];
 static volatile sig_atomic_t ends;
-static void end(int none) { (void)none, ends = 1; }
 
-/* Workers, each a process; who is told to go tells them. The greatest status. */
+/* Who is told to go tells the workers. */
+static void end(int signal) {
+    ends = 1;
+    for (int i = 0; i < MOST_WORKERS; i++)
+        if (workers[i] > 0) (void)kill(workers[i], signal == SIGINT ? SIGINT : SIGTERM);
+}
+
+/* Workers, each a process. The greatest status. */
 static int run_workers(const struct words *words) {
-    enum { MOST = 1024 };
-    static pid_t workers[MOST];
-    uint64_t count = 0;
     int status = 0;
+    sigset_t both, before;
+    sigemptyset(&both), sigaddset(&both, SIGTERM), sigaddset(&both, SIGINT);
     signal(SIGTERM, end), signal(SIGINT, end);
-    for (; count < words->bodies; count++) {
-        workers[count] = fork();
-        if (workers[count] == 0) {
+    uint64_t count = 0;
+    for (; count < words->bodies && !ends; count++) {
+        /* (a signal comes before this, or once its process is known) */
+        sigprocmask(SIG_BLOCK, &both, &before);
+        pid_t worker = fork();
+        if (worker == 0) {
             struct words own = *words;
             own.faults.seed += count;
             (void)prctl(PR_SET_PDEATHSIG, SIGTERM);
             signal(SIGTERM, SIG_DFL), signal(SIGINT, SIG_DFL);
+            sigprocmask(SIG_SETMASK, &before, NULL);
             return run_worker(&own);
         }
-        if (workers[count] < 0) {
+        workers[count] = worker;
+        sigprocmask(SIG_SETMASK, &before, NULL);
+        if (worker < 0) {
             tell("a process: %s", strerror(errno));
-            status = STATUS_FILE, ends = 1;
+            status = STATUS_FILE;
+            end(SIGTERM);
             break;
         }
     }
-    for (uint64_t left = count; left;) {
+    for (;;) {
         int one;
-        if (ends) {
-            for (uint64_t i = 0; i < count; i++) if (workers[i] > 0) kill(workers[i], SIGTERM);
-            ends = 0;
-        }
         pid_t ended = wait(&one);
         if (ended < 0 && errno == EINTR) continue;
-        if (ended < 0) break;
-        for (uint64_t i = 0; i < count; i++) if (workers[i] == ended) workers[i] = 0;
-        int own = WIFEXITED(one) ? WEXITSTATUS(one) : STATUS_NONE;
+        if (ended < 0) return status;
+        for (uint64_t i = 0; i < count; i++)
+            if (workers[i] == ended) workers[i] = 0;
+        int own = WIFEXITED(one) ? WEXITSTATUS(one) : ends ? STATUS_OK : STATUS_NONE;
         status = own > status ? own : status;
-        left--;
     }
-    return status;
 }
 
 int main(int count, char **given) {
