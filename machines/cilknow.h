@@ -90,6 +90,11 @@ static inline int64_t cilknow_packet(cilknow_actor *actor, uint8_t *bytes, size_
 static inline int64_t cilknow_file_call(cilknow_actor *actor, uint8_t *bytes, size_t len) {
     return cilknow_give(actor, 1, bytes, len);
 }
+static inline uint64_t cilknow_file_number(const uint8_t *call) { /* that offset or length */
+    uint64_t number = 0;
+    for (int i = 1; i < 9; i++) number = number << 8 | call[i];
+    return number;
+}
 
 /* All calls without bytes; use the functions below. */
 int64_t cilknow_call(cilknow_actor *actor, uint32_t what, uint64_t a);

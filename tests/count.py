@@ -1,6 +1,6 @@
 """Counts what pages tell, and compares it with them.
 
-usage: bin/count [--look]     compares; the status is 1 where a page tells another number
+usage: bin/count [--check]    compares; the status is 1 where a page tells another number (--look is the same)
        bin/count --write      writes the numbers into the pages, and tells each that was another
        bin/count WHAT [NAME..]   prints one number
 
@@ -227,14 +227,14 @@ def main(words):
     if words and words[0] in ("--help", "-h"):
         print(__doc__)
         return 0
-    if words and words not in (["--write"], ["--look"]):
+    if words and words not in (["--write"], ["--look"], ["--check"]):
         number = counted(words)
         if number is None:
             print(f"bin/count: nothing is counted by `{' '.join(words)}`; --help tells what is", file=sys.stderr)
             return 2
         print(number)
         return 0
-    words = [] if words == ["--look"] else words
+    words = words if words == ["--write"] else []
     tally = Tally()
     for page in DOORS:
         number = sum(bool(re.search(r"[^\W_]", it)) for it in read(f"{TOP}/{page}").split())

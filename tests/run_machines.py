@@ -29,7 +29,8 @@ RUNS = int(sys.argv[3]) if len(sys.argv) > 3 else 12
 PLAIN, SANITIZED = FOLDER, f"{FOLDER}/sanitized"
 # (an actor's job stays until its process ends)
 os.environ["ASAN_OPTIONS"] = "detect_leaks=0"
-FIB, INPUT, VALUE = f"{EXAMPLES}/fib.ck", "33", "value 3524578"
+FIB, INPUT, VALUE = f"{EXAMPLES}/fib.ck", "36", "value 14930352"
+STORE = 4360
 TENTH = ("--lose", "10", "--repeat", "10", "--late", "10")
 
 CHECKS = Tally()
@@ -63,6 +64,13 @@ class Job:
 
     def worker(self, *words):
         return self.begin("worker", "--join", f"127.0.0.1:{self.port}", "--key", self.key, "--stats", *self.faults, *words)
+
+    def is_up(self):
+        """Waits until the house has made its store; it answers then, and hears what it is told."""
+        for _ in range(500):
+            if os.path.exists(self.store) and os.path.getsize(self.store) == STORE:
+                return
+            time.sleep(0.02)
 
     def end(self):
         for process in self.started:
@@ -167,7 +175,8 @@ def disturbed(number):
         try:
             house = job.house("--silence", "1")
             workers = [job.worker("--grain", "2000") for _ in range(3)]
-            time.sleep(chance.uniform(0.05, 0.4))
+            job.is_up()
+            time.sleep(chance.uniform(0.1, 0.4))
             workers[0].kill()
             time.sleep(chance.uniform(0, 0.2))
             workers[1].send_signal(signal.SIGTERM)
@@ -196,11 +205,13 @@ def disturbed(number):
 def strangers():
     """Datagrams that are none of this job's: from no one who has the key, from a job of another key, cut off, and repeated."""
     with tempfile.TemporaryDirectory() as folder, tempfile.TemporaryDirectory() as other, socket.socket(socket.AF_INET, socket.SOCK_DGRAM) as stranger:
-        job, of_others = Job(folder, inputs=("29",)), Job(other)
+        job, of_others = Job(folder, inputs=("36",)), Job(other)
         of_others.port = job.port
         try:
             house, chance = job.house(), random.Random(1)
             outsider = of_others.worker("--patience", "3")
+            # (what is sent before the house listens comes to nobody)
+            job.is_up()
             worker = job.worker("--grain", "1000")
             for _ in range(300):
                 stranger.sendto(chance.randbytes(chance.randrange(1, 200)), ("127.0.0.1", job.port))
@@ -208,7 +219,7 @@ def strangers():
             for _ in range(1000):
                 stranger.sendto(b"x" * 40, ("127.0.0.1", job.port))
             status, out, err = told(house)
-            tell((status, out) == (0, "value 514229\n"), f"strangers: {status} {out} {err}")
+            tell((status, out) == (0, "value 14930352\n"), f"strangers: {status} {out} {err}")
             wrong = [int(line.split()[1]) for line in err.splitlines() if line.startswith("wrong-tags")]
             tell(wrong and wrong[0] >= 1000, f"strangers: datagrams were dropped: {wrong}")
             tell(told(outsider)[0] == 3, "strangers: who has another key gets no job")
@@ -234,12 +245,12 @@ def late_house():
         job = Job(folder)
         try:
             house = job.house()
-            time.sleep(0.3)
+            job.is_up()
             house.send_signal(signal.SIGTERM)
             status, out, err = told(house, 5)
             tell((status, out) == (3, ""), f"a house that is asked to end: {status} {out} {err}")
             alone = job.worker()
-            time.sleep(0.2)
+            time.sleep(0.5)
             alone.send_signal(signal.SIGTERM)
             tell(told(alone, 5)[0] == 0, "a worker that is told to go before it has a job")
         finally:
@@ -365,7 +376,7 @@ def refusals():
         try:
             small = ("house", FIB, "10", *own)
             house = job.begin(*small)
-            time.sleep(0.2)
+            job.is_up()
             refused(job, ("house", FIB, "10", "--store", job.store, "--listen", f"127.0.0.1:{free_port()}", "--key", job.key), 4, "another run has it")
             worker = job.worker()
             tell(told(house, 20)[:2] == (0, "value 55\n"), "a small job")

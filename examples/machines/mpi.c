@@ -40,8 +40,7 @@ static int sends(cilknow_actor *actor, int file, int ranks) {
     static uint8_t bytes[CILKNOW_LONGEST], call[CILKNOW_FILE_LONGEST];
     int64_t len;
     while (file >= 0 && (len = cilknow_file_call(actor, call, sizeof call)) > 0) {
-        uint64_t number = 0;
-        for (int i = 1; i < 9; i++) number = number << 8 | call[i];
+        uint64_t number = cilknow_file_number(call);
         int done = call[0] == 1 ? pwrite(file, call + 9, (size_t)len - 9, (off_t)number) == len - 9 : call[0] == 2 ? !ftruncate(file, (off_t)number) : !fsync(file);
         if (!done) return perror("the store"), 0;
     }

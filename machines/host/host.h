@@ -62,12 +62,11 @@ struct wire {
     struct { struct peer to; uint8_t bytes[64 + PART + 128]; size_t len; unsigned behind; } late;
 };
 bool wire_open(struct wire *wire, const char *address, bool listens, struct peer *there, const struct words *words);
-bool wire_key(struct wire *wire, const char *path);
 void wire_bind(struct wire *wire, uint64_t job, const uint8_t *line, size_t len); /* the key of a job, by its line */
 void wire_say(struct wire *wire, const struct said *said, const struct peer *to);
 bool wire_hear(struct wire *wire, struct said *said);   /* false where nothing is there; what isn't tagged rightly is dropped */
 void wire_wait(struct wire *wire, uint64_t most_micros);
-/* Sends a packet in its parts, by the way of `origin` where it is handed on. */
+/* Sends a packet in its parts. */
 void wire_packet(struct wire *wire, const struct peer *to, uint64_t sender, const uint8_t *bytes, size_t len);
 /* The packet that a part completes, or null. It stays until the next call. */
 const uint8_t *wire_join(const struct said *part, size_t *len);
@@ -92,7 +91,6 @@ void trace_close(struct trace *trace);
 struct store { int file; };
 int store_open(struct store *store, const struct words *words, const uint8_t *text, size_t text_len, uint8_t **content,
                size_t *len);                                                        /* a status */
-int store_begin(const struct words *words, const uint8_t *line, size_t line_len, bool is_new); /* the file beside it; a status */
 bool store_keep(struct store *store, cilknow_actor *house);                         /* does what waits to be done */
 
 int run_house(const struct words *words);

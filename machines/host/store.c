@@ -26,29 +26,6 @@ static bool sync_folder(const char *path) {
     return done;
 }
 
-int store_open(struct store *store, const struct words *words, const uint8_t *text, size_t text_len, uint8_t **content, size_t *len) {
-    uint8_t line[LINE];
-    int32_t own = cilknow_job_line(text, text_len, words->input, words->inputs, line, sizeof line);
-    if (own < 0) return refused(own);
-    store->file = open(words->store, O_RDWR | O_CREAT | O_CLOEXEC, 0666);
-    if (store->file < 0) return file_fault(words->store);
-    if (flock(store->file, LOCK_EX | LOCK_NB)) {
-        if (errno != EWOULDBLOCK) return file_fault(words->store);
-        tell("%s: another run has it", words->store);
-        return STATUS_FILE;
-    }
-    *content = malloc(CONTENT + 1);
-    if (!*content) return refused(CILKNOW_MEMORY_JOB);
-    for (*len = 0;;) {
-        ssize_t came = pread(store->file, *content + *len, CONTENT - *len, (off_t)*len);
-        if (came < 0 && errno == EINTR) continue;
-        if (came < 0) return file_fault(words->store);
-        if (came == 0) break;
-        *len += (size_t)came;
-    }
-    return store_begin(words, line, (size_t)own, *len == 0);
-}
-
 /* Whether bytes are the beginning of such a line. */
 static bool is_beginning(const uint8_t *bytes, size_t len) {
     static const char head[] = "cilknow-job 1 ";
@@ -60,7 +37,8 @@ static bool is_beginning(const uint8_t *bytes, size_t len) {
     return true;
 }
 
-int store_begin(const struct words *words, const uint8_t *line, size_t line_len, bool is_new) {
+/* The file beside a store: made where the store is new, and looked at where it isn't. */
+static int store_begin(const struct words *words, const uint8_t *line, size_t line_len, bool is_new) {
     char beside[4096];
     size_t len;
     snprintf(beside, sizeof beside, "%s.job", words->store);
@@ -85,6 +63,29 @@ int store_begin(const struct words *words, const uint8_t *line, size_t line_len,
     return STATUS_OK;
 }
 
+int store_open(struct store *store, const struct words *words, const uint8_t *text, size_t text_len, uint8_t **content, size_t *len) {
+    uint8_t line[LINE];
+    int32_t own = cilknow_job_line(text, text_len, words->input, words->inputs, line, sizeof line);
+    if (own < 0) return refused(own);
+    store->file = open(words->store, O_RDWR | O_CREAT | O_CLOEXEC, 0666);
+    if (store->file < 0) return file_fault(words->store);
+    if (flock(store->file, LOCK_EX | LOCK_NB)) {
+        if (errno != EWOULDBLOCK) return file_fault(words->store);
+        tell("%s: another run has it", words->store);
+        return STATUS_FILE;
+    }
+    *content = malloc(CONTENT + 1);
+    if (!*content) return refused(CILKNOW_MEMORY_JOB);
+    for (*len = 0;;) {
+        ssize_t came = pread(store->file, *content + *len, CONTENT - *len, (off_t)*len);
+        if (came < 0 && errno == EINTR) continue;
+        if (came < 0) return file_fault(words->store);
+        if (came == 0) break;
+        *len += (size_t)came;
+    }
+    return store_begin(words, line, (size_t)own, *len == 0);
+}
+
 static bool write_all(int file, const uint8_t *bytes, size_t len, uint64_t at) {
     while (len) {
         ssize_t went = pwrite(file, bytes, len, (off_t)at);
@@ -99,9 +100,8 @@ bool store_keep(struct store *store, cilknow_actor *house) {
     static uint8_t call[CILKNOW_FILE_LONGEST];
     int64_t len;
     while ((len = cilknow_file_call(house, call, sizeof call)) > 0) {
-        uint64_t number = 0;
+        uint64_t number = cilknow_file_number(call);
         bool done = false;
-        for (int i = 1; i < 9; i++) number = number << 8 | call[i];
         if (call[0] == 1) done = write_all(store->file, call + 9, (size_t)len - 9, number);
         else if (call[0] == 2) done = !ftruncate(store->file, (off_t)number);
         else if (call[0] == 3) done = !fsync(store->file);

@@ -44,7 +44,7 @@ static void tag_of(const uint8_t key[KEY], uint8_t *room, size_t len, uint8_t ta
     memcpy(tag, digest, TAG);
 }
 
-bool wire_key(struct wire *wire, const char *path) {
+static bool wire_key(struct wire *wire, const char *path) {
     size_t len;
     uint8_t *bytes = file_bytes(path, 65536, &len);
     if (!bytes) return tell("the key %s: %s", path, strerror(errno)), false;

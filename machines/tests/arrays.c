@@ -24,8 +24,7 @@ static void keep(cilknow_actor *house) {
     static uint8_t call[CILKNOW_FILE_LONGEST];
     int64_t len;
     while ((len = cilknow_file_call(house, call, sizeof call)) > 0) {
-        uint64_t number = 0;
-        for (int i = 1; i < 9; i++) number = number << 8 | call[i];
+        uint64_t number = cilknow_file_number(call);
         if (call[0] == 1) {
             size_t end = (size_t)number + (size_t)len - 9;
             memcpy(written + number, call + 9, (size_t)len - 9);

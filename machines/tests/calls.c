@@ -18,8 +18,7 @@ static size_t file_len;
 static int64_t keeps(cilknow_actor *house) {
     int64_t len, count = 0;
     while ((len = cilknow_file_call(house, call, sizeof call)) > 0) {
-        uint64_t number = 0;
-        for (int i = 1; i < 9; i++) number = number << 8 | call[i];
+        uint64_t number = cilknow_file_number(call);
         if (call[0] == 1) {
             memcpy(file + number, call + 9, (size_t)len - 9);
             if ((size_t)number + (size_t)len - 9 > file_len) file_len = (size_t)number + (size_t)len - 9;
