@@ -30,6 +30,7 @@ named:
     scripts         scripts of examples/scripts
     named           definitions that public clauses name
     errors          numbers on the page of errors
+    wrong-protocols edits of definitions that laws have to refuse
 
 and for a table
 
@@ -88,6 +89,7 @@ OF_CRATE = {
 # What is counted of the whole.
 OF_ALL = {
     "scripts": lambda: len(files_in(f"{TOP}/examples/scripts", ".script")),
+    "wrong-protocols": lambda: len(files_in(f"{TOP}/wrong-protocols", ".edit")),
     "named": lambda: len(contracts.definitions()),
     "errors": lambda: len({*re.findall(r"(?m)^\| E(\d+)\b", read(f"{TOP}/docs/ERRORS.md"))}),
 }

@@ -1,18 +1,14 @@
 -- The text of events, as a script.
-use Rattle.std.specs.Prelude.{ℕ, List, [], ◌∷◌, ◌++◌, flat_map, map, codes}
+use Rattle.std.specs.Prelude.{ℕ, List, ◌++◌, flat_map, map, codes}
 use Rattle.std.specs.List.{AllByRecursion}
 use Rattle.event_script.specs.Back.{IsRead}
-use Rattle.event_script.specs.Written.{written}
+use Rattle.event_script.specs.Written.{ended, written}
 use Rattle.event_script.specs.declared.event.Event.{Event}
 use Rattle.chronicle.specs.declared.kept.Entry.{Entry}
 
 -- the events of a history
 abbrev pub events_of : List Entry → List Event
 events_of entries = map (λ e. e.event) entries
-
--- a line with its end
-abbrev pub ended : List ℕ → List ℕ
-ended line = line ++ 10 ∷ []
 
 -- the line of each event
 abbrev pub lines_of : List Event → List ℕ

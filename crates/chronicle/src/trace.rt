@@ -3,10 +3,10 @@ ghost use Rattle.disk.specs.Device.{Device};
 ghost use Rattle.serial_meaning.specs.Job.{JobOf, meaning_of};
 ghost use Rattle.event_script.specs.Back.{IsRead};
 ghost use Rattle.event_script.specs.Scripts.{script};
-ghost use Rattle.event_script.specs.Written.{written};
+ghost use Rattle.event_script.specs.Written.{ended, written};
 ghost use Rattle.world_steps.specs.Agrees.{StoredAgree};
 ghost use Rattle.chronicle.specs.History.{IsSafeHistory, first_outcome};
-ghost use Rattle.chronicle.specs.Texts.{ended, events_of, text_of};
+ghost use Rattle.chronicle.specs.Texts.{events_of, text_of};
 
 use crate::kept::{Entry, outcome_of};
 use event_script::{Event, add_line};

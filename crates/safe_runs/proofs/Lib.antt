@@ -29,4 +29,6 @@ pub mod Losing
 pub mod CutAgrees
 pub mod CutLoses
 pub mod Finding
+pub mod StandingApart
+pub mod StandingSteps
 pub mod Sound

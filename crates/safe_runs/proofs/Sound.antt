@@ -13,6 +13,7 @@ use Rattle.safe_runs.specs.Promises.{AllSafe}
 use Rattle.safe_runs.specs.Right.{WorldIsRight}
 use Rattle.safe_runs.specs.Shown.{Tied}
 use Rattle.safe_runs.specs.Sound.{IsSound, cut_world}
+use Rattle.safe_runs.specs.Standing.{WorldStands}
 use Rattle.safe_runs.proofs.CutAgrees.{cut_agrees}
 use Rattle.safe_runs.proofs.CutLoses.{cut_loses}
 use Rattle.safe_runs.proofs.Filled.{filled_once}
@@ -21,6 +22,7 @@ use Rattle.safe_runs.proofs.Holding.{one_holder}
 use Rattle.safe_runs.proofs.Losing.{nothing_lost}
 use Rattle.safe_runs.proofs.Recorded.{recorded_is_meant}
 use Rattle.safe_runs.proofs.SentAgrees.{received}
+use Rattle.safe_runs.proofs.StandingSteps.{first_stands, runs_stand}
 use Rattle.safe_runs.proofs.Staying.{runs_stay}
 
 -- what a world of whole packets promises, one that is cut from it does too
@@ -53,9 +55,14 @@ module _ (job : JobOf) (ok : IsJob job) (d : Device) (entries : List Entry) (wor
   pub each_safe : (w : WorldOf) → w ∈ (first_over d ∷ worlds) → SafeWorld job w
   each_safe w m = sound_safe job w (sound w m)
 
+  stands : (w : WorldOf) → w ∈ (first_over d ∷ worlds) → WorldStands w
+  stands w (inl same) = rw same (first_stands d)
+  stands w (inr m) = runs_stand job ok (first_over d) entries worlds runs (first_sound job d can) (first_stands d) w m
+
   pub all_safe : AllSafe job (first_over d ∷ worlds)
   all_safe = record {
     safe = record { each = λ i w e. each_safe w (got (first_over d ∷ worlds) i w e); stays = runs_stay job ok d entries worlds can runs };
     agree = λ w m. sound_agrees job w (sound w m);
     none_lost = λ w m. sound_loses job w (sound w m);
+    stand = stands;
   }

@@ -1,5 +1,6 @@
 pub mod Shown
 pub mod Right
 pub mod Openings
+pub mod Standing
 pub mod Promises
 pub mod Sound

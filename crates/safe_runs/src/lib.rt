@@ -37,14 +37,22 @@
 //! or somebody is cut off to whom it went, or to whom the grant went that waits for it. And where each wanted grant has a live holder,
 //! one of these has a ready frame or has finished: so not all wait for each other (`nothing_is_lost`). It says where work is, and
 //! nothing of what is done next: not that a roster comes, nor that work that was cut off is done again.
+//!
+//! # Nobody waits for somebody who is gone (`standing`)
+//!
+//! By its own roster no member waits for a worker that is dead or left, who goes on is live, and by the clearinghouse's members the holder
+//! of the root's grant isn't gone (specs/Standing). What one actor does keeps that, as `standing_laws` says; that no two subcomputations
+//! have a record of one grant follows from the tables (`worlds_stand`).
 #![tactic(auto)]
 
 mod agrees;
 mod loss;
 mod moves;
 mod runs;
+mod standing;
 
 pub use agrees::worlds_agree;
 pub use loss::nothing_is_lost;
 pub use moves::{sound_worlds_are_safe, steps_are_moves, worlds_of_runs_are_safe};
 pub use runs::{disks_go_on, openings_find_their_store, runs_are_safe};
+pub use standing::worlds_stand;

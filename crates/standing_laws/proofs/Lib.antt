@@ -1,0 +1,9 @@
+pub mod Heirs
+pub mod Covered
+pub mod Parts
+pub mod Recovering
+pub mod Steps
+pub mod Offers
+pub mod Rows
+pub mod Lasting
+pub mod HouseRows
