@@ -20,7 +20,7 @@ use std::collections::{BTreeMap, VecDeque};
 use std::marker::Model;
 use thiserror::Error;
 
-/// Why a line has no place in an order.
+/// Why an order doesn't go on by a line.
 #[derive(Clone, Copy, Debug, PartialEq, Eq, Error)]
 pub enum Stuck {
     /// A packet came that no trace tells as sent before.
@@ -37,10 +37,10 @@ pub enum Stuck {
     Misplaced,
 }
 
-/// Why traces have no order.
+/// Why no order of traces is found.
 #[derive(Clone, Copy, Debug, PartialEq, Eq, Error)]
 pub enum MergeFault {
-    /// A line of the trace that comes after so many others has no place: the line's number from 1, and why.
+    /// At a line of the trace that comes after so many others no order goes on: the line's number from 1, and why.
     #[error("line {1}: {2}")]
     Line(usize, u64, Stuck),
     /// E9: there is no memory.
@@ -598,7 +598,7 @@ impl Merging {
 }
 
 /// One order of traces: each actor's lines stand in it, all and in their order, and each packet that came behind its sending. Refused where
-/// there is none, by the line of a trace that has no place: it takes a packet that nobody sent, or is none of an actor that stands where this one
+/// none is found, by a line of a trace at which it doesn't go on: it takes a packet that nobody sent, or is none of an actor that stands where this one
 /// does, or more than 64 nodes would be up, or two clearinghouses open; and when out of memory (E9).
 pub fn merge(alloc: Global, traces: Vec<Trace>) -> Result<Merged, MergeFault>
     ensures { IfOk result (λ m. IsMerge traces.items (events_of m.entries.items) (sent_of m.entries.items)) }

@@ -96,9 +96,4 @@ impl Trace {
         }
         Ok(Trace { lines })
     }
-
-    /// How many lines tell something.
-    pub fn len(&self) -> usize {
-        self.lines.len()
-    }
 }
