@@ -33,26 +33,37 @@ class Run:
         at, self.key = f"127.0.0.1:{free_port()}", f"{folder}/key"
         with open(self.key, "wb") as it:
             it.write(os.urandom(32))
-        self.join = ("worker", "--join", at, "--key", self.key, "--stats")
+        self.join = ("worker", "--join", at, "--key", self.key, "--grace", "1", "--stats")
         self.house = subprocess.Popen((NODE, "house", FIB, *inputs, "--store", f"{folder}/store", "--listen", at, "--key", self.key, "--silence", "100"),
                                       stdout=subprocess.PIPE, text=True)
+        # (so that no worker has to ask a second time)
+        time.sleep(0.2)
 
     def worker(self):
         return subprocess.Popen((NODE, *self.join), stderr=subprocess.PIPE, text=True)
 
 
-def machines(count):
-    """The time of a run from when its workers begin."""
+def answers(workers):
+    """How long requests for work waited for their answers, in microseconds, as each of the workers counted it: the least, and its median."""
+    found = []
+    for worker in workers:
+        counts = dict(line.rpartition(" ")[::2] for line in worker.communicate()[1].splitlines())
+        if "microseconds to an answer, median" in counts:
+            found.append([int(counts[f"microseconds to an answer, {it}"]) for it in ("least", "median")])
+    return found
+
+
+def machines(count, number=INPUT):
+    """The time of a run from when its workers begin, the processor time that its house took, both in seconds, and how long answers took."""
     with tempfile.TemporaryDirectory() as folder:
-        run = Run((INPUT,), folder)
-        time.sleep(0.2)
-        begun = time.monotonic()
+        run = Run((number,), folder)
+        before, begun = ticks(run.house.pid), time.monotonic()
         workers = [run.worker() for _ in range(count)]
         run.house.stdout.readline()
-        took = time.monotonic() - begun
-        for process in (*workers, run.house):
-            process.wait()
-        return took
+        took, of_house = time.monotonic() - begun, (ticks(run.house.pid) - before) / 100
+        waited = answers(workers)
+        run.house.wait()
+        return took, of_house, waited
 
 
 def ticks(number):
@@ -61,29 +72,42 @@ def ticks(number):
         return sum(map(int, it.read().rpartition(")")[2].split()[11:13]))
 
 
-def idle():
-    """Of so many workers that find nothing to do, each: the processor time in a second; and that of the house."""
+def idle(count):
+    """Of so many workers that find nothing to do, each: the processor time in a second; and that of the house, and how long answers took."""
     with tempfile.TemporaryDirectory() as folder:
-        run = Run(("60",), folder)
+        run = Run(("70",), folder)
         holder = run.worker()
         time.sleep(0.5)
         holder.send_signal(signal.SIGSTOP)
-        workers = [run.worker() for _ in range(MANY)]
+        workers = [run.worker() for _ in range(count)]
         time.sleep(3)
         watched = [run.house.pid, *(it.pid for it in workers)]
         before = [ticks(it) for it in watched]
         time.sleep(IDLE_SECONDS)
         took = [(ticks(it) - was) / 100 / IDLE_SECONDS for it, was in zip(watched, before)]
-        for process in (*workers, holder, run.house):
+        for process in workers:
+            process.terminate()
+        waited = answers(workers)
+        for process in (holder, run.house):
             process.kill()
-            process.wait()
-        return took[0], sum(took[1:]) / MANY
+            process.communicate()
+        return took[0], sum(took[1:]) / count, waited
+
+
+def told(waited):
+    """The least of all, and the middle one of the workers' medians."""
+    medians = sorted(it[1] for it in waited)
+    return f"least {min(it[0] for it in waited)}, median {medians[len(medians) // 2]} microseconds" if waited else "none was answered"
 
 
 alone = min(serial() for _ in range(TIMES))
 print(f"FIB {INPUT}: serial {alone:.2f} s")
-for count in range(1, MOST_WORKERS + 1):
-    took = min(machines(count) for _ in range(TIMES))
-    print(f"a house and {count} workers: {took:.2f} s, {alone / took:.2f} times as fast as serial")
-house, each = idle()
-print(f"{MANY} workers without work: {100 * each:.2f} % of a core each, and the house {100 * house:.2f} %")
+for workers in range(1, MOST_WORKERS + 1):
+    took, _, waited = min(machines(workers) for _ in range(TIMES))
+    print(f"a house and {workers} workers: {took:.2f} s, {alone / took:.2f} times as fast as serial; a request for work and its answer: {told(waited)}")
+large = str(int(INPUT) + 4)
+took, of_house, _ = machines(MANY, large)
+print(f"FIB {large}, a house and {MANY} workers on {os.cpu_count()} processors: {took:.2f} s, of which the house takes {100 * of_house / took:.2f} % of a core")
+for workers in (2, MANY):
+    house, each, waited = idle(workers)
+    print(f"{workers} workers without work: {100 * each:.2f} % of a core each, and the house {100 * house:.2f} %; a request for work and its answer: {told(waited)}")

@@ -68,8 +68,8 @@ def sent(program, subs, turns):
     numbers = re.findall(r"^> #(\d+) (?:Piece|Offer) ", printed(program, leaves), re.M)
     out = printed(program, leaves + [f"hex #{it}" for it in numbers] + given(3, numbers))
     spelled = [len(it) // 2 for it in re.findall(r"^> ([0-9a-f]{40,})$", out, re.M)]
-    # (a Piece has 57 bytes beside its part)
-    size = sum(spelled) - (57 * len(spelled) if len(spelled) > subs else 0)
+    # (a Piece has 56 bytes beside its part)
+    size = sum(spelled) - (56 * len(spelled) if len(spelled) > subs else 0)
     if len(spelled) != len(numbers) or out.count("OfferAck") != subs:
         sys.exit(f"{subs} times {turns} turns: {len(numbers)} packets, {len(spelled)} of them spelled, {out.count('OfferAck')} times accepted")
     return size, numbers

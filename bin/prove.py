@@ -187,18 +187,14 @@ def mark(program):
 
 
 def stamp_libraries(name):
-    """Says of each library below a crate that it is proved from the files that are there. To be called behind `rt ci`, which has just proved and built
-    it in this place, and leaves it without the stamp by which `rt lib` knows that."""
-    command, where = load_command(), os.getcwd()
-    os.chdir(TOP)
-    command.Crate.cuts_libraries, command.Crate.allowed = True, command.handles_of(TOP)
-    of_name = {it.name: it for it in command.crates_of(TOP)}
+    """Says of each library below a crate that it is proved from the files that are there. To be called behind `rt ci`,
+    which has just proved and built it in this place, and leaves it without the stamp by which `rt lib` knows that."""
+    rtlib = toolchain()
+    of_name = {it.name: it for it in rtlib.crates_below(f"{TOP}/crates")}
     for crate in of_name[name].below():
-        rlib = f"{crate.folder}/out/rlib"
-        if os.path.isfile(f"{rlib}/{crate.name}.rlib/format"):
-            with open(f"{rlib}/stamp", "w", encoding="utf-8") as it:
+        if os.path.isfile(f"{crate.rlib}/format"):
+            with open(f"{os.path.dirname(crate.rlib)}/stamp", "w", encoding="utf-8") as it:
                 it.write(crate.stamp())
-    os.chdir(where)
 
 
 def main(words):

@@ -26,7 +26,7 @@ import sys
 import tempfile
 from concurrent.futures import ThreadPoolExecutor
 
-from common import EXAMPLES, TOP
+from common import EXAMPLES, TOP, are_told
 
 FIB = f"{EXAMPLES}/fib.ck"
 INPUT, VALUE = "7", 13
@@ -448,6 +448,7 @@ def main(words):
         tried.append(called(program, "store", missing) == (4, "", "cilknow: file\n") and not os.path.exists(missing))
     kinds = collections.Counter("a store" if isinstance(read_store(it), Record) else f"E{read_store(it)}" for _, it in all_files)
     print(f"{len(all_files)} files: {', '.join(f'{count} {kind}' for kind, count in sorted(kinds.items()))}; {len(broken)} files beside a store")
+    tried.append(are_told("broken_stores.py", len(all_files), len(broken), *kinds.values()))
     print(f"{sum(tried)} passed, {len(tried) - sum(tried)} failed")
     return 0 if all(tried) else 1
 

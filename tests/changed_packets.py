@@ -1,10 +1,12 @@
 #!/usr/bin/env -S python3 -B
 """Gives packets that were changed to a node and to a clearinghouse in each of their states, and looks that none does what it may not.
 
-Usage: tests/changed_packets.py [PLAY] [--count N] [--seed S], by default the built play, 10000 packets and a seed of its own.
+Usage: tests/changed_packets.py [PLAY] [--count N] [--seed S] [--kind KIND], by default the built play, 10000 packets, a seed of its own and all
+kinds.
 
 The packets are those of a run with requests for work, a crash and a departure. Each is changed as a seed says: bits, bytes, its length, a
-count, its front or its back. Then
+count, its front or its back. With --kind, as in `--kind Piece`, only those of that kind are changed; one Piece in fifty is then one with 65,536
+bytes of an Offer, and two more nodes get them: one that keeps a part of the same Offer, and one that has taken it. Then
 
 - what `decode` of the program reads is what a reader of this script's own reads, which is made of docs/FORMATS.md: the same packet, field by
   field, or the same number, E30 to E36;
@@ -41,6 +43,8 @@ HOUSE = ANY_HOUSE + 1
 MOST = 1_048_576
 # A part of an offer has so many bytes, the last one at most so many.
 PART_OF_OFFER = 65_536
+# Where Pieces alone are changed, each of so many has a part of all those bytes.
+LONG = 50
 
 
 # What bytes say, by docs/FORMATS.md.
@@ -419,6 +423,13 @@ ENDED = [
     *HOLDING,
     "give 4 Roster epoch=1 version=8 members=3:live,4:dead,5:live,6:live,7:live,8:live to=4 job=7",
 ]
+# Worker 7 offers it one of those grants in two Pieces, of which the first one came.
+WITH_PART = [*HOLDING, f"give 4 Piece from=7 grant=5/1 hop=2 pieces=2 number=0 bytes=00*{PART_OF_OFFER} to=4 job=7"]
+# It has nothing but what worker 3 left to it.
+WITH_OFFER = [
+    *ASKING,
+    "give 4 Offer from=3 grant=house:1/1 hop=1 parent=house:1 progress=active thread=0 at=- on=6 next=1 frame=0;-;0;6;whole to=4 job=7",
+]
 # Worker 3 has the root's grant, worker 4 work of workers 3, 5 and 7, and others work of worker 4. Worker 6 crashes, workers 7 and 3 leave to
 # worker 4, and that one to worker 8. At last a few packets that are told to worker 4 or to the clearinghouse in another turn of events.
 RUN = [
@@ -584,6 +595,11 @@ def exchanged(draw, content, others):
 SORTS = (flipped, cut, longer, raised, spliced, filled, renamed, sent_elsewhere, exchanged)
 
 
+def whole_part(piece):
+    """The first Piece of the same Offer, with as many bytes as it has to have."""
+    return piece[:50] + bytes(2) + PART_OF_OFFER.to_bytes(4, "big") + piece[-1:] * PART_OF_OFFER
+
+
 def changed_by(draw, sort, content, packets):
     """The name of a change and what it makes of a packet. One that makes nothing else of it gives way to another one."""
     for _ in range(20):
@@ -593,14 +609,20 @@ def changed_by(draw, sort, content, packets):
     return flipped.__name__, flipped(draw, content, packets)
 
 
-def changed_packets(seed, count, packets):
-    """So many changed packets, each with the name of its change: by turns of each sort, of a kind that is drawn. The last two have as many
-    bytes as a packet may have, and one more."""
+def changed_packets(seed, count, packets, kind=None):
+    """So many changed packets, each with the name of its change: by turns of each sort, of a kind that is drawn, or of the one that is named.
+    The last two have as many bytes as a packet may have, and one more."""
     draw = random.Random(seed)
+    kinds = [number for number, (name, _, _) in enumerate(KINDS, 1) if kind in (None, name)]
     # (most are for who is to get them)
-    near = [it for it in packets if int.from_bytes(it[12:20], "big") in (NODE, HOUSE, ANY_HOUSE)]
-    of_kind = [[it for it in packets + 4 * near if it[3] == kind] for kind in range(1, len(KINDS) + 1)]
-    drawn = [changed_by(draw, SORTS[index % len(SORTS)], draw.choice(draw.choice(of_kind)), packets) for index in range(count - 2)]
+    near = [it for it in packets if int.from_bytes(it[12:20], "big") in (NODE, HOUSE, ANY_HOUSE) and it[3] in kinds]
+    of_kind = [[it for it in packets + 4 * near if it[3] == number] for number in kinds]
+
+    def chosen(index):
+        long = whole_part(draw.choice(near)) if kind == "Piece" and index % LONG == 0 else None
+        return long or draw.choice(draw.choice(of_kind))
+
+    drawn = [changed_by(draw, SORTS[index % len(SORTS)], chosen(index), packets) for index in range(count - 2)]
     whole = draw.choice(near)
     return drawn + [("too_long", whole + bytes(length - len(whole))) for length in (MOST, MOST + 1)]
 
@@ -720,6 +742,8 @@ RECEIVERS = [
     # (the first call of the device behind the seven of its opening fails)
     house(STOPPED, [*OPENED[:2], "disk fails 7 -", *OPENED[2:], TOLD], is_of_nobody),
 ]
+# Who gets Pieces besides.
+OF_PIECES = [node("a member with a part", "member", WITH_PART), node("a member with an Offer", "member", WITH_OFFER)]
 
 
 def fields_of(words):
@@ -738,7 +762,7 @@ def fault_of_sent(packet, sent, sends):
         if sent[0].split(" ", 1)[0] not in FIRST[packet.kind] or first["to"] != whom:
             return f"{sent[0]} comes first"
         # (a request's grant is the answer's alone)
-        if any(first[name] != said[name] for name in ("seq", "grant") if name in first and name in said):
+        if any(first[name] != said[name] for name in ("seq", "grant", "hop") if name in first and name in said):
             return f"{sent[0]} is of something else"
     return None
 
@@ -843,17 +867,19 @@ def main():
     words.add_argument("play", nargs="?", default=f"{TOP}/crates/play/out/play")
     words.add_argument("--count", type=int, default=10_000)
     words.add_argument("--seed", type=int, default=random.SystemRandom().getrandbits(32))
+    words.add_argument("--kind", choices=[name for name, _, _ in KINDS])
     words = words.parse_args()
+    receivers = RECEIVERS + (OF_PIECES if words.kind == "Piece" else [])
     print(f"seed {words.seed}")
     program = os.path.realpath(words.play)
-    drawn = changed_packets(words.seed, words.count, packets_of_the_run(program))
+    drawn = changed_packets(words.seed, words.count, packets_of_the_run(program), words.kind)
     drawn = [(sort, content, read(content)) for sort, content in drawn]
     print(f"{len(drawn)} packets: {told(collections.Counter(sort for sort, _, _ in drawn))}")
     print(f"read: {told(collections.Counter(f'E{it}' if isinstance(it, int) else it.kind for _, _, it in drawn))}")
     parts = [drawn[at:at + PART] for at in range(0, len(drawn), PART)]
     with ThreadPoolExecutor(os.cpu_count()) as pool:
         reading = [pool.submit(faults_of_reading, program, part) for part in parts]
-        given = [(it, [pool.submit(faults_at, program, it, part) for part in parts]) for it in RECEIVERS]
+        given = [(it, [pool.submit(faults_at, program, it, part) for part in parts]) for it in receivers]
         faults = [fault for it in reading for fault in it.result()]
         for receiver, tasks in given:
             done = [it.result() for it in tasks]
@@ -861,7 +887,7 @@ def main():
             print(f"{receiver.name}: {told(sum((counts for _, counts in done), collections.Counter()))}")
     for content, fault in faults[:1]:
         print(f"{content.hex()}\n{fault}", file=sys.stderr)
-    tried = len(drawn) * (1 + len(RECEIVERS))
+    tried = len(drawn) * (1 + len(receivers))
     print(f"{tried - len(faults)} passed, {len(faults)} failed")
     return 1 if faults else 0
 

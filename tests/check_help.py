@@ -3,8 +3,8 @@
 
 Usage: tests/check_help.py [CILKNOW [NOWSIM]], by default bin/cilknow and bin/nowsim.
 
-Each command's help has two examples or more. They are run in their order in a folder with examples/fib.ck, those of `run` first, since
-they write the files that others read; each has to end with status 0. In docs/COMMANDS.md the lines under `## Use` name each command with its
+Each command's help has two examples or more. They are run in their order in a folder with examples/fib.ck and examples/traces, those of
+`run` and `merge` first, since they write the files that others read; each has to end with status 0. In docs/COMMANDS.md the lines under `## Use` name each command with its
 options, which have to be those of its help, beside `--explain`. The last line counts; the status is 1 where anything failed.
 """
 import os
@@ -18,7 +18,7 @@ from common import EXAMPLES, TOP, Tally
 
 PROGRAMS = {"cilknow": f"{TOP}/bin/cilknow", "nowsim": f"{TOP}/bin/nowsim"}
 PROGRAMS.update(zip(PROGRAMS, map(os.path.abspath, sys.argv[1:])))
-COMMANDS = [["cilknow", it] for it in ("run", "check", "print", "serial", "replay", "draw", "store")] + [["nowsim"]]
+COMMANDS = [["cilknow", it] for it in ("run", "check", "print", "serial", "merge", "replay", "draw", "store")] + [["nowsim"]]
 # (those of every command stand in the page's text)
 EVERYWHERE = {"--explain", "--help", "--version"}
 
@@ -47,6 +47,7 @@ def main():
     tell({*said} == {tuple(it) for it in COMMANDS}, f"docs/COMMANDS.md has the commands {sorted(said)}")
     with tempfile.TemporaryDirectory() as folder:
         shutil.copy(f"{EXAMPLES}/fib.ck", folder)
+        shutil.copytree(f"{EXAMPLES}/traces", f"{folder}/traces")
         for command in COMMANDS:
             name = " ".join(command)
             ran = called([*command, "--help"])
@@ -54,7 +55,7 @@ def main():
             options = {*re.findall(r"--[a-z]+", ran.stdout.split("Examples:")[0])} - EVERYWHERE
             tell(options == said.get(tuple(command), set()), f"{name}: docs/COMMANDS.md has {said.get(tuple(command))}, its help {options}")
             tell("\nStatus:\n" in ran.stdout, f"{name}: no statuses")
-            examples = re.findall(rf"^  ({name} .*)$", ran.stdout.split("Examples:")[-1], re.M)
+            examples = re.findall(rf"^  ({command[0]} .*)$", ran.stdout.split("Examples:")[-1], re.M)
             tell(len(examples) >= 2, f"{name}: {len(examples)} examples")
             for example in examples:
                 ran = called(example.split(), folder)

@@ -5,8 +5,10 @@ usage: tests/check_paths.py
 
 Each link of a page leads to a file or folder, and to a heading of it where it names one. Each text in backticks that begins with a
 folder of the repository, as `bin/` or `crates/`, is a path of what is there; a word of it may be a pattern, as `*` or
-`{a, b}`, and one with capital letters alone, as NAME, stands for any. What is made later, in out/, is left out. The last line
-counts; the status is 1 where something isn't there.
+`{a, b}`, and one with capital letters alone, as NAME, stands for any. What is made later, in out/, is left out.
+
+In each row of docs/WHERE.md the crate has a row in docs/ARCHITECTURE.md, and the name stands in the file, which is the
+crate's. The last line counts; the status is 1 where something isn't there.
 """
 import glob
 import os
@@ -15,6 +17,10 @@ import sys
 
 from common import TOP, Tally, in_tree, read
 from count import line_at, pages
+
+WHERE = f"{TOP}/docs/WHERE.md"
+# Seven promises and ten questions at least.
+LEAST_ROWS = 17
 
 FOLDERS = ("bench", "bin", "crates", "docs", "examples", "tests", "transcripts", "wrong-protocols")
 LINK = re.compile(r"\]\(([^)\s]+)\)")
@@ -57,6 +63,15 @@ def is_there(span):
     return all(any(glob.glob(f"{TOP}/{it}{ending}") for ending in endings) for it in patterns)
 
 
+def is_found(row):
+    """Whether a row of WHERE leads to what it names: a crate that has a row of its own, and a name in a file of it."""
+    found = re.fullmatch(r"\| .* \| `(\w+)` \| \[.*?\]\(\.\./(crates/(\w+)/.*?)\): `(\w+)`.* \|", row)
+    if not found or found[1] != found[3] or not os.path.isfile(f"{TOP}/{found[2]}"):
+        return False
+    has_row = re.search(rf"(?m)^\|[– ]* `{found[1]}` \|", read(f"{TOP}/docs/ARCHITECTURE.md"))
+    return has_row and re.search(rf"\b{found[4]}\b", read(f"{TOP}/{found[2]}"))
+
+
 def main(words):
     if words:
         print(__doc__, file=sys.stderr)
@@ -70,6 +85,10 @@ def main(words):
         for found in SPAN.finditer(text):
             where = f"{in_tree(page)}:{line_at(text, found.start())}"
             tally.tell(is_there(found[1]), f"{where}: {found[1]} isn't there")
+    rows = [it for it in read(WHERE).splitlines() if "](../crates/" in it]
+    for row in rows:
+        tally.tell(is_found(row), f"docs/WHERE.md: this row leads to nothing: {row}")
+    tally.tell(len(rows) >= LEAST_ROWS, f"docs/WHERE.md has {len(rows)} rows")
     return tally.end()
 
 

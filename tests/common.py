@@ -2,6 +2,7 @@
 prints."""
 import importlib
 import os
+import re
 import sys
 
 sys.dont_write_bytecode = True
@@ -53,6 +54,16 @@ def crates():
             # (words behind the name say how the crate is built)
             found[name.split()[0]] = below.split()
     return found
+
+
+def are_told(script, *counts):
+    """Whether the row of docs/HOSTILE.md for a script has these counts."""
+    rows = [it for it in read(f"{TOP}/docs/HOSTILE.md").splitlines() if f"| `tests/{script} " in it]
+    numbers = {it.replace(",", "") for row in rows for it in re.findall(r"[0-9][0-9,]*", row)}
+    missing = [it for it in counts if str(it) not in numbers]
+    if missing:
+        print(f"docs/HOSTILE.md doesn't say of {script}: {', '.join(f'{it:,}' for it in missing)}", file=sys.stderr)
+    return not missing
 
 
 class Tally:

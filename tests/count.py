@@ -30,18 +30,20 @@ named:
     scripts         scripts of examples/scripts
     named           definitions that public clauses name
     errors          numbers on the page of errors
+    sums            sums of sources that the gate makes, by the lines of crates.txt: at most 300,000 are wanted
     wrong-protocols edits of definitions that laws have to refuse
 
 and for a table
 
-    gate            each crate's lines and edits, and the minutes that docs/times.tsv has of it
-    tried           what docs/wrong-bodies.txt has of each crate's edits
+    gate            the lines of each crate that takes long, and the minutes that docs/times.tsv has of it
+    tried           what docs/wrong-bodies.txt has of all edits
 
-The page that comes first and the three that it leads to may have 600 words each.
+The page that comes first and the three that it leads to may have 600 words each, all pages together 35,000.
 
 The last line counts numbers, rows and these pages; where one differs, a line says the page, its line and both.
 """
 import collections
+import functools
 import os
 import re
 import sys
@@ -56,6 +58,8 @@ TIMES = f"{TOP}/docs/times.tsv"
 SORTS = ("proof", "tests", "edits", "minute")
 # What the gate took for no crate.
 OTHER = "other"
+# A crate whose proof takes fewer minutes has no row of its own.
+SHORT = 2
 WORDS = "no one two three four five six seven eight nine ten eleven twelve".split()
 # (a marker's end may be left out by mistake, so the text between two has no comment in it)
 NUMBER = re.compile(r"(<!--count ([^>]*?)-->)([^<]*)(<!--/-->)")
@@ -86,11 +90,26 @@ OF_CRATE = {
     "tests": tests_of,
     "crates": lambda it: 1,
 }
+
+
+def sums():
+    """How many sums of a crate's sources the gate makes before it proves libraries: two along each path of lines of
+    crates.txt that leads down from one. (A program has none.)"""
+    known = crates()
+
+    @functools.lru_cache(None)
+    def paths(name):
+        return 1 + sum(paths(it) for it in known[name] if it in known)
+
+    return 2 * sum(paths(it) for it in known if os.path.isfile(f"{CRATES}/{it}/src/lib.rt"))
+
+
 # What is counted of the whole.
 OF_ALL = {
     "scripts": lambda: len(files_in(f"{TOP}/examples/scripts", ".script")),
     "wrong-protocols": lambda: len(files_in(f"{TOP}/wrong-protocols", ".edit")),
     "named": lambda: len(contracts.definitions()),
+    "sums": sums,
     "errors": lambda: len({*re.findall(r"(?m)^\| E(\d+)\b", read(f"{TOP}/docs/ERRORS.md"))}),
 }
 
@@ -124,52 +143,47 @@ def times():
 
 
 def gate_table():
-    """The table of the gate: a row for each crate, one for what is no crate's, and the sum."""
+    """The table of the gate: a row for each crate that takes long, one for all others, one for what is no crate's, and the sum."""
     took, known = times(), crates()
-    columns = ("code", "definitions", "proofs", "must-fail", "wrong-bodies")
-    blank_if_none = lambda number: shown(number) if number else ""
-    row = lambda name, lines, minutes, edits: "| " + " | ".join([name, *lines, *minutes, *edits]) + " |"
-    heads = "crate, code, definitions, proofs, proof, tests, edits, minute, in the gate, beside it".split(", ")
+    columns = ("code", "definitions", "proofs")
+    row = lambda name, counts, cells: f"| {' | '.join([name, *(shown(it) if it else '' for it in counts), *cells])} |"
+    heads = "crate, code, definitions, proofs, proof, tests, edits, minute".split(", ")
     rows = [f"| {' | '.join(heads)} |", "|" + "---|" * len(heads)]
     # (a crate that has no tests or edits any more takes no time for them)
     asked = {"tests": OF_CRATE["tests"], "edits": OF_CRATE["must-fail"]}
     minutes = {}
     for name in known:
         minutes[name] = [took.get(name, {}).get(it, "") if asked.get(it, bool)(name) else "" for it in SORTS]
+    added = lambda names: [f"{sum(float(minutes[it][at] or 0) for it in names):.1f}" for at in range(3)]
+    short = [it for it in known if float(added([it])[0]) < SHORT]
     for name in known:
-        counts = [blank_if_none(OF_CRATE[it](name)) for it in columns]
-        rows.append(row(name, counts[:3], minutes[name], counts[3:]))
+        if name not in short:
+            rows.append(row(name, [OF_CRATE[it](name) for it in columns], minutes[name]))
+    rows.append(row(f"the other {len(short)}", [counted([it, *short]) for it in columns], [*added(short), ""]))
     minutes[OTHER] = [took.get(OTHER, {}).get(it, "") for it in SORTS]
-    rows.append(row("what is not a crate's", [""] * 3, minutes[OTHER], [""] * 2))
-    sums = [f"{sum(float(it[at] or 0) for it in minutes.values()):.1f}" for at in range(3)]
+    rows.append(row("what is not a crate's", [0] * 3, minutes[OTHER]))
     last = max(int(it[3] or 0) for it in minutes.values())
-    whole = [shown(counted([it])) for it in columns]
-    rows.append(row("all", whole[:3], [*sums, str(last)], whole[3:]))
+    rows.append(row("all", [counted([it]) for it in columns], [*added(minutes), str(last)]))
     return "\n".join(rows) + "\n"
 
 
 def tried_table():
-    """The table of wrong bodies: what came of those of each crate when they were last tried, and of how many that was on other sources."""
+    """The table of wrong bodies: what came of them when they were last tried, and of how many that was on other sources."""
     columns = (wrong_bodies.CLAUSE, wrong_bodies.SAFETY, wrong_bodies.STALE, wrong_bodies.NOT_TRIED)
-    rows = ["| crate | edits | by a clause | by safety | before a change | not tried | else |", "|" + "---|" * 7]
     counts, table = collections.Counter(), wrong_bodies.kept_table()
     for name in crates():
-        of_crate = collections.Counter(wrong_bodies.state_of(table, name, it) for it in wrong_bodies.edits_of(name))
-        if of_crate:
-            counts += of_crate
-            rows.append(tried_row(name, of_crate, columns))
-    return "\n".join([*rows, tried_row("all", counts, columns)]) + "\n"
-
-
-def tried_row(name, counts, columns):
+        counts += collections.Counter(wrong_bodies.state_of(table, name, it) for it in wrong_bodies.edits_of(name))
     told = [counts[it] for it in columns]
     cells = [sum(counts.values()), *told, sum(counts.values()) - sum(told)]
-    return f"| {name} | {' | '.join(shown(it) if it else '' for it in cells)} |"
+    heads = "| edits | by a clause | by safety | before a change | not tried | else |"
+    return "\n".join([heads, "|" + "---|" * len(cells), f"| {' | '.join(map(shown, cells))} |"]) + "\n"
 
 
-# What a reader meets first, and so many words of letters or digits each has at most.
+# Each thousand takes the gate some three seconds, in which other proofs wait.
+MOST_SUMS = 300_000
+# What a reader meets first, and so many words of letters or digits each has at most, and all pages together.
 DOORS = ("README.md", "docs/USE.md", "CONTRIBUTING.md", "docs/TRUST.md")
-MOST_WORDS = 600
+MOST_WORDS, MOST_IN_ALL = 600, 35_000
 TABLES = {"gate": gate_table, "tried": tried_table}
 
 
@@ -180,6 +194,10 @@ def pages():
         folders[:] = sorted({*folders} - {"out", ".git"})
         found += [os.path.join(place, it) for it in sorted(files) if it.endswith(".md")]
     return found
+
+
+def words_of(page):
+    return sum(bool(re.search(r"[^\W_]", it)) for it in read(page).split())
 
 
 def line_at(text, at):
@@ -239,8 +257,11 @@ def main(words):
     words = words if words == ["--write"] else []
     tally = Tally()
     for page in DOORS:
-        number = sum(bool(re.search(r"[^\W_]", it)) for it in read(f"{TOP}/{page}").split())
+        number = words_of(f"{TOP}/{page}")
         tally.tell(number <= MOST_WORDS, f"{page}: {number} words, and at most {MOST_WORDS} are wanted")
+    whole = sum(map(words_of, pages()))
+    tally.tell(whole <= MOST_IN_ALL, f"all pages: {whole:,} words, and at most {MOST_IN_ALL:,} are wanted")
+    tally.tell(sums() <= MOST_SUMS, f"crates.txt: {sums():,} sums, and at most {MOST_SUMS:,} are wanted")
     for path in pages():
         text = read(path)
         if BEGIN.search(text):

@@ -11,8 +11,13 @@ program. In the end the heir holds what it holds by the Pieces that were sent. T
 two Pieces of an Offer meet: that has to be answered E63, and the same Piece then as ever. And one Offer has more than 100,000 frames: of its
 Pieces, as they were sent and sent again, one in five is lost and one in five comes twice, in an order that the dice choose.
 
+Beside these stand the two Offers next to the limit, with the sizes that they have to have: after 345 turns one packet goes, after 346 two
+Pieces. These two are given to the heir twice each, in every order: it has to hold one live subcomputation then, to have sent one OfferAck as it
+took the Offer, and one for each Piece behind that.
+
 The last line counts; the status is 1 where anything failed.
 """
+import itertools
 import os
 import random
 import re
@@ -32,27 +37,60 @@ PART = 65_536
 JOINS = (346, 700, 1_000)
 MEMBERS = "2..3:live,4:live,5:live"
 GRANT = "house:1/1"
+# After so many turns one packet goes, of so many bytes; after one more two Pieces, of so many bytes each, with parts of so many.
+OF_ONE, ONE = 345, 65_304
+OF_TWO, TWO, PARTS = 346, [65_592, 186], [PART, 130]
 # So many turns leave more than 100,000 frames: eight more each.
 MANY_TURNS = 12_600
 MANY_GRANT = "4/1"
 
 
-def head(joins):
-    """The lines up to the node's departure, and those that start its heir."""
+def head(joins, number=2000):
+    """The lines up to the node's departure, on an input, and those that start its heir."""
     return [
         f"program {PROGRAM}",
-        "input 2000",
+        f"input {number}",
         "job 7",
         "start 2",
         f"give 2 Roster epoch=1 version=1 members={MEMBERS} to=2 job=7",
         "ask 2 house",
-        f"give 2 Grant seq=1 grant={GRANT} thread=0 at=- on=2000 to=2 job=7",
+        f"give 2 Grant seq=1 grant={GRANT} thread=0 at=- on={number} to=2 job=7",
         "brief",
         *["run 2"] * joins,
         "full",
         "start 3",
         f"give 3 Roster epoch=1 version=1 members={MEMBERS} to=3 job=7",
     ]
+
+
+def offered(played, joins):
+    """The lines up to a departure on the input 1000, the packets that go then, as the words of their lines, and the bytes of each in digits."""
+    leaves = [*head(joins, 1000), "depart 2 3"]
+    sent = [it.split(" ")[1:] for it in played(f"offered-{joins}", leaves) if re.match(r"> #\d+ (?:Offer|Piece) ", it)]
+    spelled = played(f"spelled-{joins}", [*leaves, *(f"hex {it[0]}" for it in sent)])
+    return leaves, sent, [it[2:] for it in spelled[len(spelled) - len(sent) :]]
+
+
+def next_to_the_limit(tally, played):
+    """The Offers on both sides of the limit: one packet, and two Pieces, twice each in every order."""
+    _, sent, spelled = offered(played, OF_ONE)
+    tally.tell([it[1] for it in sent] == ["Offer"], f"{OF_ONE} turns: {[it[1] for it in sent]}")
+    tally.tell([len(it) // 2 for it in spelled] == [ONE], f"{OF_ONE} turns: {[len(it) // 2 for it in spelled]} bytes")
+    leaves, sent, spelled = offered(played, OF_TWO)
+    tally.tell([it[1] for it in sent] == ["Piece"] * 2, f"{OF_TWO} turns: {[it[1] for it in sent]}")
+    tally.tell([len(it) // 2 for it in spelled] == TWO, f"{OF_TWO} turns: {[len(it) // 2 for it in spelled]} bytes")
+    fields = [dict(word.split("=", 1) for word in it[2:]) for it in sent]
+    parts = [(it["pieces"], it["number"], len(it["bytes"]) // 2) for it in fields]
+    tally.tell(parts == [("2", "0", PARTS[0]), ("2", "1", PARTS[1])], f"{OF_TWO} turns: the Pieces are {parts}")
+    # (each turn leaves one frame that waits, and the last one besides one that is ready)
+    waiting = ",".join(str(2 * it + 1) for it in range(OF_TWO))
+    held = f"> sub {GRANT} hop=1 state=active ready={2 * OF_TWO} waiting={waiting} open=-"
+    for order in sorted({*itertools.permutations((0, 0, 1, 1))}):
+        said = played(f"order-{order}", [*leaves, *(f"give 3 {sent[it][0]}" for it in order), "subs 3"])
+        taken = next(at for at in range(4) if {*order[: at + 1]} == {0, 1})
+        told = ["> nothing"] + ["> ignored"] * (taken - 1)
+        told += (f"> #{int(sent[-1][0][1:]) + it} OfferAck from=3 grant={GRANT} hop=1 to=2 job=7" for it in range(1, 5 - taken))
+        tally.tell(said[-5:] == [*told, held], f"the Pieces in the order {order}: {[it[:80] for it in said[-5:]]}")
 
 
 def many_given(dice, sent):
@@ -216,6 +254,7 @@ def main(words):
             tally.tell((status, fault) == (0, b""), f"{name}: {status} {fault!r}")
             return [it for it in printed.decode().split("\n") if it.startswith("> ")]
 
+        next_to_the_limit(tally, played)
         tally.tell(*many_frames(random.Random(word), played))
         heap = play_all.compiled(folder)
         joins, offer, said, held = offers[0]

@@ -12,8 +12,8 @@ record or the one behind it, none touches one with an outcome, but that one of t
 the record or by the file beside it stays as it is. The next run with no refusal gives the
 right outcome, unless a store was cut off while it was made: then it is no store (E71), which has to be removed.
 
-Then come files that can be no longer than so many bytes, a device that is full, and files that can't be had. The last line counts; the status
-is 1 where anything failed.
+Then come files that can be no longer than so many bytes, a device that is full, one that is to be read only, and files that can't be had. The
+last line counts; the status is 1 where anything failed.
 """
 import collections
 import fcntl
@@ -457,11 +457,16 @@ def has_room(path):
     return True
 
 
+def is_mounted(place, size):
+    """Whether a device of so much is mounted there."""
+    mount = ("mount", "-t", "tmpfs", "-o", f"size={size}", "tmpfs", place)
+    return not os.geteuid() and not subprocess.run(mount, stdout=subprocess.DEVNULL, stderr=subprocess.DEVNULL).returncode
+
+
 def full_device(trial, scene):
     """Runs on a device of three pages, of which another file fills each, or some: the store needs two, and the file beside it one."""
     place = trial.place()
-    mount = ("mount", "-t", "tmpfs", "-o", "size=12k", "tmpfs", place)
-    if os.geteuid() or subprocess.run(mount, stdout=subprocess.DEVNULL, stderr=subprocess.DEVNULL).returncode:
+    if not is_mounted(place, "12k"):
         print("a full device: not tried, since nothing may be mounted here")
         return
     try:
@@ -486,7 +491,42 @@ def full_device(trial, scene):
         subprocess.run(("umount", place), check=True)
 
 
-def files_that_cannot_be_had(trial, scene):
+def read_only_device(trial, some):
+    """Runs on a device that is to be read only, over the files of some scenes: each is refused, with an outcome that is kept too, and no file comes
+    or changes. What is kept there can be shown."""
+    place = trial.place()
+    if not is_mounted(place, "1m"):
+        print("a device that is to be read only: not tried, since nothing may be mounted here")
+        return
+    try:
+        for number, scene in enumerate(some):
+            if scene.content is not None:
+                broken_stores.written(f"{place}/{number}", scene.content)
+            if scene.line is not None:
+                broken_stores.written(broken_stores.beside(f"{place}/{number}"), scene.line)
+        files = sorted(os.listdir(place))
+        if subprocess.run(("mount", "-o", "remount,ro", place), check=False).returncode:
+            print("a device that is to be read only: not tried, since none may be mounted so here")
+            return
+        for number, scene in enumerate(some):
+            path = f"{place}/{number}"
+            answer = called((trial.program, *scene.front, path, *scene.behind))
+            why = called((trial.program, *scene.front, path, "--explain", *scene.behind))
+            told = *NO_FILE[:2], f"{NO_FILE[2]}{path}: Read-only file system (os error 30)\n"
+            shown = broken_stores.shown(record_of(scene.content) or 71) if scene.content is not None else NO_FILE
+            after = content_of(path), content_of(broken_stores.beside(path))
+            pairs = (answer, NO_FILE), (why, told), (after, (scene.content, scene.line)), (called((trial.program, "store", path)), shown)
+            yield is_well(f"{scene.name} on a device that is to be read only", *pairs)
+        yield is_well("the files of a device that is to be read only", (sorted(os.listdir(place)), files))
+        subprocess.run(("mount", "-o", "remount,rw", place), check=True)
+        for number, scene in enumerate(some):
+            again = called((trial.program, *scene.front, f"{place}/{number}", *scene.behind))
+            yield is_well(f"{scene.name} on a device that can be written again", (again, scene.answer))
+    finally:
+        subprocess.run(("umount", place), check=True)
+
+
+def files_that_cannot_be_had(trial, scene, kept):
     """Runs over what is no file of one's own."""
     place = made(trial, scene)
     path, content = f"{place}/store", scene.content
@@ -512,13 +552,27 @@ def files_that_cannot_be_had(trial, scene):
         yield refused("a store that is looked at under a lock", path)
     yield is_had_once(trial, scene, place)
     # As nobody, who may read but not write.
-    for mode, what in ((0o444, "a file that is to be read only"), (0o222, "a file that is to be written only"), (0o000, "a file of others")):
-        os.chmod(path, mode)
-        if os.geteuid():
-            yield refused(what, path)
-        elif can_be_nobody(trial):
-            yield refused(what, path, **NOBODY)
-    os.chmod(path, 0o600)
+    how = {} if os.geteuid() else NOBODY
+    closed = f"{place}/closed"
+    os.mkdir(closed)
+    shown = broken_stores.written(f"{closed}/store", kept.content)
+    if os.geteuid() or can_be_nobody(trial):
+        for mode, what in ((0o444, "a file that is to be read only"), (0o222, "a file that is to be written only"), (0o000, "a file of others")):
+            os.chmod(path, mode)
+            answer = called((trial.program, *run, path, broken_stores.INPUT), **how)
+            # (so that who runs this can read it)
+            os.chmod(path, 0o600)
+            yield is_well(what, (answer, NO_FILE), (content_of(path), content))
+        os.chmod(shown, 0o444)
+        os.chmod(closed, 0o555)
+        yield refused("a store with the outcome that is to be read only", shown, **how)
+        known = called((trial.program, "store", shown), **how), broken_stores.shown(record_of(kept.content))
+        yield is_well("the same, which is shown", known, (content_of(shown), kept.content))
+        yield refused("a new store in a folder that is to be read only", f"{closed}/new", **how)
+        yield is_well("the files of that folder", (os.listdir(closed), ["store"]))
+        os.chmod(closed, 0o755)
+    else:
+        print("files as nobody: not tried, since nobody may not run the program here")
     yield is_well("the run behind all these", (trial.run(scene, place), scene.answer))
 
 
@@ -575,8 +629,11 @@ def main(words):
             print(f"{scene.name}, files of at most 0 to {SIZE} bytes: {told(results)}")
             well = sum(it[0] for it in results)
             passed, failed, lost = passed + well, failed + len(results) - well, lost + sum(it[2] for it in results)
-        rest = [*full_device(trial, all_scenes[0]), *files_that_cannot_be_had(trial, all_scenes[2])]
-        print(f"full devices and files that can't be had: {len(rest)}")
+        named_so = {it.name: it for it in all_scenes}
+        begun, kept = named_so["a store without outcome"], named_so["a store with the outcome"]
+        some = [named_so[it] for it in ("a new store", "an empty file", *LIMITED[1:], "one of the older form with the outcome")]
+        rest = [*full_device(trial, all_scenes[0]), *read_only_device(trial, some), *files_that_cannot_be_had(trial, begun, kept)]
+        print(f"full devices, one that is to be read only, and files that can't be had: {len(rest)}")
         passed, failed = passed + sum(rest), failed + len(rest) - sum(rest)
     print(f"{passed} passed, {failed} failed; {lost} files left no store")
     return 1 if failed or not passed else 0

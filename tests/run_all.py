@@ -6,13 +6,16 @@ usage: bin/test          all, as the merge gate does: the first run proves every
 
 What the machine lacks is told first, by name, with status 2. Then come the checks of pages and lists, which take
 seconds; then `rt ci`, which proves each crate, tries the must-fail edits and runs the tests and programs
-(docs/GATE.md); then the others, by the programs that it built, so that nothing is proved again. It stops where a
-check fails, with its status. The last line is the gate's own: `N passed, M failed`.
+(docs/GATE.md); then the others, by the programs that it built, so that nothing is proved again: those that
+wait for nobody beside the rest. It stops where a check fails, with its status. Standard error tells how long each took.
+The last line is the gate's own: `N passed, M failed`.
 """
 import os
 import shutil
 import subprocess
 import sys
+import threading
+import time
 
 from common import TOP, module_in
 
@@ -46,6 +49,7 @@ CHECKS = {
     "calls": f"tests/refuse_calls.py {CILKNOW}",
     "transcripts": f"tests/play_all.py {PLAY}",
     "packets": f"tests/changed_packets.py {PLAY}",
+    "changed_pieces": f"tests/changed_packets.py {PLAY} --kind Piece",
     "counts_of_packets": f"tests/unbacked_counts.py {PLAY}",
     "growths_of_transcripts": f"tests/play_all.py --growth {PLAY}",
     "pieces": f"tests/offers_in_pieces.py {PLAY}",
@@ -53,9 +57,14 @@ CHECKS = {
     "growths_of_nodes": f"tests/node_growths.py {PLAY}",
     "growths": "tests/refuse_growth --built",
 }
+# Checks that wait for nothing and nobody, in two lists: where there are four processors, these go on beside the others.
+BESIDE = (
+    "transcripts packets changed_pieces counts_of_packets growths_of_transcripts pieces growths_of_joins growths_of_nodes",
+    "examples answers commands help pictures scripts scripts_by_cilknow wholes broken_stores calls growths",
+)
 # The commands that they call, and the files of a system that they read or write.
 COMMANDS = "rt python3 bash cmp cp find mktemp readlink realpath seq tr make cc ar".split()
-FILES = ("/dev/full", "/dev/null", "/proc/self/stat")
+FILES = ("/dev/full", "/dev/null", "/proc/self/stat", "/proc/net/udp")
 LEAST_PYTHON = (3, 9)
 
 
@@ -73,16 +82,47 @@ def lacking():
     return found
 
 
-def ran(name):
-    """Runs a check; its status, and the last line that it wrote."""
+def ran(name, tells=True):
+    """Runs a check; its status, and the last line that it wrote. What it says is told at once, or when it has ended."""
     print(f"-- {name}: {CHECKS[name]}", file=sys.stderr, flush=True)
-    last = b""
-    with subprocess.Popen(CHECKS[name].split(" "), cwd=TOP, stdout=subprocess.PIPE) as check:
+    last, told, begun = b"", [], time.monotonic()
+    how = {"cwd": TOP, "stdout": subprocess.PIPE, "stderr": None if tells else subprocess.STDOUT}
+    with subprocess.Popen(CHECKS[name].split(" "), **how) as check:
         for line in check.stdout:
-            sys.stdout.buffer.write(line)
-            sys.stdout.buffer.flush()
             last = line
+            if tells:
+                sys.stdout.buffer.write(line)
+                sys.stdout.buffer.flush()
+            else:
+                told.append(line)
+    sys.stdout.buffer.write(b"".join(told))
+    sys.stdout.buffer.flush()
+    print(f"-- {name}: {time.monotonic() - begun:.0f} s", file=sys.stderr, flush=True)
     return check.returncode, last
+
+
+class Failures:
+    """The checks that failed, each with its status: after the first one no further check begins."""
+
+    def __init__(self):
+        self.found = []
+
+    def passed(self, name, tells=True):
+        """Runs a check, and tells whether it passed."""
+        status, last = ran(name, tells)
+        if status:
+            print(f"failed: {name} ({CHECKS[name]}), status {status}", file=sys.stderr)
+            self.found.append(status if status > 0 else 1)
+        return None if status else last
+
+    def pass_all(self, names, tells=True):
+        try:
+            for name in names:
+                if self.found or self.passed(name, tells) is None:
+                    return
+        except BaseException:
+            self.found.append(1)
+            raise
 
 
 def main(words):
@@ -98,21 +138,28 @@ def main(words):
         print(f"missing: {it}", file=sys.stderr)
     if missing:
         return 2
-    of_gate = b""
-    for name in words or CHECKS:
-        status, last = ran(name)
-        if status:
-            print(f"failed: {name} ({CHECKS[name]}), status {status}", file=sys.stderr)
-            return status if status > 0 else 1
-        if name == GATE:
-            of_gate = last
-            # (so that bin/proved takes what the gate has proved and built)
-            for it in (CILKNOW, NOWSIM, PLAY, HELD):
-                module_in("bin", "prove").mark(f"{TOP}/{it}")
-            # (and bin/library what is below the library for C)
-            module_in("bin", "prove").stamp_libraries("cilknow_c")
-    sys.stdout.buffer.write(of_gate)
-    return 0
+    names = words or [*CHECKS]
+    failures, last = Failures(), b""
+    first = names[: names.index(GATE) + 1] if GATE in names else []
+    for name in first:
+        last = failures.passed(name)
+        if last is None:
+            return failures.found[0]
+    if first:
+        # (so that bin/proved takes what the gate has proved and built, and bin/library what is below the library for C)
+        for it in (CILKNOW, NOWSIM, PLAY, HELD):
+            module_in("bin", "prove").mark(f"{TOP}/{it}")
+        module_in("bin", "prove").stamp_libraries("cilknow_c")
+    rest = names[len(first) :]
+    lists = [[it for it in rest if it in these.split()] for these in BESIDE if len(os.sched_getaffinity(0)) >= 4]
+    beside = [threading.Thread(target=failures.pass_all, args=(these, False)) for these in lists]
+    for it in beside:
+        it.start()
+    failures.pass_all([it for it in rest if not any(it in these for these in lists)])
+    for it in beside:
+        it.join()
+    sys.stdout.buffer.write(last)
+    return failures.found[0] if failures.found else 0
 
 
 if __name__ == "__main__":

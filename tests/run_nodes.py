@@ -2,6 +2,7 @@
 """Runs jobs on nodes, each on a thread, and looks whether each outcome is the right one and each trace replays to it.
 
 Usage: tests/run_nodes.py [PROGRAM [REPLAYER [HOLDER [WORDS]]]], by default bin/cilknow, bin/nowsim, the built shared_times and 100.
+       tests/run_nodes.py --many PROGRAM     a node that leaves with some 100,000 frames alone, which takes gigabytes and up to some minutes
 
 On four nodes, of which two crash and one leaves, one packet in three being lost and one in three coming twice, the
 Fibonacci number of 12 is run once for each fault word from 1 on, with one body worker a node and with three. A run that
@@ -9,8 +10,9 @@ ends has the value 144, and its trace replays to it; of some, what was counted i
 at least half of them end, all others have spent their turns, and few nodes leave to a worker that has crashed. Then
 come runs under a gate that holds a body until the next one has begun, which only another thread can do, and under one
 that holds a body while each node crashes or leaves; nodes that crash with many turns of their body workers on the way;
-one node that crashes twice and its log, nodes that share their work, tasks that are evaluated whole, with values that
-evaluations kept which didn't come to their end, and on little stack, packets that are lost or come twice, a node that leaves, rows of the
+one node that crashes twice and its log, nodes that leave with more than goes in one packet, nodes that share their
+work, tasks that are evaluated whole, with values that evaluations kept which didn't come to their end, and on little
+stack, packets that are lost or come twice, a node that leaves, rows of the
 examples on one to 64 nodes, runs whose threads can't all be made, one that waits for a thread, and options that are
 refused. The last line counts; the status is 1 where anything failed.
 """
@@ -25,6 +27,9 @@ import time
 
 from common import EXAMPLES, TOP, Tally
 
+IS_MANY = sys.argv[1:2] == ["--many"]
+if IS_MANY:
+    del sys.argv[1]
 PROGRAM = sys.argv[1] if len(sys.argv) > 1 else f"{TOP}/bin/cilknow"
 REPLAYER = sys.argv[2] if len(sys.argv) > 2 else f"{TOP}/bin/nowsim"
 HOLDER = sys.argv[3] if len(sys.argv) > 3 else f"{TOP}/crates/shared_times/out/shared_times"
@@ -47,6 +52,21 @@ BROAD = (
     "thread one(k){send_argument(k,1);}"
     "thread sum(k,a,b,c,d,e,f,g){send_argument(k,a+b+c+d+e+f+g);}"
 )
+# A tree of so many levels whose frames have eight kids each: more than are ever carried out. The first sum of so many values begins a chain that
+# is too deep, which ends a run. Its bodies are so many steps long, so that up to 16 of a level are out at a time, and the kids of all of them
+# wait there.
+LEVELS, VALUES, STEPS = 950, 8**3, 300
+KIDS = "abcdefgh"
+TREE = (
+    "thread main(k,n){if n<1{send_argument(k,1);}else{let x0=n;"
+    + "".join(f"let x{it}=x{it - 1}*{it + 2}+n/{it + 1};" for it in range(1, STEPS))
+    + f"let m=n-1+x{STEPS - 1}-x{STEPS - 1};spawn_next sum(k,{','.join(f'?{it}' for it in KIDS)});"
+    + "".join(f"spawn main({it},m);" for it in KIDS)
+    + f"}}}}thread sum(k,{','.join(KIDS)}){{let s={'+'.join(KIDS)};if s<{VALUES}{{send_argument(k,s);}}else{{spawn_next same(k,?y);spawn deep(y);}}}}"
+    "thread deep(k){spawn_next same(k,?y);spawn deep(y);}thread same(k,n){send_argument(k,n);}"
+)
+# A node that leaves holds at least so many frames of it: some 100,000 on four cores, fewer where threads wait for a core.
+MANY = 50_000
 # So many turns: a run that takes more ends with E95.
 TURNS = "100000000"
 # So many bytes of stack.
@@ -284,6 +304,31 @@ def in_pieces(folder):
     tell(accepted >= 3, f"in pieces: {accepted} Offers are accepted")
 
 
+def many_in_pieces(folder):
+    """The same of a node that leaves with some 100,000 frames, in hundreds of Pieces. Who holds how many depends on the threads' times, so it is
+    run until one left with enough, at most 5 times."""
+    file = f"{folder}/tree.ck"
+    with open(file, "w") as out:
+        out.write(TREE)
+    seen = []
+    for word in range(1, 6):
+        if max(seen, default=0) >= MANY:
+            break
+        trace = f"{folder}/many in pieces {word}"
+        status, out, err = called(
+            PROGRAM, "run", file, "--nodes", "2", "--bodies", "8", "--lose", "50", "--repeat", "50", "--depart", "1", "--after", "26000",
+            "--faults", str(word), "--turns", TURNS, "--trace", trace, str(LEVELS))
+        tell((status, out) == (0, "too deep\n"), f"many in pieces {word}: {status} {out}{err}")
+        _, told, _ = called(PROGRAM, "replay", file, trace, "--packets", str(LEVELS))
+        tell(told.endswith("\noutcome too deep\n"), f"many in pieces {word}: the trace has another outcome")
+        left = re.search(r"^\d+  depart (\d+) \d+: .*?Piece (\S+) from (\d+) to (\d+): hop (\d+), part 1 of (\d+), 65536 bytes", told, re.M)
+        if left and re.search(rf"OfferAck {left[2]} from {left[4]} to {left[3]}: hop {left[5]}$", told, re.M):
+            # (a turn that joins leaves eight frames more, and one that sends one less)
+            turns = re.findall(rf"^\d+  exec {left[1]} .*\) (joins sum|sends)", told[:left.start()], re.M)
+            seen.append(8 * turns.count("joins sum") - turns.count("sends"))
+    tell(max(seen, default=0) >= MANY, f"many in pieces: Offers of {seen} frames are accepted")
+
+
 def crashes(folder):
     """One node that crashes twice, and its log."""
     log = f"{folder}/log"
@@ -472,6 +517,10 @@ def refused():
         tell(called(PROGRAM, "run", FIB, "--nodes", "2", option, "/", "3") == (4, "", "cilknow: file\n"), f"{option}: a folder is written")
 
 
+if IS_MANY:
+    with tempfile.TemporaryDirectory() as folder:
+        many_in_pieces(folder)
+    sys.exit(CHECKS.end())
 with tempfile.TemporaryDirectory() as folder:
     faulty(folder, "1")
     faulty(folder, "3")

@@ -5,20 +5,23 @@ Usage: tests/run_stores.py [PROGRAM [KILLS]], by default bin/cilknow and 30.
 
 A run is killed so many times, each time a little later after it began. Each time the file is empty, or has the record of the job without
 outcome or with the right one, of an epoch that never falls; a run that comes to its end answers the right outcome, and the next one answers
-that at once; and the file beside the store has its whole line where the store has a byte. Then come a store of another job, of another program and
-of another input, files that are no store, one that another run has, folders, a device that is full, files that are named twice, and options that
-disagree: each is refused, and no record changes. The last line counts; the status is 1 where anything failed.
+that at once; and the file beside the store has its whole line where the store has a byte. Then come runs that are stopped in the midst while the
+store, the file beside it or both are removed, and runs under faults over stores of the older form. Then come a store of another job, of another
+program and of another input, files that are no store, one that another run has, folders, a device that is full, files that are named twice, and
+options that disagree: each is refused, and no record changes. The last line counts; the status is 1 where anything failed.
 """
 import fcntl
 import hashlib
 import os
 import resource
+import shutil
 import signal
 import subprocess
 import sys
 import tempfile
 import time
 
+import broken_stores
 from common import EXAMPLES, TOP, Tally
 
 PROGRAM = os.path.abspath(sys.argv[1]) if len(sys.argv) > 1 else f"{TOP}/bin/cilknow"
@@ -27,8 +30,11 @@ FIB = f"{EXAMPLES}/fib.ck"
 DEEP = f"{EXAMPLES}/too_deep.ck"
 # A run of the Fibonacci number of so much takes a few tenths of a second.
 INPUT, VALUE = "18", 2584
-# The tags of an outcome in a record.
-NONE, IS_VALUE, TOO_DEEP, MOVED = 0, 1, 2, 3
+# So many turns: a run under faults that takes more ends with E95.
+TURNS = "100000000"
+NONE, IS_VALUE, TOO_DEEP = broken_stores.NONE, broken_stores.IS_VALUE, broken_stores.TOO_DEEP
+# What builds that know the older form alone made of a new store of job 1.
+OLD = broken_stores.file_of(broken_stores.slot_of(broken_stores.Record(1, 0, NONE, 0, 0, broken_stores.SMALL)), bytes(64))
 
 CHECKS = Tally()
 tell = CHECKS.tell
@@ -65,20 +71,12 @@ def changed(content, at, byte):
     return content[:at] + bytes([byte]) + content[at + 1:]
 
 
-def number(content):
-    return int.from_bytes(content, "big")
-
-
 def record(content):
-    """The job, the epoch, and the tag and value of the outcome, by the open large slot of the greater sequence; none where it is no store."""
-    if len(content) != 4360 or content[:9] != b"CNOWCKP\x01\xa5" or content[35] != MOVED:
+    """The job, the epoch, and the tag and value of the outcome that a store of the newer form keeps; none where it is no such store."""
+    found = broken_stores.read_store(content)
+    if isinstance(found, int) or found.form != broken_stores.LARGE:
         return None
-    slots = [content[at:at + 2112] for at in (136, 2248)]
-    slots = [slot for slot in slots if slot[0] == 0xA5 and number(slot[9:11]) == 2101 and slot[27] <= TOO_DEEP]
-    if not slots:
-        return None
-    slot = max(slots, key=lambda slot: number(slot[1:9]))
-    return number(slot[11:19]), number(slot[19:27]), slot[27], number(slot[28:36])
+    return found.job, found.epoch, found.tag, found.value
 
 
 def kills(folder):
@@ -137,6 +135,126 @@ def ends(folder):
         tell(record(bytes_of(path)) == (77, 1, TOO_DEEP, 0), "too deep is kept")
     path = written(f"{folder}/empty", b"")
     tell(called(FIB, "--store", path, "7") == (0, "value 13\n", ""), "an empty file is made a store")
+
+
+def fib(n):
+    before, value = 0, 1
+    for _ in range(n - 1):
+        before, value = value, before + value
+    return value
+
+
+def state_of(run, how=0):
+    """How a run stopped or ended; none where it goes on and isn't waited for."""
+    found = os.waitid(os.P_PID, run.pid, os.WEXITED | os.WSTOPPED | os.WNOWAIT | how)
+    return found and found.si_code
+
+
+def has_begun(path):
+    found = record(content_of(path) or b"")
+    return found is not None and found[1] > 0
+
+
+def in_the_midst(path, change):
+    """A run over a new store that is stopped while it computes, goes on behind a change, and ends: its input, and what it answers. Of inputs that
+    grow the first one is taken whose run is long enough."""
+    for number in range(18, 60, 2):
+        with subprocess.Popen(
+                (PROGRAM, "run", FIB, "--nodes", "2", "--store", path, str(number)), stdout=subprocess.PIPE, stderr=subprocess.PIPE, text=True) as run:
+            try:
+                while state_of(run, os.WNOHANG) is None and not has_begun(path):
+                    time.sleep(0.001)
+                os.kill(run.pid, signal.SIGSTOP)
+                is_caught = state_of(run) == os.CLD_STOPPED and record(bytes_of(path)) == (1, 1, NONE, 0)
+                if is_caught:
+                    change()
+                os.kill(run.pid, signal.SIGCONT)
+                answer = (*run.communicate(timeout=300), run.returncode)
+            except BaseException:
+                run.kill()
+                raise
+        if is_caught:
+            return number, answer
+        os.remove(path)
+        os.remove(f"{path}.job")
+    raise SystemExit("no run is long enough to be stopped in the midst")
+
+
+def removed(folder):
+    """Files that are removed in the midst of a run: it ends with its outcome, and makes none of them anew. Over no store the next run begins
+    anew; over one without the file beside it, it answers at once, and tells that."""
+    for what, gone in (("the store", ("",)), ("the file beside it", (".job",)), ("both", ("", ".job"))):
+        path = f"{folder}/without {what}"
+        number, answer = in_the_midst(path, lambda: [os.remove(f"{path}{it}") for it in gone])
+        right, line = f"value {fib(number)}\n", line_of(FIB, str(number))
+        words, few = (FIB, "--store", path, str(number)), (FIB, "--store", path, "--turns", "5", str(number))
+        tell(answer == (right, "", 0), f"{what} is removed: {answer}")
+        tell(os.path.exists(path) == ("" not in gone), f"{what} is removed: a store is there, or none")
+        tell(content_of(f"{path}.job") == (None if ".job" in gone else line), f"{what} is removed: {content_of(f'{path}.job')} lies there")
+        if "" in gone:
+            tell(called(*few) == (3, "", "cilknow: E95\n"), f"{what} is removed: the next run doesn't begin anew")
+            tell(record(bytes_of(path)) == (1, 1, NONE, 0), f"{what} is removed: the next run doesn't begin with the first epoch")
+            tell(called(*words) == (0, right, "") and bytes_of(f"{path}.job") == line, f"{what} is removed: the run behind that")
+            tell(record(bytes_of(path)) == (1, 2, IS_VALUE, fib(number)), f"{what} is removed: the run behind that keeps another record")
+        else:
+            kept = bytes_of(path)
+            tell(record(kept) == (1, 1, IS_VALUE, fib(number)), f"{what} is removed: the outcome isn't kept")
+            told = f"cilknow: {path} doesn't say whose it is\n"
+            tell(called(*few) == (0, right, told), f"{what} is removed: the outcome isn't answered at once")
+            tell(bytes_of(path) == kept and not os.path.exists(f"{path}.job"), f"{what} is removed: the next run changes a file")
+
+
+def replaced(folder):
+    """A store in whose place something else comes in the midst of a run, which ends with its outcome and leaves that alone; and one that is emptied,
+    of which the run tells no outcome."""
+    path = f"{folder}/replaced"
+
+    def other_run():
+        os.remove(path)
+        tell(called(FIB, "--store", path, "7") == (0, "value 13\n", ""), "a run over the name of a store that was removed")
+
+    number, answer = in_the_midst(path, other_run)
+    tell(answer == (f"value {fib(number)}\n", "", 0), f"another run takes the name of a store: {answer}")
+    tell(record(bytes_of(path)) == (1, 1, IS_VALUE, 13) and bytes_of(f"{path}.job") == line_of(FIB, "7"), "the files of that other run")
+    path, other = f"{folder}/moved over", written(f"{folder}/moved", b"mine\n")
+    number, answer = in_the_midst(path, lambda: os.replace(other, path))
+    tell(answer == (f"value {fib(number)}\n", "", 0), f"a file is moved over a store: {answer}")
+    tell(bytes_of(path) == b"mine\n", "a file that was moved over a store")
+    refused_as(path, 3, "E71", FIB, "--store", path, str(number))
+    path = f"{folder}/emptied"
+    number, answer = in_the_midst(path, lambda: os.truncate(path, 0))
+    tell(answer == ("", "cilknow: E72\n", 3), f"a store is emptied: {answer}")
+    refused_as(path, 3, "E71", FIB, "--store", path, str(number))
+    os.mkdir(f"{folder}/whole")
+    path = f"{folder}/whole/store"
+    number, answer = in_the_midst(path, lambda: shutil.rmtree(f"{folder}/whole"))
+    tell(answer == (f"value {fib(number)}\n", "", 0), f"the folder of a store is removed: {answer}")
+    tell(called(FIB, "--store", path, str(number)) == (4, "", "cilknow: file\n"), "a store in a folder that was removed")
+
+
+def faults(folder):
+    """Runs under faults, over stores of the older form without outcome: those that end have the right one, and behind the others, which spent their
+    turns, so has the next run."""
+    ended = 0
+    for word in range(1, 21):
+        path = written(f"{folder}/faults {word}", OLD)
+        told = f"cilknow: {path} doesn't say whose it is\n"
+        if word % 2:
+            written(f"{path}.job", line_of(FIB, "12"))
+            told = ""
+        status, out, err = called(
+            FIB, "--nodes", "4", "--lose", "3", "--repeat", "3", "--crash", "2", "--depart", "1", "--faults", str(word), "--turns", TURNS, "--store", path,
+            "12")
+        found, epoch = record(bytes_of(path)), 1
+        if status == 3:
+            tell((out, err, found) == ("", f"{told}cilknow: E95\n", (1, 1, NONE, 0)), f"faults {word}: {out}{err}{found}")
+            epoch = 2
+        else:
+            ended += 1
+            tell((status, out, err, found) == (0, "value 144\n", told, (1, 1, IS_VALUE, 144)), f"faults {word}: {status} {out}{err}{found}")
+        tell(called(FIB, "--store", path, "12") == (0, "value 144\n", told), f"faults {word}: the next run")
+        tell(record(bytes_of(path)) == (1, epoch, IS_VALUE, 144), f"faults {word}: the store behind it")
+    tell(ended >= 10, f"faults: {ended} of 20 runs ended")
 
 
 def refused_as(path, status, told, *words):
@@ -314,6 +432,9 @@ def refusals(folder):
 with tempfile.TemporaryDirectory() as folder:
     kills(folder)
     ends(folder)
+    removed(folder)
+    replaced(folder)
+    faults(folder)
     refusals(folder)
     whose(folder)
     long_forms(folder)

@@ -16,6 +16,7 @@ import tempfile
 
 import changed_packets
 import play_all
+from common import are_told
 
 LIMIT = 20
 # It stands in front of the C heap, and tells how many bytes were asked for.
@@ -75,7 +76,7 @@ def main(words):
     for fault in faults:
         print(fault, file=sys.stderr)
     print(f"{len(counts) - len(faults)} passed, {len(faults)} failed")
-    return 1 if faults or not counts else 0
+    return 1 if faults or not are_told("unbacked_counts.py", len(counts)) else 0
 
 
 if __name__ == "__main__":

@@ -8,7 +8,7 @@ set -eu
 [ $# -gt 0 ] || { echo "usage: sbatch slurm.sbatch FILE INPUT.." >&2; exit 2; }
 port=${PORT:-7700} store=${STORE:-$1.store} key=${KEY:-key}
 [ -e "$key" ] || (umask 077 && head -c 32 /dev/urandom > "$key")
-srun -K0 cilknow-node worker --join "${SLURMD_NODENAME:-$(hostname)}:$port" --key "$key" &
+srun -K0 cilknow-node worker --join "${SLURMD_NODENAME:-$(hostname)}:$port" --key "$key" --grace 5 &
 workers=$!
 cilknow-node house "$@" --store "$store" --listen "0.0.0.0:$port" --key "$key" &
 house=$!
@@ -16,6 +16,8 @@ house=$!
 trap 'kill "$house" "$workers" 2> /dev/null || true' TERM
 status=0
 wait "$house" || status=$?
+# (a signal ends the waiting, and not the house at once)
+[ "$status" -lt 128 ] || { status=0 && wait "$house" || status=$?; }
 # (workers that hear of the end go by themselves; a house that was refused has told none)
 sleep 2
 while kill "$workers" 2> /dev/null; do sleep 1; done

@@ -2,6 +2,7 @@
 #ifndef HOST_H
 #define HOST_H
 #include "../cilknow.h"
+#include <stdatomic.h>
 #include <stdbool.h>
 #include <stdio.h>
 #include <sys/socket.h>
@@ -28,6 +29,14 @@ int words_of(int count, char **given, struct words *words); /* a status */
 
 /* -- tell.c: what is told on standard error -- */
 void tell(const char *form, ...) __attribute__((format(printf, 1, 2)));
+/* How many events an actor has done, and how many packets it has sent. Workers of one command look at each other's. */
+struct progress { _Atomic uint64_t events, packets; };
+void progress_shows(const struct progress *of, size_t count, uint64_t begun, uint64_t now, const size_t *seen);
+void progress_ends(void);
+enum { KIND_AT = 3 };              /* where a packet's kind stands */
+struct kinds { uint64_t of[16]; }; /* how many packets, by their kinds */
+void kinds_count(struct kinds *kinds, const uint8_t *packet);
+void kinds_tell(const struct kinds *kinds);
 int refused(int64_t error);                           /* tells an error of the library by its number; a status */
 uint64_t micros(void);                                /* a clock that no one sets back */
 uint64_t draw(uint64_t *seed);                        /* a number by chance, from a seed */
@@ -56,9 +65,8 @@ struct wire {
     int socket;
     uint8_t door[KEY], key[KEY]; /* of what joining takes, and of this job's */
     struct faults faults;
-    uint64_t next;               /* the number of the next packet */
     uint64_t begun;
-    uint64_t sent, came, wrong, lost;
+    uint64_t sent, came, wrong, lost; /* datagrams */
     struct { struct peer to; uint8_t bytes[64 + PART + 128]; size_t len; unsigned behind; } late;
 };
 bool wire_open(struct wire *wire, const char *address, bool listens, struct peer *there, const struct words *words);
@@ -66,6 +74,7 @@ void wire_bind(struct wire *wire, uint64_t job, const uint8_t *line, size_t len)
 void wire_say(struct wire *wire, const struct said *said, const struct peer *to);
 bool wire_hear(struct wire *wire, struct said *said);   /* false where nothing is there; what isn't tagged rightly is dropped */
 void wire_wait(struct wire *wire, uint64_t most_micros);
+void wire_tell(const struct wire *wire); /* its counts */
 /* Sends a packet in its parts. */
 void wire_packet(struct wire *wire, const struct peer *to, uint64_t sender, const uint8_t *bytes, size_t len);
 /* The packet that a part completes, or null. It stays until the next call. */
@@ -83,6 +92,7 @@ void known_learn(struct known *known, uint64_t word, const struct peer *at);
 struct trace { FILE *file; };
 bool trace_open(struct trace *trace, const char *folder, const char *name, const char *how);
 void trace_event(struct trace *trace, const char *form, ...) __attribute__((format(printf, 2, 3)));
+void trace_ask(struct trace *trace, uint64_t victim);
 void trace_packet(struct trace *trace, const char *word, const uint8_t *bytes, size_t len);
 void trace_flush(struct trace *trace);
 void trace_close(struct trace *trace);
@@ -91,8 +101,9 @@ void trace_close(struct trace *trace);
 struct store { int file; };
 int store_open(struct store *store, const struct words *words, const uint8_t *text, size_t text_len, uint8_t **content,
                size_t *len);                                                        /* a status */
-bool store_keep(struct store *store, cilknow_actor *house);                         /* does what waits to be done */
+bool store_keep(struct store *store, cilknow_actor *house, struct trace *trace);    /* does what waits to be done */
 
 int run_house(const struct words *words);
-int run_worker(const struct words *words);
+/* What it does is counted in `progress`; it shows what so many from there on have done, none for 0. */
+int run_worker(const struct words *words, struct progress *progress, size_t shows);
 #endif

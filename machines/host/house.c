@@ -8,8 +8,8 @@
 #include <unistd.h>
 
 /* A value that is to be saved costs a commit of some milliseconds: of these packets one is taken in so many microseconds, and
- * the others count as lost. Workers send them again. */
-enum { SAVES = 100000, KIND_AT = 3, KIND_SAVE = 14 };
+ * the others count as lost: a worker sends each once. */
+enum { SAVES = 100000, KIND_SAVE = 14 };
 
 /* Behind the outcome it ends once all workers have heard it and for so long nobody came who hasn't. */
 enum { QUIET = 300000 };
@@ -23,7 +23,9 @@ struct house {
     cilknow_actor *actor;
     uint8_t *job; /* what a worker gets that joins */
     size_t job_len;
-    uint64_t begun, ticked, saved, ended, said, stirred, handed_on, unsaved, packets;
+    uint64_t begun, ticked, saved, ended, said, stirred, handed_on, unsaved, ignored;
+    struct progress progress;
+    struct kinds kinds;
     int64_t kind, value;
 };
 
@@ -36,7 +38,7 @@ static bool sends(struct house *house) {
     static struct { uint8_t *bytes; size_t len; } kept[4097];
     size_t count = 0;
     int64_t len;
-    if (!store_keep(&house->store, house->actor)) return false;
+    if (!store_keep(&house->store, house->actor, &house->trace)) return false;
     while (count < 4097 && (len = cilknow_packet(house->actor, bytes, sizeof bytes)) > 0) {
         trace_packet(&house->trace, "sent", bytes, (size_t)len);
         kept[count].bytes = malloc((size_t)len);
@@ -47,7 +49,8 @@ static bool sends(struct house *house) {
     trace_flush(&house->trace);
     for (size_t i = 0; i < count; i++) {
         const struct peer *at = known_at(&house->known, cilknow_address(kept[i].bytes));
-        house->packets++;
+        house->progress.packets++;
+        kinds_count(&house->kinds, kept[i].bytes);
         if (at) wire_packet(&house->wire, at, 0, kept[i].bytes, kept[i].len);
         free(kept[i].bytes);
     }
@@ -61,6 +64,8 @@ static bool takes(struct house *house, const uint8_t *bytes, size_t len, uint64_
     }
     int64_t did = cilknow_take(house->actor, bytes, len);
     if (did >= 0 || did <= -40) trace_packet(&house->trace, "take", bytes, len);
+    house->progress.events++;
+    house->ignored += did != 0;
     return sends(house);
 }
 
@@ -118,24 +123,19 @@ static bool ticks(struct house *house, uint64_t now) {
     if (now - house->ticked < 5 * moment) return true;
     house->ticked = now;
     uint64_t number = (now - house->begun) / moment;
-    if (cilknow_tick(house->actor, number) == 0) trace_event(&house->trace, "tick %" PRIu64, number);
+    if (cilknow_tick(house->actor, number) == 0) trace_event(&house->trace, "house-tick %" PRIu64, number);
+    house->progress.events++;
     return sends(house);
 }
 
 static bool told(struct house *house) {
     house->kind = cilknow_outcome(house->actor, &house->value);
     if (house->kind == 0) return false;
+    progress_ends();
     if (house->kind == 1) printf("value %" PRId64 "\n", house->value);
     else if (house->kind == 2) printf("too deep\n");
     fflush(stdout);
     return true;
-}
-
-static void shows(const struct house *house, uint64_t now) {
-    static uint64_t shown;
-    if (!isatty(2) || now - shown < 500000) return;
-    shown = now;
-    fprintf(stderr, "\r%zu workers seen, %" PRIu64 " packets sent, %" PRIu64 " s \r", house->known.count, house->packets, (now - house->begun) / 1000000);
 }
 
 static int goes_on(struct house *house) {
@@ -148,8 +148,8 @@ static int goes_on(struct house *house) {
             if (!hears(house, &said, now)) return STATUS_NONE;
         if (ends) return house->ended ? STATUS_OK : (tell("there is no outcome yet; another start over the store goes on"), STATUS_NONE);
         now = micros();
-        shows(house, now);
         if (!house->ended) {
+            progress_shows(&house->progress, 1, house->begun, now, &house->known.count);
             if (!ticks(house, now)) return STATUS_NONE;
             if (cilknow_state(house->actor) == CILKNOW_STOPPED) return refused(cilknow_outcome(house->actor, &house->value));
             if (told(house)) house->ended = now;
@@ -198,15 +198,18 @@ int run_house(const struct words *words) {
     if (error) return refused(error);
     free(content), free(text);
     if (!trace_open(&house.trace, words->trace, "house", "a")) return STATUS_FILE;
-    trace_event(&house.trace, "open");
+    trace_event(&house.trace, "house-restart");
     signal(SIGTERM, end), signal(SIGINT, end), signal(SIGHUP, end);
     /* (its epoch is on the disk behind this) */
     status = sends(&house) ? STATUS_OK : STATUS_NONE;
     if (!status && !told(&house)) status = goes_on(&house);
-    if (words->stats)
-        fprintf(stderr, "workers %zu\npackets %" PRIu64 "\nhanded-on %" PRIu64 "\nsaves-passed-over %" PRIu64 "\ndatagrams %" PRIu64 "\nwrong-tags %" PRIu64 "\n",
-                house.known.count, house.packets, house.handed_on, house.unsaved, house.wire.sent, house.wire.wrong);
-    trace_event(&house.trace, "crash");
+    progress_ends();
+    if (words->stats) {
+        fprintf(stderr, "workers seen %zu\n", house.known.count);
+        kinds_tell(&house.kinds);
+        fprintf(stderr, "packets ignored or refused %" PRIu64 "\npackets handed on %" PRIu64 "\nsaves passed over %" PRIu64 "\n", house.ignored, house.handed_on, house.unsaved);
+        wire_tell(&house.wire);
+    }
     trace_close(&house.trace);
     cilknow_end(house.actor);
     return status;

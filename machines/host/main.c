@@ -3,6 +3,7 @@
 #include <errno.h>
 #include <signal.h>
 #include <string.h>
+#include <sys/mman.h>
 #include <sys/prctl.h>
 #include <sys/wait.h>
 #include <unistd.h>
@@ -22,6 +23,9 @@ static void end(int signal) {
 static int run_workers(const struct words *words) {
     int status = 0;
     sigset_t both, before;
+    /* (the first one shows what all have done) */
+    struct progress *progress = mmap(NULL, words->bodies * sizeof *progress, PROT_READ | PROT_WRITE, MAP_SHARED | MAP_ANONYMOUS, -1, 0);
+    if (progress == MAP_FAILED) return tell("memory for counts: %s", strerror(errno)), STATUS_NONE;
     sigemptyset(&both), sigaddset(&both, SIGTERM), sigaddset(&both, SIGINT);
     signal(SIGTERM, end), signal(SIGINT, end);
     uint64_t count = 0;
@@ -35,7 +39,7 @@ static int run_workers(const struct words *words) {
             (void)prctl(PR_SET_PDEATHSIG, SIGTERM);
             signal(SIGTERM, SIG_DFL), signal(SIGINT, SIG_DFL);
             sigprocmask(SIG_SETMASK, &before, NULL);
-            return run_worker(&own);
+            return run_worker(&own, progress + count, count ? 0 : words->bodies);
         }
         workers[count] = worker;
         sigprocmask(SIG_SETMASK, &before, NULL);
@@ -63,5 +67,6 @@ int main(int count, char **given) {
     int status = words_of(count, given, &words);
     if (status) return status < 0 ? STATUS_OK : status;
     if (words.house) return run_house(&words);
-    return words.bodies > 1 ? run_workers(&words) : run_worker(&words);
+    static struct progress progress;
+    return words.bodies > 1 ? run_workers(&words) : run_worker(&words, &progress, 1);
 }

@@ -96,12 +96,18 @@ static bool write_all(int file, const uint8_t *bytes, size_t len, uint64_t at) {
     return true;
 }
 
-bool store_keep(struct store *store, cilknow_actor *house) {
+/* The third write of a commit, which opens the gate, is the moment from which on the file has the record. What led to it is in the trace just
+ * before: so one who is killed leaves a file and a trace of one run, but for that moment. */
+enum { OPENS = 3 };
+
+bool store_keep(struct store *store, cilknow_actor *house, struct trace *trace) {
     static uint8_t call[CILKNOW_FILE_LONGEST];
     int64_t len;
+    int writes = 0;
     while ((len = cilknow_file_call(house, call, sizeof call)) > 0) {
         uint64_t number = cilknow_file_number(call);
         bool done = false;
+        if (call[0] == 1 && ++writes == OPENS) trace_flush(trace);
         if (call[0] == 1) done = write_all(store->file, call + 9, (size_t)len - 9, number);
         else if (call[0] == 2) done = !ftruncate(store->file, (off_t)number);
         else if (call[0] == 3) done = !fsync(store->file);

@@ -1,10 +1,16 @@
 /* tell.c: what is told on standard error, the clock, chance, and files that are read. */
 #include "host.h"
+#include <inttypes.h>
 #include <stdarg.h>
 #include <stdlib.h>
 #include <sys/random.h>
 #include <time.h>
 #include <unistd.h>
+
+/* In microseconds: how long nothing is told of its progress, and how long it pauses then. */
+enum { SILENT = 2000000, PAUSE = 500000 };
+#define WIPE "\r\x1b[K"
+static bool is_shown;
 
 void tell(const char *form, ...) {
     char line[512];
@@ -12,7 +18,38 @@ void tell(const char *form, ...) {
     va_start(rest, form);
     vsnprintf(line, sizeof line, form, rest);
     va_end(rest);
-    fprintf(stderr, "cilknow-node: %s\n", line);
+    /* (on a terminal another worker's progress may stand there) */
+    fprintf(stderr, "%scilknow-node: %s\n", isatty(2) ? WIPE : "", line);
+    is_shown = false;
+}
+
+/* Tells on a terminal how far it has come, as `cilknow run` does: nothing in its first two seconds, and then twice a second in one line,
+ * which is written anew each time and taken away at the end. */
+void progress_shows(const struct progress *of, size_t count, uint64_t begun, uint64_t now, const size_t *seen) {
+    static uint64_t told;
+    uint64_t events = 0, packets = 0;
+    char workers[48] = "";
+    if (!count || now - begun < SILENT || now - told < PAUSE) return;
+    told = now;
+    if (!isatty(2)) return;
+    for (size_t i = 0; i < count; i++) events += of[i].events, packets += of[i].packets;
+    if (seen) snprintf(workers, sizeof workers, ", %zu workers seen", *seen);
+    fprintf(stderr, "\r%" PRIu64 " events, %" PRIu64 " a second, %" PRIu64 " packets%s\x1b[K", events, events * 1000000 / (now - begun), packets, workers);
+    is_shown = true;
+}
+
+void progress_ends(void) {
+    if (is_shown) fputs(WIPE, stderr);
+    is_shown = false;
+}
+
+void kinds_count(struct kinds *kinds, const uint8_t *packet) { kinds->of[packet[KIND_AT] % 16]++; }
+
+void kinds_tell(const struct kinds *kinds) {
+    static const char *const names[16] = {"", "Join", "Roster", "Steal", "Grant", "Refuse", "Result", "ResultAck", "Offer", "OfferAck", "Leave", "Abort",
+                                          "Beat", "Piece", "Save", "SavedGrant"};
+    for (int i = 1; i < 16; i++)
+        if (kinds->of[i]) fprintf(stderr, "packets of kind %s %" PRIu64 "\n", names[i], kinds->of[i]);
 }
 
 int refused(int64_t error) {

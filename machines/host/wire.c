@@ -1,7 +1,7 @@
 /* wire.c: datagrams over UDP.
  *
  * A datagram is a tag of 16 bytes, a kind, and what the kind has (numbers: the highest byte first):
- *   P  a part of a packet: whom it goes to (8), who sent it (8), the packet's number (8), which part (2) of how many (2), bytes
+ *   P  a part of a packet: whom it goes to (8), who sent it (8), a number by the packet's bytes (8), which part (2) of how many (2), bytes
  *   F  the same, handed on by the clearinghouse's process: behind these where it came from, as a family (1), a port (2) and an
  *      address (16)
  *   O  the outcome: its kind (8), its value (8)        A  the outcome was heard: by whom (8)
@@ -13,6 +13,7 @@
 #include <arpa/inet.h>
 #include <errno.h>
 #include <fcntl.h>
+#include <inttypes.h>
 #include <netdb.h>
 #include <netinet/in.h>
 #include <poll.h>
@@ -92,8 +93,7 @@ bool wire_open(struct wire *wire, const char *address, bool listens, struct peer
     (void)setsockopt(wire->socket, SOL_SOCKET, SO_RCVBUF, &space, sizeof space);
     if (listens && bind(wire->socket, (struct sockaddr *)&there->at, there->len)) return tell("%s: %s", address, strerror(errno)), false;
     wire->faults = words->faults, wire->begun = micros();
-    if (!wire_key(wire, words->key)) return false;
-    return random_bytes(&wire->next, sizeof wire->next) || (tell("no numbers by chance"), false);
+    return wire_key(wire, words->key);
 }
 
 static void out(struct wire *wire, const uint8_t *bytes, size_t len, const struct peer *to) {
@@ -230,8 +230,20 @@ void wire_wait(struct wire *wire, uint64_t most_micros) {
     (void)ppoll(&one, 1, &most, NULL);
 }
 
+void wire_tell(const struct wire *wire) {
+    fprintf(stderr, "datagrams sent %" PRIu64 "\ndatagrams that came %" PRIu64 "\ndatagrams dropped %" PRIu64 "\n", wire->sent, wire->came, wire->wrong);
+    if (wire->lost) fprintf(stderr, "datagrams lost on purpose %" PRIu64 "\n", wire->lost);
+}
+
+/* A packet of several parts has a number by its bytes: so parts of one that is sent again go with those that came before. */
+static uint64_t number_of(const uint8_t *bytes, size_t len) {
+    uint8_t digest[32];
+    return cilknow_digest(bytes, len, digest, sizeof digest), get(digest, 8);
+}
+
 void wire_packet(struct wire *wire, const struct peer *to, uint64_t sender, const uint8_t *bytes, size_t len) {
-    struct said said = {.kind = KIND_PACKET, .to = cilknow_address(bytes), .sender = sender, .id = wire->next++, .count = (uint16_t)((len + PART - 1) / PART)};
+    struct said said = {.kind = KIND_PACKET, .to = cilknow_address(bytes), .sender = sender, .count = (uint16_t)((len + PART - 1) / PART)};
+    if (len > PART) said.id = number_of(bytes, len);
     for (size_t at = 0; at < len; at += PART, said.number++) {
         said.bytes = bytes + at, said.len = len - at < PART ? len - at : PART;
         wire_say(wire, &said, to);

@@ -24,6 +24,7 @@ static const char usage[] =
     "  --patience S    a worker ends that has heard nothing for S seconds (0: it waits for ever)\n"
     "  --trace FOLDER  each actor writes what it did to a file there\n"
     "  --stats         counts, on standard error, at the end\n"
+    "On a terminal each tells how far it has come, once it has taken two seconds.\n"
     "For tests, of datagrams that are sent: --lose N, --repeat N, --late N (one in N), --seed N; and --deaf A-B: none comes\n"
     "or goes from so many seconds after the start to so many\n";
 

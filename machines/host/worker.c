@@ -9,9 +9,11 @@
 
 /* In microseconds: after which time it sends again what isn't answered, at first and at most; after which time it says that it is
  * there; how long it pauses at most between two requests for work; and after which time in a row with work it looks at what came.
- * Of packets: where their kind stands, and a request for work. */
+ * Of packets: the kind of a request for work. */
 enum { AGAIN = 4000, LATEST_AGAIN = 100000, THERE = 200000, LONGEST_PAUSE = 20000, SLICE = 500 };
-enum { KIND_AT = 3, KIND_STEAL = 3 };
+enum { KIND_STEAL = 3 };
+/* So many answers to requests for work are looked at, of how long they took. */
+enum { TRIPS = 4096 };
 
 struct worker {
     const struct words *words;
@@ -26,7 +28,11 @@ struct worker {
     uint64_t job, word, random;
     uint64_t sent_at, again, ask_at, pause, heard, told_to_go, resent;
     bool over, leaves, by_house;
-    uint64_t frames, wholes, turns, asks, packets, starts;
+    struct progress *progress;
+    struct kinds kinds;
+    uint64_t turns, wholes, turns_in_them, asks, starts, ignored;
+    uint64_t asked_at, answers;
+    uint32_t trips[TRIPS];
 };
 
 static volatile sig_atomic_t ends;
@@ -42,7 +48,8 @@ static uint64_t number_at(const uint8_t *from) {
 static void sends_packet(struct worker *worker, const uint8_t *bytes, size_t len) {
     uint64_t to = cilknow_address(bytes);
     const struct peer *at = cilknow_to_house(to) || worker->by_house ? NULL : known_at(&worker->known, to);
-    worker->packets++;
+    worker->progress->packets++;
+    kinds_count(&worker->kinds, bytes);
     wire_packet(&worker->wire, at ? at : &worker->house, worker->word, bytes, len);
 }
 
@@ -80,13 +87,13 @@ static int starts(struct worker *worker) {
         worker->word >>= 1;
     } while (!worker->word);
     worker->random = worker->word, worker->pause = worker->ask_at = 0, worker->sent_at = micros(), worker->again = AGAIN;
-    worker->starts++;
+    worker->starts++, worker->progress->events++;
     int32_t error = cilknow_node(worker->text, worker->text_len, worker->input, worker->inputs, worker->job, worker->word,
                                  worker->words->grain, &worker->actor);
     if (error) return refused(error);
     snprintf(name, sizeof name, "%" PRIu64, worker->word);
     if (!trace_open(&worker->trace, worker->words->trace, name, "w")) return STATUS_FILE;
-    trace_event(&worker->trace, "start %" PRIu64 " %" PRIu64, worker->word, worker->words->grain);
+    trace_event(&worker->trace, "start 0 %" PRIu64, worker->word);
     sends(worker);
     return STATUS_OK;
 }
@@ -95,7 +102,11 @@ static void takes(struct worker *worker, const struct said *part) {
     size_t len;
     const uint8_t *packet = wire_join(part, &len);
     if (!packet) return;
+    bool asked = cilknow_asked(worker->actor) == 1;
     int64_t did = cilknow_take(worker->actor, packet, len);
+    worker->progress->events++;
+    worker->ignored += did != 0;
+    if (asked && cilknow_asked(worker->actor) != 1) worker->trips[worker->answers++ % TRIPS] = (uint32_t)(micros() - worker->asked_at);
     if (did >= 0 || (did <= -40 && did != CILKNOW_MEMORY)) trace_packet(&worker->trace, "take", packet, len);
     /* (it answers nobody whom it doesn't know to be there; to say that it is there itself brings the clearinghouse's latest list) */
     if (did == 1 && packet[KIND_AT] == KIND_STEAL && worker->again > AGAIN) worker->again = AGAIN;
@@ -121,7 +132,8 @@ static void resends(struct worker *worker, uint64_t now) {
     worker->sent_at = now, worker->again = worker->again * 2 < LATEST_AGAIN ? worker->again * 2 : LATEST_AGAIN;
     /* (one time in four by the clearinghouse's process: the direct way may be closed) */
     worker->by_house = ++worker->resent % 4 == 0;
-    if (cilknow_resend(worker->actor) == 0) trace_event(&worker->trace, "resend"), sends(worker);
+    if (cilknow_resend(worker->actor) == 0) trace_event(&worker->trace, "resend 0"), sends(worker);
+    worker->progress->events++;
     worker->by_house = false;
 }
 
@@ -131,13 +143,13 @@ static bool works(struct worker *worker, uint64_t now) {
         int64_t did = cilknow_work(worker->actor);
         if (did <= 0) return count > 0;
         worker->pause = worker->ask_at = 0;
-        worker->frames++;
+        worker->progress->events++;
         uint64_t turns = did == 2 ? cilknow_last_turns(worker->actor) : 0;
-        worker->turns += turns ? turns : 1, worker->wholes += did == 2;
+        worker->turns += did == 1, worker->wholes += did == 2, worker->turns_in_them += turns;
         if (worker->trace.file) {
             uint64_t minter = cilknow_last_minter(worker->actor), grant = cilknow_last_grant(worker->actor), frame = cilknow_last_frame(worker->actor);
-            if (did == 2) trace_event(&worker->trace, "whole %" PRIu64 " %" PRIu64 " %" PRIu64 " %" PRIu64, minter, grant, frame, turns);
-            else trace_event(&worker->trace, "exec %" PRIu64 " %" PRIu64 " %" PRIu64, minter, grant, frame);
+            if (did == 2) trace_event(&worker->trace, "whole 0 %" PRIu64 " %" PRIu64 " %" PRIu64 " %" PRIu64, minter, grant, frame, turns);
+            else trace_event(&worker->trace, "exec 0 %" PRIu64 " %" PRIu64 " %" PRIu64, minter, grant, frame);
         }
         sends(worker);
         if (count >= 64 || micros() - now > SLICE) return true;
@@ -158,8 +170,9 @@ static uint64_t other(struct worker *worker) {
 static void asks(struct worker *worker, uint64_t now) {
     uint64_t victim = draw(&worker->random) % 8 ? other(worker) : 0;
     if (cilknow_ask(worker->actor, victim)) return;
-    worker->asks++;
-    trace_event(&worker->trace, "ask %" PRIu64, victim);
+    worker->asks++, worker->progress->events++;
+    worker->asked_at = micros();
+    trace_ask(&worker->trace, victim);
     sends(worker);
     worker->sent_at = now, worker->again = AGAIN;
     worker->pause = !worker->pause ? 20 : worker->pause * 2 < LONGEST_PAUSE ? worker->pause * 2 : LONGEST_PAUSE;
@@ -177,7 +190,8 @@ static void leaves(struct worker *worker) {
     uint64_t heir = other(worker);
     int64_t did = heir ? cilknow_depart(worker->actor, heir) : CILKNOW_NOT_JOINED;
     if (did == 0) {
-        trace_event(&worker->trace, "depart %" PRIu64, heir);
+        trace_event(&worker->trace, "depart 0 %" PRIu64, heir);
+        worker->progress->events++;
         sends(worker);
     } else if (!heir) worker->over = true;
 }
@@ -247,9 +261,9 @@ static int joins(struct worker *worker) {
     return STATUS_OK;
 }
 
-static int computes(struct worker *worker) {
+static int computes(struct worker *worker, size_t shows) {
     int status = starts(worker);
-    worker->heard = micros();
+    uint64_t begun = worker->heard = micros();
     while (!status && !worker->over) {
         struct said said;
         uint64_t now = micros();
@@ -264,31 +278,49 @@ static int computes(struct worker *worker) {
         if (cilknow_state(worker->actor) == CILKNOW_ENDED) {
             if (worker->told_to_go) break;
             /* it was taken for dead, or the clearinghouse began anew: another node starts */
-            trace_event(&worker->trace, "crash");
+            trace_event(&worker->trace, "crash 0");
             trace_close(&worker->trace);
             cilknow_end(worker->actor);
             status = starts(worker);
             continue;
         }
+        progress_shows(worker->progress, shows, begun, now, NULL);
         uint64_t rest = goes_on(worker, now);
         if (rest && !worker->over) wire_wait(&worker->wire, rest);
     }
     return status;
 }
 
-int run_worker(const struct words *words) {
+static int is_longer(const void *a, const void *b) {
+    uint32_t x = *(const uint32_t *)a, y = *(const uint32_t *)b;
+    return (x > y) - (x < y);
+}
+
+static void counted(struct worker *worker) {
+    size_t answers = worker->answers < TRIPS ? (size_t)worker->answers : TRIPS;
+    fprintf(stderr, "worker %" PRIu64 "\nstarts %" PRIu64 "\nturns %" PRIu64 "\n", worker->word, worker->starts, worker->turns);
+    if (worker->wholes) fprintf(stderr, "tasks evaluated whole %" PRIu64 "\nturns in them %" PRIu64 "\n", worker->wholes, worker->turns_in_them);
+    fprintf(stderr, "steals asked %" PRIu64 "\n", worker->asks);
+    if (answers) {
+        qsort(worker->trips, answers, sizeof worker->trips[0], is_longer);
+        fprintf(stderr, "microseconds to an answer, least %" PRIu32 "\nmicroseconds to an answer, median %" PRIu32 "\n", worker->trips[0], worker->trips[answers / 2]);
+    }
+    kinds_tell(&worker->kinds);
+    fprintf(stderr, "packets ignored or refused %" PRIu64 "\n", worker->ignored);
+    wire_tell(&worker->wire);
+}
+
+int run_worker(const struct words *words, struct progress *progress, size_t shows) {
     static struct worker worker;
-    worker.words = words;
+    worker.words = words, worker.progress = progress;
     signal(SIGTERM, end), signal(SIGINT, end);
     if (!wire_open(&worker.wire, words->address, false, &worker.house, words)) return STATUS_FILE;
     int status = joins(&worker);
     if (status) return status < 0 ? STATUS_OK : status;
-    status = computes(&worker);
-    if (words->stats)
-        fprintf(stderr, "worker %" PRIu64 "\nstarts %" PRIu64 "\nframes %" PRIu64 "\nwholes %" PRIu64 "\nturns %" PRIu64 "\nasks %" PRIu64 "\npackets %" PRIu64
-                        "\ndatagrams %" PRIu64 "\nwrong-tags %" PRIu64 "\nlost %" PRIu64 "\n",
-                worker.word, worker.starts, worker.frames, worker.wholes, worker.turns, worker.asks, worker.packets, worker.wire.sent, worker.wire.wrong, worker.wire.lost);
-    trace_event(&worker.trace, "crash");
+    status = computes(&worker, shows);
+    progress_ends();
+    if (words->stats) counted(&worker);
+    trace_event(&worker.trace, "crash 0");
     trace_close(&worker.trace);
     if (worker.actor) cilknow_end(worker.actor);
     return status;

@@ -58,14 +58,14 @@ static void acts(struct seat *seat, uint64_t now, uint64_t *seed) {
     cilknow_actor *node = seat->actor;
     if (now - seat->sent_at >= 400) {
         seat->sent_at = now;
-        if (cilknow_resend(node) == 0) trace_event(&seat->trace, "resend"), sends(seat);
+        if (cilknow_resend(node) == 0) trace_event(&seat->trace, "resend 0"), sends(seat);
         return;
     }
     int64_t did = cilknow_work(node);
     if (did > 0) {
         uint64_t minter = cilknow_last_minter(node), grant = cilknow_last_grant(node), frame = cilknow_last_frame(node);
-        if (did == 2) trace_event(&seat->trace, "whole %" PRIu64 " %" PRIu64 " %" PRIu64 " %" PRIu64, minter, grant, frame, cilknow_last_turns(node));
-        else trace_event(&seat->trace, "exec %" PRIu64 " %" PRIu64 " %" PRIu64, minter, grant, frame);
+        if (did == 2) trace_event(&seat->trace, "whole 0 %" PRIu64 " %" PRIu64 " %" PRIu64 " %" PRIu64, minter, grant, frame, cilknow_last_turns(node));
+        else trace_event(&seat->trace, "exec 0 %" PRIu64 " %" PRIu64 " %" PRIu64, minter, grant, frame);
         seat->pause = 0;
         sends(seat);
         return;
@@ -73,7 +73,7 @@ static void acts(struct seat *seat, uint64_t now, uint64_t *seed) {
     if (cilknow_state(node) != CILKNOW_MEMBER || cilknow_asked(node) == 1 || now < seat->ask_at) return;
     uint64_t members = (uint64_t)cilknow_members(node), victim = members && draw(seed) % 8 ? cilknow_member(node, draw(seed) % members) : 0;
     if (cilknow_ask(node, victim)) return;
-    trace_event(&seat->trace, "ask %" PRIu64, victim);
+    trace_ask(&seat->trace, victim);
     seat->pause = seat->pause < 128 ? seat->pause * 2 + 1 : 256;
     seat->ask_at = now + seat->pause;
     sends(seat);
@@ -95,7 +95,7 @@ int main(int words, char **word) {
             int32_t error = cilknow_house(text, text_len, input, inputs, 1, written, written_len, &house.actor);
             if (error) return fprintf(stderr, "house: E%d\n", -error), 3;
             if (!trace_open(&house.trace, folder, "house", opened++ ? "a" : "w")) return 4;
-            trace_event(&house.trace, "open");
+            trace_event(&house.trace, "house-restart");
             sends(&house);
         }
         kind = cilknow_outcome(house.actor, &value);
@@ -120,12 +120,12 @@ int main(int words, char **word) {
                 trace_close(&house.trace);
                 continue;
             }
-            if (cilknow_tick(house.actor, steps / 40) == 0) trace_event(&house.trace, "tick %" PRIu64, steps / 40);
+            if (cilknow_tick(house.actor, steps / 40) == 0) trace_event(&house.trace, "house-tick %" PRIu64, steps / 40);
             sends(&house);
         } else {
             struct seat *seat = &seats[who];
             if (seat->actor && (cilknow_state(seat->actor) == CILKNOW_ENDED || (crashes && draw(&seed) % 1000 == 0 && crashes-- && ++crashed))) {
-                trace_event(&seat->trace, "crash");
+                trace_event(&seat->trace, "crash 0");
                 trace_close(&seat->trace);
                 cilknow_end(seat->actor), seat->actor = NULL;
             }
@@ -139,7 +139,7 @@ int main(int words, char **word) {
             if (error) return fprintf(stderr, "node: E%d\n", -error), 3;
             snprintf(name, sizeof name, "%" PRIu64, seat->word);
             if (!trace_open(&seat->trace, folder, name, "w")) return 4;
-            trace_event(&seat->trace, "start %" PRIu64 " %" PRIu64, seat->word, grain);
+            trace_event(&seat->trace, "start 0 %" PRIu64, seat->word);
             sends(seat);
         }
     }

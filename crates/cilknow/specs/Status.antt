@@ -21,8 +21,8 @@ status_of_run solo.TurnsSpent = 3
 status_of_run solo.NumbersSpent = 3
 status_of_run solo.Memory = 3
 
--- words that ask for nothing that is there are 2, a file that can't be read or written is 4, and what isn't replayed has its own
--- status
+-- words that ask for nothing that is there are 2, a file that can't be read or written is 4, what isn't replayed has its own
+-- status, and traces that aren't merged are 1
 abbrev pub status_of : CommandFault → ℕ
 status_of command.Usage = 2
 status_of command.File = 4
@@ -31,6 +31,7 @@ status_of command.TurnsSpent = 3
 status_of (command.Nodes error) = 3
 status_of (command.Form fault) = status_of_form fault
 status_of (command.Replay fault) = replays.status_of fault
+status_of (command.Merge fault) = 1
 
 -- a file that isn't read
 abbrev pub of_file : FileFault → CommandFault

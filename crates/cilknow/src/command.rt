@@ -5,19 +5,18 @@ use crate::explain::explain;
 use crate::failure::Failure;
 use crate::fault::SoloFault;
 use crate::form::{FormFault, form_of};
-use crate::misuse::{Misuse, NoCommand, is_command};
-use crate::named::{Named, Place, beside_of};
+use crate::merging::{TracesFault, answer_merge};
 use crate::output::Output;
 use crate::runs::{answer_run, tell_outcome};
 use crate::stored::info_in;
-use crate::words::{DrawWords, JobWords, Subcommand, Words, read_words};
 use checkpoint::Info;
+use command_line::{
+    Asked, DrawWords, JobWords, Misuse, Named, Place, Subcommand, Words, beside_of, read_words,
+};
 use event_words::{write_counts, write_turns};
 use jobs::{FileFault, JobFault, job_of, program_of, text_bytes};
 use node_runner::RunError;
-use replaying::{
-    ReplayFault, ReplayWords, WordsFault, help_of, replay_files, replay_words, write_replayed,
-};
+use replaying::{ReplayFault, ReplayWords, WordsFault, replay_files, replay_words, write_replayed};
 use run_picture::{Recorder, Shows, write_picture};
 use serial_meaning::{Outcome, SerialError, TurnCounts, serial, serial_counted};
 use std::alloc::{AllocError, Global};
@@ -56,6 +55,9 @@ pub enum CommandFault {
     /// A script isn't replayed.
     #[error(transparent)]
     Replay(ReplayFault),
+    /// Traces aren't merged.
+    #[error(transparent)]
+    Merge(TracesFault),
 }
 
 impl CommandFault {
@@ -73,6 +75,7 @@ impl CommandFault {
             CommandFault::File => 4,
             CommandFault::Form(fault) => fault.status(),
             CommandFault::Replay(fault) => fault.status(),
+            CommandFault::Merge(_) => 1,
         }
     }
 }
@@ -173,7 +176,7 @@ fn write_info<O: Write>(out: &mut O, info: Info) -> io::Result<()> {
     out.flush()
 }
 
-fn write_bytes<O: Write>(out: &mut O, bytes: &[u8]) -> io::Result<()> {
+pub fn write_bytes<O: Write>(out: &mut O, bytes: &[u8]) -> io::Result<()> {
     out.write_all(bytes)?;
     out.flush()
 }
@@ -260,7 +263,10 @@ fn drawn<R: Files + AllocGlobal>(
     Ok(text)
 }
 
-fn answer<R: Files<File = File> + AllocGlobal + Threads + Wait + Clock + Sync, O: Write>(
+fn answer<
+    R: Files<File = File> + AllocGlobal + Threads + Wait + Clock + Sync + Clone + Drop,
+    O: Write,
+>(
     rt: &R,
     request: Subcommand<'_>,
     named: &Named<'_>,
@@ -287,18 +293,16 @@ fn answer<R: Files<File = File> + AllocGlobal + Threads + Wait + Clock + Sync, O
         Subcommand::Run(words) => return answer_run(rt, words, named, telling, out, err),
         Subcommand::Replay(words) => return answer_replay(rt, words, telling, out, err),
         Subcommand::Draw(words) => return answer_draw(rt, words, out),
+        Subcommand::Merge(words) => return answer_merge(rt, words, out),
         Subcommand::Store(path) => write_info(out, info_in(rt, path)?),
     };
     written.map_err(unwritten)
 }
 
-/// What is told of a command line that asks for no answer: a fault, or a text to be shown.
-fn shown<O: Write>(error: clap::Error, out: &mut O) -> Result<(), CommandFault> {
-    let help = match help_of(error) {
-        Ok(help) => help,
-        Err(fault) => return Err(CommandFault::from(fault)),
-    };
-    write!(out, "{help}").map_err(|_| CommandFault::File)?;
+/// Shows a text that a command line asks for.
+fn shown<O: Write>(text: &str, out: &mut O) -> Result<(), CommandFault> {
+    out.write_all(text.as_bytes())
+        .map_err(|_| CommandFault::File)?;
     out.flush().map_err(|_| CommandFault::File)
 }
 
@@ -306,30 +310,25 @@ fn shown<O: Write>(error: clap::Error, out: &mut O) -> Result<(), CommandFault> 
 /// line, behind which it is explained where the words ask for that. Where `err` is a terminal it is told there how far a long replay, or a
 /// long run on nodes, has come. The status to end with is 0 where all was done, and else that of the fault.
 pub fn command<
-    R: Files<File = File> + AllocGlobal + Threads + Wait + Clock + Sync,
+    R: Files<File = File> + AllocGlobal + Threads + Wait + Clock + Sync + Clone + Drop,
     S: AsStr,
     O: Write,
 >(rt: &R, words: &[S], out: &mut O, err: &mut Stderr) -> u8 {
     match read_words(rt.alloc(), words) {
-        Ok(Some(line)) => carried_out(rt, line, out, err),
-        Ok(None) => refused(CommandFault::Usage, err),
-        Err(error) => {
-            let usage = usage_text(rt.alloc(), words, &error);
-            match shown(error, out) {
-                Ok(()) => 0,
-                Err(fault) => misused(fault, usage, err),
-            }
-        }
+        Asked::Command(line) => carried_out(rt, line, out, err),
+        Asked::Text(text) => match shown(text.as_str(), out) {
+            Ok(()) => 0,
+            Err(fault) => refused(fault, err),
+        },
+        Asked::Fault(fault, usage) => misused(CommandFault::from(fault), usage, err),
     }
 }
 
 /// Carries out what a command line asks for; the status to end with.
-fn carried_out<R: Files<File = File> + AllocGlobal + Threads + Wait + Clock + Sync, O: Write>(
-    rt: &R,
-    line: Words<'_>,
-    out: &mut O,
-    err: &mut Stderr,
-) -> u8 {
+fn carried_out<
+    R: Files<File = File> + AllocGlobal + Threads + Wait + Clock + Sync + Clone + Drop,
+    O: Write,
+>(rt: &R, line: Words<'_>, out: &mut O, err: &mut Stderr) -> u8 {
     let Words {
         request,
         explain,
@@ -349,7 +348,7 @@ fn carried_out<R: Files<File = File> + AllocGlobal + Threads + Wait + Clock + Sy
     };
     match answered {
         Ok(()) => 0,
-        Err(failure) if explain => explained(rt, failure, &named, err),
+        Err(failure) if explain || failure.is_explained() => explained(rt, failure, &named, err),
         Err(failure) => refused(failure.fault, err),
     }
 }
@@ -394,21 +393,6 @@ fn misused<E: Write>(fault: CommandFault, usage: Option<String>, err: &mut E) ->
         let _ = write!(err, "{text}");
     }
     status
-}
-
-/// What is wrong with words that aren't understood, where one of them asks for that.
-fn usage_text<S: AsStr>(alloc: Global, words: &[S], error: &clap::Error) -> Option<String> {
-    if !words.iter().any(|it| it.as_str() == "--explain") {
-        return None;
-    }
-    let command = match words.get(1) {
-        Some(word) => Some(word.as_str()),
-        None => None,
-    };
-    match command {
-        Some(word) if is_command(word) => String::format(alloc, format_args!("{error}")).ok(),
-        _ => String::format(alloc, format_args!("{}\n", NoCommand(command))).ok(),
-    }
 }
 
 /// Writes a fault to `err` as one line; the status to end with.

@@ -4,7 +4,8 @@ use crate::command::CommandFault;
 use crate::failure::{Failure, Why};
 use crate::fault::SoloFault;
 use crate::form::FormFault;
-use crate::named::{Named, Place};
+use crate::merging::{TraceLine, TracesFault};
+use command_line::{Named, Place};
 use explaining::{explain_files, explain_number, explain_replay, explain_text};
 use jobs::JobFault;
 use node_runner::RunError;
@@ -25,6 +26,16 @@ pub fn explain<R: Files<File = File> + AllocGlobal, W: Write>(
         Why::File(place, error) => explain_place(out, *place, error, named),
         Why::Misuse(misuse) => writeln!(out, "{misuse}"),
         Why::OtherJob | Why::NoJob => explain_store(out, &failure.why, named),
+        Why::Trace(line) => explain_trace(out, line),
+    }
+}
+
+/// Explains whose trace is refused, in which line, and why.
+fn explain_trace<W: Write>(out: &mut W, refused: &TraceLine) -> io::Result<()> {
+    write!(out, "{} line {}: ", refused.path, refused.line)?;
+    match refused.why {
+        Some(stuck) => writeln!(out, "{stuck}"),
+        None => writeln!(out, "it is no line of a trace"),
     }
 }
 
@@ -77,6 +88,10 @@ fn explain_fault<R: Files<File = File> + AllocGlobal, W: Write>(
         CommandFault::Nodes(RunError::TurnsSpent) => explain_number(out, 95),
         CommandFault::Nodes(RunError::Memory) => explain_number(out, 96),
         CommandFault::Replay(fault) => explain_replay(rt, out, *fault, text, script),
+        CommandFault::Merge(TracesFault::None) => {
+            writeln!(out, "{} has no file NAME.trace", named.folder.unwrap_or(""))
+        }
+        CommandFault::Merge(TracesFault::Line(line)) => writeln!(out, "line {line}"),
         CommandFault::File => explain_files(rt, out, &[text]),
         CommandFault::Usage => {
             writeln!(

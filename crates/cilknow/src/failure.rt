@@ -2,22 +2,24 @@
 
 use crate::command::CommandFault;
 use crate::fault::SoloFault;
-use crate::misuse::Misuse;
-use crate::named::Place;
+use crate::merging::{TraceLine, TracesFault};
+use command_line::{Misuse, Place};
 use jobs::{FileFault, JobFault};
 use node_runner::RunError;
+use replaying::ReplayFault;
 use std::alloc::AllocError;
 use std::io;
+use traces::Stuck;
 
 /// A fault, and why it came.
-#[derive(Clone, Copy)]
+#[derive(Drop)]
 pub struct Failure {
     pub fault: CommandFault,
     pub why: Why,
 }
 
 /// What is known of a fault beyond its line.
-#[derive(Clone, Copy)]
+#[derive(Drop)]
 pub enum Why {
     /// No more.
     Plain,
@@ -29,6 +31,8 @@ pub enum Why {
     OtherJob,
     /// The file beside a store names none.
     NoJob,
+    /// A line of a trace has no place.
+    Trace(TraceLine),
 }
 
 impl Failure {
@@ -53,6 +57,27 @@ impl Failure {
         Failure {
             fault: CommandFault::Nodes(RunError::Disk(number)),
             why,
+        }
+    }
+
+    /// A folder has no trace.
+    pub fn no_trace() -> Failure {
+        Failure::from(CommandFault::Merge(TracesFault::None))
+    }
+
+    /// A line of the trace in this file has no place, for this reason; or is none of a trace.
+    pub fn line(path: String, line: u64, why: Option<Stuck>) -> Failure {
+        Failure {
+            fault: CommandFault::Merge(TracesFault::Line(line)),
+            why: Why::Trace(TraceLine { path, line, why }),
+        }
+    }
+
+    /// Whether it is always explained: whose trace is refused is told nowhere else.
+    pub fn is_explained(&self) -> bool {
+        match self.fault {
+            CommandFault::Merge(_) | CommandFault::Replay(ReplayFault::Packet(_)) => true,
+            _ => false,
         }
     }
 

@@ -3,16 +3,15 @@
 use crate::command::{CommandFault, Telling, write_outcome};
 use crate::failure::Failure;
 use crate::logged::log_text;
-use crate::named::{Named, Place};
 use crate::nodes::{Ended, RunDisk, ran_on_nodes};
 use crate::output::Output;
 use crate::solo::solo;
 use crate::stored::found_in;
-use crate::words::{JobWords, RunWords};
 use chronicle::Trace;
+use command_line::{JobWords, Named, Place, RunWords};
 use event_words::{write_counts, write_turns};
 use jobs::{job_of, program_of, text_bytes};
-use node_runner::RunConfig;
+use node_runner::{Faults, RunConfig};
 use serial_meaning::{Job, Outcome, TurnCounts};
 use std::alloc::Global;
 use std::fs::File;
@@ -37,7 +36,7 @@ pub fn answer_run<R: Files<File = File> + AllocGlobal + Threads + Wait + Clock +
     out: &mut O,
     err: &mut Stderr,
 ) -> Result<(), Failure> {
-    let Some(config) = words.config() else {
+    let Some(config) = config_of(&words) else {
         return Err(Failure::from(CommandFault::Usage));
     };
     if !words.is_alone() {
@@ -45,6 +44,20 @@ pub fn answer_run<R: Files<File = File> + AllocGlobal + Threads + Wait + Clock +
     }
     let outcome = ran_alone(rt, words.job, telling, err)?;
     tell_outcome(outcome, telling, out, err)
+}
+
+/// How the nodes run; none where the words disagree.
+fn config_of(words: &RunWords<'_>) -> Option<RunConfig> {
+    let faults = Faults {
+        word: words.faults.word,
+        lose: words.faults.lose,
+        repeat: words.faults.repeat,
+        after: words.faults.after,
+        crashes: words.faults.crashes,
+        departures: words.faults.departures,
+    };
+    let config = RunConfig::new(words.nodes, words.bodies, faults, words.job.turns)?;
+    Some(config.with_grain(words.grain()))
 }
 
 /// Tells an outcome; and where that is asked for, what makes one too deep.

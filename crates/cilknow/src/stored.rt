@@ -2,9 +2,9 @@
 
 use crate::command::CommandFault;
 use crate::failure::Failure;
-use crate::named::{Place, beside_of, folder_of};
 use crate::whose::{is_ours, is_said, write_beside};
 use checkpoint::{Info, StoreError, inspect};
+use command_line::{Place, beside_of, folder_of};
 use disk::{Disk, FileDisk};
 use job_line::line_of;
 use node_runner::RunError;

@@ -1,7 +1,7 @@
 //! The file beside a store, which says whose it is: by a digest of a program and an input.
 
 use crate::failure::{Failure, Why};
-use crate::named::Place;
+use command_line::Place;
 use job_line::{DIGITS, HEAD, LENGTH};
 use std::fs::{self, File};
 use std::io::{self, Read, Write};

@@ -21,7 +21,7 @@ use Rattle.subcomputation.specs.Fitting.{awaited_in, empty_from, is_linked, numb
 use Rattle.departure.specs.Links.{times}
 use Rattle.departure.proofs.LinkedCounts.{Tells, both, counts_from, same_length}
 
-tells_number : Tells nat_eq
+pub tells_number : Tells nat_eq
 tells_number = record { exact = eqb-true; itself = λ n. eq-eqb n n refl }
 
 pub tells_return : Tells same_return
@@ -58,7 +58,7 @@ sum_alike g h alike (x ∷ xs) =
     omega (arith, sum_by-cons g x xs, sum_by-cons h x xs)
 
 -- how many frames and records have a number
-times_number : (n : ℕ) (c : Content) → times nat_eq n (numbers_of c) ≡ sum_by (is_numbered n) c.frames + sum_by (is_stolen n) c.records
+pub times_number : (n : ℕ) (c : Content) → times nat_eq n (numbers_of c) ≡ sum_by (is_numbered n) c.frames + sum_by (is_stolen n) c.records
 times_number n c =
     let test = λ (m : ℕ). one_if (nat_eq n m) in
     let frames = sum_mapped test (λ (f : Frame). f.number) c.frames ∙ sum_alike (λ (f : Frame). one_if (nat_eq n f.number)) (is_numbered n) (λ f. ap one_if (swap n f.number)) c.frames in
@@ -66,7 +66,7 @@ times_number n c =
     sum_by-append test (map (λ (f : Frame). f.number) c.frames) (map (λ (r : Record). r.frame) c.records) ∙ ap (λ (k : ℕ). k + sum_by test (map (λ (r : Record). r.frame) c.records)) frames ∙ ap (λ (k : ℕ). sum_by (is_numbered n) c.frames + k) records
 
 -- how many of them owe a value
-times_owed : (r : Return) (c : Content) → times same_return r (owed_by c) ≡ sum_by (owes r) c.frames + sum_by (record_owes r) c.records
+pub times_owed : (r : Return) (c : Content) → times same_return r (owed_by c) ≡ sum_by (owes r) c.frames + sum_by (record_owes r) c.records
 times_owed r c =
     let test = λ (s : Return). one_if (same_return r s) in
     sum_by-append test (map (λ (f : Frame). f.returns) c.frames) (map (λ (x : Record). x.returns) c.records)
@@ -127,7 +127,7 @@ whole_once : (r : Return) → one_if (same_return r Whole) ≡ is_whole r
 whole_once Whole = refl
 whole_once (Local n j) = refl
 
-times_awaited : (r : Return) (frames : List Frame) → times same_return r (awaited_in frames) ≡ is_whole r + sum_by (awaits_at r) frames
+pub times_awaited : (r : Return) (frames : List Frame) → times same_return r (awaited_in frames) ≡ is_whole r + sum_by (awaits_at r) frames
 times_awaited r frames =
     let here = whole_once r in
     let rest = times_in_frames r frames in

@@ -4,6 +4,8 @@ use replaying::ReplayFault;
 use std::fs;
 use std::io::{self, Read, Write};
 use std::rt::Files;
+use std::str::from_utf8;
+use traces::tells_packet;
 
 /// How many bytes of a script are looked at for a line.
 const MOST: u64 = 1 << 24;
@@ -35,8 +37,49 @@ pub fn explain_replay<R: Files + AllocGlobal, W: Write>(
             Ok(bytes) => explain_line(out, script, bytes.as_slice(), line.number()),
             Err(_) => Ok(()),
         },
+        ReplayFault::Packet(number) => match bytes_within(rt, script, u64::MAX) {
+            Ok(bytes) => explain_packet(out, script, bytes.as_slice(), number),
+            Err(_) => Ok(()),
+        },
         ReplayFault::Memory => explain_number(out, 9),
         ReplayFault::File => explain_files(rt, out, &[file, script]),
+    }
+}
+
+/// Explains that a packet isn't the one that a script tells: whose trace tells it, and in which line.
+fn explain_packet<W: Write>(
+    out: &mut W,
+    script: &str,
+    bytes: &[u8],
+    number: u64,
+) -> io::Result<()> {
+    let mut before: u64 = 0;
+    for line in bytes.split(|b| *b == b'\n') {
+        if !tells_packet(line) {
+            continue;
+        }
+        if before == number {
+            let (trace, at) = (word_at(line, TRACE_WORD), word_at(line, LINE_WORD));
+            return writeln!(
+                out,
+                "{script}: {trace} tells in line {at} that another packet is sent here"
+            );
+        }
+        before = before.saturating_add(1);
+    }
+    writeln!(out, "{script}: no trace tells that this packet is sent")
+}
+
+/// Where the trace and its line stand in the comment of a packet.
+const TRACE_WORD: usize = 3;
+
+const LINE_WORD: usize = 4;
+
+/// A word of a line; a hyphen where it isn't there.
+fn word_at(line: &[u8], index: usize) -> &str {
+    match line.split(|b| *b == b' ').nth(index) {
+        Some(word) => from_utf8(word).unwrap_or("-"),
+        None => "-",
     }
 }
 

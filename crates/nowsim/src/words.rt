@@ -43,7 +43,7 @@ pub struct Words<'a> {
 pub fn read_words<'a, S: AsStr>(alloc: Global, words: &'a [S]) -> Result<Option<Words<'a>>, Error> {
     let matches = all_words(alloc)?.try_get_matches_from(words)?;
     let explain = matches.get_flag("explain");
-    match replay_words_of(alloc, &matches, matches.get_flag("packets"))? {
+    match replay_words_of(alloc, &matches, matches.get_flag("packets"), false)? {
         Some(replay) => Ok(Some(Words { replay, explain })),
         None => Ok(None),
     }

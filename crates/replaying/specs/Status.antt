@@ -9,5 +9,6 @@ use Rattle.replaying.specs.declared.fault.ReplayFault.TheVariants as faults
 abbrev pub status_of : ReplayFault → ℕ
 status_of (faults.Job e) = jobs.status_of e
 status_of (faults.Line l) = 1
+status_of (faults.Packet number) = 1
 status_of faults.Memory = 3
 status_of faults.File = 4

@@ -20,6 +20,9 @@ pub enum ReplayFault {
     /// A line of the script isn't an event's.
     #[error(transparent)]
     Line(Line),
+    /// The packet of this number, from 0, isn't one of the name that the script tells; or one of the two is missing.
+    #[error("packet {0}")]
+    Packet(u64),
     /// E9: there is no memory.
     #[error("E9")]
     Memory,
@@ -33,7 +36,7 @@ impl ReplayFault {
     {
         match self {
             ReplayFault::Job(fault) => fault.status(),
-            ReplayFault::Line(_) => 1,
+            ReplayFault::Line(_) | ReplayFault::Packet(_) => 1,
             ReplayFault::Memory => 3,
             ReplayFault::File => 4,
         }

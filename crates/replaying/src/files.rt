@@ -1,7 +1,8 @@
-ghost use Rattle.std.specs.Prelude.{IfErr, IfOk};
-ghost use Rattle.replaying.specs.Replays.{IsFilesRefusal, IsFilesReplay};
+ghost use Rattle.std.specs.Prelude.{◌≡◌, IfErr, IfOk, true};
+ghost use Rattle.replaying.specs.Replays.{IsFilesRefusal, IsFilesReplay, IsNamedFiles};
 
 use crate::fault::ReplayFault;
+use crate::naming::replay_asked;
 use crate::noting::replay_files_shown;
 use crate::replayed::{Replayed, replay_script};
 use crate::words::ReplayWords;
@@ -35,9 +36,10 @@ pub fn replay_files<R: Files + AllocGlobal, W: Watch>(
 }
 
 /// Replays the files that words name. Where the words ask for that, each event is told on `out`, a line each (`event_words`); else how far the
-/// replay has come is told on `err`, if that is a terminal and the replay takes long. What comes of the replay is the same. The faults are
-/// those of `replay_files`, and behind them a line that can't be written on `out`, or for which there is no memory (E9); the lines before it
-/// stay. Nothing is written on `out` where the script isn't read to its end.
+/// replay has come is told on `err`, if that is a terminal and the replay takes long. What comes of the replay is the same. Where they ask for
+/// that, the packets that are sent have the names that the script tells, all of them and in their order. The faults are those of `replay_files`,
+/// behind them the first packet of another name, and then a line that can't be written on `out`, or for which there is no memory (E9); the
+/// lines before it stay. Nothing is written on `out` where the script isn't read to its end.
 pub fn replay_words<R: Files + AllocGlobal + Threads + Clock + Sync, O: Write>(
     rt: &R,
     words: ReplayWords<'_>,
@@ -45,6 +47,7 @@ pub fn replay_words<R: Files + AllocGlobal + Threads + Clock + Sync, O: Write>(
     err: &mut Stderr,
 ) -> Result<Replayed, ReplayFault>
     ensures run { IfOk result (IsFilesReplay words.entry.input.items words.entry.job) }
+    ensures named { words.entry.names ≡ true → IfOk result (IsNamedFiles words.entry.input.items words.entry.job) }
     ensures refused { IfErr result (IsFilesRefusal words.entry.input.items) }
 {
     let ReplayWords {
@@ -53,31 +56,34 @@ pub fn replay_words<R: Files + AllocGlobal + Threads + Clock + Sync, O: Write>(
         job,
         input,
         packets,
+        names,
     } = words;
     if packets {
-        replay_files_told(rt, file, script, input, job, out)
+        replay_files_told(rt, file, script, names, input, job, out)
     } else {
-        replay_files_shown(rt, file, script, input, job, err)
+        replay_files_shown(rt, file, script, names, input, job, err)
     }
 }
 
-/// Replays the script of a file on a job, as `replay_files` does, and tells each event.
+/// Replays the script of a file on a job, as `replay_files` does, and tells each event; names are compared where that is asked for.
 fn replay_files_told<R: Files + AllocGlobal, O: Write>(
     rt: &R,
     file: &str,
     script: &str,
+    names: bool,
     input: Vec<i64>,
     job: u64,
     out: &mut O,
 ) -> Result<Replayed, ReplayFault>
     ensures run { IfOk result (IsFilesReplay input.items job) }
+    ensures named { names ≡ true → IfOk result (IsNamedFiles input.items job) }
     ensures refused { IfErr result (IsFilesRefusal input.items) }
 {
     let text = text_bytes(rt, file)?;
     let job = job_of(rt.alloc(), text.as_slice(), input, job)?;
     let script = bytes_within(rt, script, u64::MAX)?;
     let mut narrator = Narrator::new(rt.alloc(), out, script.as_slice());
-    let replayed = replay_script(rt.alloc(), &job, script.as_slice(), &mut narrator);
+    let replayed = replay_asked(rt.alloc(), &job, script.as_slice(), names, &mut narrator);
     let told = narrator.finish();
     let replayed = replayed?;
     told?;

@@ -1,9 +1,10 @@
 //! Replays whose progress is told on a terminal.
-ghost use Rattle.std.specs.Prelude.{IfErr, IfOk};
-ghost use Rattle.replaying.specs.Replays.{IsFilesRefusal, IsFilesReplay, IsReplayOf, IsScriptRefusal};
+ghost use Rattle.std.specs.Prelude.{◌≡◌, IfErr, IfOk, true};
+ghost use Rattle.replaying.specs.Replays.{IsFilesRefusal, IsFilesReplay, IsNamedFiles, IsNamedRefusal, IsNamedReplay, IsReplayOf};
 
 use crate::fault::ReplayFault;
-use crate::replayed::{Replayed, replay_script};
+use crate::naming::replay_asked;
+use crate::replayed::Replayed;
 use event_script::Event;
 use jobs::{bytes_within, job_of, text_bytes};
 use progress::{RunProgress, tell};
@@ -29,38 +30,42 @@ impl<'p> Watch for Noting<'p> {
     }
 }
 
-/// Replays a script on a job, and notes how far that has come, to its end.
+/// Replays a script on a job, and notes how far that has come, to its end; names are compared where that is asked for.
 fn replay_noted(
     alloc: Global,
     job: &Job,
     script: &[u8],
+    names: bool,
     progress: &RunProgress,
 ) -> Result<Replayed, ReplayFault>
     ensures run { IfOk result (IsReplayOf job.now script.now) }
-    ensures refused { IfErr result (IsScriptRefusal script.now) }
+    ensures named { names ≡ true → IfOk result (IsNamedReplay job.now script.now) }
+    ensures refused { IfErr result (IsNamedRefusal script.now) }
 {
     let mut noting = Noting {
         progress,
         events: 0,
     };
-    let replayed = replay_script(alloc, job, script, &mut noting);
+    let replayed = replay_asked(alloc, job, script, names, &mut noting);
     progress.ends();
     replayed
 }
 
-/// Replays a script on a job. Where standard error is a terminal and the replay takes long, how far it has come is told there.
+/// Replays a script on a job; names are compared where that is asked for. Where standard error is a terminal and the replay takes long, how far it has come is told there.
 fn replay_shown<R: Threads + Clock + Sync>(
     rt: &R,
     alloc: Global,
     job: &Job,
     script: &[u8],
+    names: bool,
     err: &mut Stderr,
 ) -> Result<Replayed, ReplayFault>
     ensures run { IfOk result (IsReplayOf job.now script.now) }
-    ensures refused { IfErr result (IsScriptRefusal script.now) }
+    ensures named { names ≡ true → IfOk result (IsNamedReplay job.now script.now) }
+    ensures refused { IfErr result (IsNamedRefusal script.now) }
 {
     if !err.is_terminal() {
-        return replay_script(alloc, job, script, &mut Unwatched);
+        return replay_asked(alloc, job, script, names, &mut Unwatched);
     }
     let progress = RunProgress::new();
     let shared = &progress;
@@ -70,27 +75,30 @@ fn replay_shown<R: Threads + Clock + Sync>(
         || tell(rt, err, shared),
         || -> Result<Replayed, ReplayFault>
             ensures run { IfOk result (IsReplayOf job.entry.now script.entry.now) }
-            ensures refused { IfErr result (IsScriptRefusal script.entry.now) }
-        { replay_noted(alloc, job, script, shared) },
+            ensures named { names ≡ true → IfOk result (IsNamedReplay job.entry.now script.entry.now) }
+            ensures refused { IfErr result (IsNamedRefusal script.entry.now) }
+        { replay_noted(alloc, job, script, names, shared) },
     );
     replayed
 }
 
-/// Replays the script of a file on a job, as `replay_files` does. Where standard error is a terminal and the replay takes long, how far it
-/// has come is told there.
+/// Replays the script of a file on a job, as `replay_files` does; names are compared where that is asked for. Where standard error is a terminal
+/// and the replay takes long, how far it has come is told there.
 pub(crate) fn replay_files_shown<R: Files + AllocGlobal + Threads + Clock + Sync>(
     rt: &R,
     file: &str,
     script: &str,
+    names: bool,
     input: Vec<i64>,
     job: u64,
     err: &mut Stderr,
 ) -> Result<Replayed, ReplayFault>
     ensures run { IfOk result (IsFilesReplay input.items job) }
+    ensures named { names ≡ true → IfOk result (IsNamedFiles input.items job) }
     ensures refused { IfErr result (IsFilesRefusal input.items) }
 {
     let text = text_bytes(rt, file)?;
     let job = job_of(rt.alloc(), text.as_slice(), input, job)?;
     let script = bytes_within(rt, script, u64::MAX)?;
-    replay_shown(rt, rt.alloc(), &job, script.as_slice(), err)
+    replay_shown(rt, rt.alloc(), &job, script.as_slice(), names, err)
 }

@@ -7,8 +7,8 @@ use std::rt::Env;
 use std::{env, io};
 use thiserror::Error as ErrorText;
 
-/// What the words of a replay ask for: the files of the program's text and of the script, the job's number and its input, and whether
-/// each event is to be told.
+/// What the words of a replay ask for: the files of the program's text and of the script, the job's number and its input, whether each event is
+/// to be told, and whether the packets have to have the names that the script tells.
 #[derive(Drop)]
 pub struct ReplayWords<'a> {
     pub file: &'a str,
@@ -16,6 +16,7 @@ pub struct ReplayWords<'a> {
     pub job: u64,
     pub input: Vec<i64>,
     pub packets: bool,
+    pub names: bool,
 }
 
 /// Why words ask for no answer.
@@ -81,6 +82,14 @@ pub fn packets_word<'a>(alloc: Global) -> Arg<'a> {
         .help("Tells each event, a line each: what it runs and sends, and which slots it fills")
 }
 
+/// The option by which the packets have to have the names that a script tells.
+pub fn names_word<'a>(alloc: Global) -> Arg<'a> {
+    Arg::new(alloc, "names")
+        .long("names")
+        .action(ArgAction::SetTrue)
+        .help("Compares the packets with the names that the script of `cilknow merge` tells")
+}
+
 /// The words INPUT, the numbers of a job's input.
 pub fn input_word<'a>(alloc: Global) -> Arg<'a> {
     Arg::new(alloc, "INPUT")
@@ -123,11 +132,13 @@ pub fn with_replay_words<'a>(
         .arg(input_word(alloc))
 }
 
-/// The words of a replay, in which each event may be to be told; none where they don't have what `with_replay_words` asks for.
+/// The words of a replay, in which each event may be to be told, and names may have to be compared; none where they don't have what
+/// `with_replay_words` asks for.
 pub fn replay_words_of<'a>(
     alloc: Global,
     matches: &ArgMatches<'a>,
     packets: bool,
+    names: bool,
 ) -> Result<Option<ReplayWords<'a>>, AllocError> {
     let Some(input) = input_of(alloc, matches)? else {
         return Ok(None);
@@ -145,5 +156,6 @@ pub fn replay_words_of<'a>(
         job,
         input,
         packets,
+        names,
     }))
 }

@@ -17,8 +17,8 @@ use Rattle.run_tables.proofs.SomeWork.{work_somewhere}
 use Rattle.content_moves.specs.Shown.{outcome_of}
 use Rattle.content_moves.proofs.Apart.{own_grant}
 use Rattle.content_moves.proofs.Records.{granted_there}
-use Rattle.node_moves.specs.Shows.{IsShown}
-use Rattle.house_moves.specs.Shows.{OpenShown}
+use Rattle.actor_laws.specs.node_moves.Shows.{IsShown}
+use Rattle.actor_laws.specs.house_moves.Shows.{OpenShown}
 use Rattle.world_steps.specs.Lost.{HasWork, IsLive, IsOver, SomeWork, Wanted, of_root, of_record}
 use Rattle.world_steps.specs.World.{Holder, WorldOf}
 use Rattle.safe_runs.specs.Shown.{Shown}

@@ -15,7 +15,7 @@ use Rattle.run_tables.proofs.NothingLost.{record_comes, root_comes}
 use Rattle.run_tables.proofs.RequestsReached.{requests_reached}
 use Rattle.run_tables.proofs.RostersReached.{rosters_reached}
 use Rattle.content_moves.proofs.Records.{record_shown}
-use Rattle.house_moves.specs.Shows.{OpenShown}
+use Rattle.actor_laws.specs.house_moves.Shows.{OpenShown}
 use Rattle.world_steps.specs.Lost.{Wanted, of_root, of_record, Carried, itself, its_host, Found, live, awaited, frozen, cut_off}
 use Rattle.world_steps.specs.World.{Holder, WorldOf}
 use Rattle.safe_runs.specs.Shown.{Shown}

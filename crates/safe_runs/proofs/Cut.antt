@@ -15,8 +15,8 @@ use Rattle.run_tables.specs.Recovery.{CutOff, dead, gone, behind}
 use Rattle.run_tables.specs.Rosters.{Rosters}
 use Rattle.run_tables.proofs.Lists.{none_some, some_same}
 use Rattle.actor_moves.specs.Listed.{status_of}
-use Rattle.node_moves.specs.Shows.{mode_of, KeepsRoster, NodeShown, ShowsRoster}
-use Rattle.house_moves.proofs.Publishing.{dead_of}
+use Rattle.actor_laws.specs.node_moves.Shows.{mode_of, KeepsRoster, NodeShown, ShowsRoster}
+use Rattle.actor_laws.proofs.house_moves.Publishing.{dead_of}
 use Rattle.world_steps.specs.Lost.{IsBehind, IsCutAt, IsGone, NotLeft}
 use Rattle.world_steps.specs.World.{WorldOf}
 use Rattle.safe_runs.specs.Shown.{Shown}

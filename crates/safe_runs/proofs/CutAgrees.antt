@@ -12,12 +12,12 @@ use Rattle.departure.specs.Offers.{offered}
 use Rattle.node_state.specs.Node.{NodeOf}
 use Rattle.run_tables.specs.Tables.{◌∈◌}
 use Rattle.run_tables.proofs.Among.{got, placed}
-use Rattle.actor_agreement.specs.Values.{IsRight}
+use Rattle.actor_laws.specs.actor_agreement.Values.{IsRight}
 use Rattle.world_steps.specs.Agrees.{Agrees, BodyAgrees, PieceAgrees, WasGranted}
 use Rattle.world_steps.specs.World.{Holder, WorldOf, node_in}
-use Rattle.whole_offers.specs.Kept.{NodeKept}
-use Rattle.whole_offers.specs.Whole.{IsPieceOf, Went, came_in}
-use Rattle.whole_offers.proofs.Cutting.{arrives, goes}
+use Rattle.actor_laws.specs.whole_offers.Kept.{NodeKept}
+use Rattle.actor_laws.specs.whole_offers.Whole.{IsPieceOf, Went, came_in}
+use Rattle.actor_laws.proofs.whole_offers.Cutting.{arrives, goes}
 use Rattle.safe_runs.specs.Right.{WorldIsRight}
 use Rattle.safe_runs.specs.Shown.{Tied}
 use Rattle.safe_runs.specs.Sound.{cut_world}

@@ -11,8 +11,8 @@ use Rattle.clearinghouse.specs.House.{HouseOf}
 use Rattle.run_tables.proofs.Among.{got, placed}
 use Rattle.world_steps.specs.Lost.{Answers, Carried, Found, IsAwaited, IsFound, IsFrozen, IsLive, IsTransfer, NothingLost, NothingLostAt, SomeWork, Wanted, WasSent, awaited, cut_off, frozen, its_host, itself, live, of_record, of_root}
 use Rattle.world_steps.specs.World.{Holder, WorldOf, open_house}
-use Rattle.whole_offers.specs.Whole.{Went}
-use Rattle.whole_offers.proofs.Cutting.{goes}
+use Rattle.actor_laws.specs.whole_offers.Whole.{Went}
+use Rattle.actor_laws.proofs.whole_offers.Cutting.{goes}
 use Rattle.safe_runs.specs.Sound.{cut_world}
 
 module _ (v : WorldOf) where

@@ -16,8 +16,8 @@ use Rattle.world_steps.specs.Nodes.{starts}
 use Rattle.world_steps.specs.Runs.{CanBegin}
 use Rattle.world_steps.specs.Steps.{HouseEnds, HouseHalts, ThenCut, ThenStopped, house_crash, settled_by}
 use Rattle.world_steps.specs.World.{Down, HouseAt, IsUp, WorldOf, first_over, is_used, node_in, with_used}
-use Rattle.house_moves.specs.Steps.{tables_meaning}
-use Rattle.house_moves.specs.Shows.{stored_of}
+use Rattle.actor_laws.specs.house_moves.Steps.{tables_meaning}
+use Rattle.actor_laws.specs.house_moves.Shows.{stored_of}
 use Rattle.clearinghouse.specs.House.{Stopped}
 use Rattle.clearinghouse.specs.declared.parts.Stop.TheVariants as by
 use Rattle.disk.specs.Device.{Device}

@@ -8,7 +8,7 @@ use Rattle.run_tables.specs.Fills.{Once, SameSlot}
 use Rattle.run_tables.proofs.FillsKept.{fills_reached}
 use Rattle.run_tables.proofs.ValuesKept.{run_reached}
 use Rattle.run_tables.proofs.Among.{got}
-use Rattle.node_moves.specs.Steps.{shown_fill, shown_fills}
+use Rattle.actor_laws.specs.node_moves.Steps.{shown_fill, shown_fills}
 use Rattle.world_steps.specs.Safe.{FilledOnce, SlotName, slot_of}
 use Rattle.world_steps.specs.World.{WorldOf}
 use Rattle.safe_runs.specs.Shown.{Tied}

@@ -13,9 +13,9 @@ use Rattle.run_tables.specs.Facts.{Live}
 use Rattle.run_tables.proofs.NamesReached.{names_reached}
 use Rattle.run_tables.proofs.OneHead.{one_live}
 use Rattle.run_tables.proofs.ValuesKept.{run_reached}
-use Rattle.node_moves.specs.Shows.{IsShown, NodeShown}
-use Rattle.node_moves.proofs.Held.{HeldAt, held_at}
-use Rattle.node_moves.proofs.Members.{member_shown}
+use Rattle.actor_laws.specs.node_moves.Shows.{IsShown, NodeShown}
+use Rattle.actor_laws.proofs.node_moves.Held.{HeldAt, held_at}
+use Rattle.actor_laws.proofs.node_moves.Members.{member_shown}
 use Rattle.world_steps.specs.World.{Holder, WorldOf, live_at}
 use Rattle.safe_runs.specs.Shown.{Tied}
 

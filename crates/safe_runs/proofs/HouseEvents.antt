@@ -6,8 +6,8 @@ use Rattle.checkpoint.specs.Commit.{opening}
 use Rattle.codec.specs.declared.body.Body.{Body}
 use Rattle.codec.specs.declared.body.Body.TheVariants as body
 use Rattle.serial_meaning.specs.Job.{IsJob, JobOf}
-use Rattle.actor_agreement.proofs.House.{packet_right, passes_right}
-use Rattle.actor_agreement.specs.Values.{BodyIsRight, HouseAnswerIsRight, HouseIsRight, SaveIsRight}
+use Rattle.actor_laws.proofs.actor_agreement.House.{packet_right, passes_right}
+use Rattle.actor_laws.specs.actor_agreement.Values.{BodyIsRight, HouseAnswerIsRight, HouseIsRight, SaveIsRight}
 use Rattle.clearinghouse.specs.Calls.{passes}
 use Rattle.clearinghouse.specs.Cases.{on_packet}
 use Rattle.clearinghouse.specs.House.{HouseOf, Open, Stopped}
@@ -20,9 +20,9 @@ use Rattle.event_script.specs.declared.event.HouseEvent.TheVariants.{Deliver, Ti
 use Rattle.run_tables.specs.Tables.{◌∈◌}
 use Rattle.run_tables.specs.View.{View}
 use Rattle.run_tables.proofs.Among.{got}
-use Rattle.house_moves.specs.Steps.{HouseAnswerShown, HouseStepShown}
-use Rattle.house_moves.proofs.Moments.{passes_shown}
-use Rattle.house_moves.proofs.Table.{packet_shown}
+use Rattle.actor_laws.specs.house_moves.Steps.{HouseAnswerShown, HouseStepShown}
+use Rattle.actor_laws.proofs.house_moves.Moments.{passes_shown}
+use Rattle.actor_laws.proofs.house_moves.Table.{packet_shown}
 use Rattle.world_steps.specs.Answers.{StepResult, house_same}
 use Rattle.world_steps.specs.Houses.{Ends, Halts, IsAttempt, RestartHalts, Restarts, calls_of, halted, made}
 use Rattle.world_steps.specs.Steps.{HouseEnds, HouseHalts}

@@ -27,8 +27,8 @@ use Rattle.clearinghouse.specs.Moves as moves
 use Rattle.clearinghouse.specs.Steps as house
 use Rattle.clearinghouse.specs.declared.parts.RootGrant.{RootGrant}
 use Rattle.run_tables.proofs.Among.{found_among, of_each}
-use Rattle.whole_offers.specs.Plain.{ArePlain, IsPlain}
-use Rattle.whole_offers.proofs.Rows.{both, none, one}
+use Rattle.actor_laws.specs.whole_offers.Plain.{ArePlain, IsPlain}
+use Rattle.actor_laws.proofs.whole_offers.Rows.{both, none, one}
 
 abbrev pub AnswerIsPlain : house.HouseAnswer → Type 0
 AnswerIsPlain house.Ignored = Unit {0}

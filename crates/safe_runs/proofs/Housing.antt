@@ -20,11 +20,11 @@ use Rattle.run_tables.specs.Runs.{Run, Leads}
 use Rattle.run_tables.proofs.HomesKept.{homes_reached}
 use Rattle.run_tables.proofs.Lists.{same_or}
 use Rattle.run_tables.proofs.ValuesKept.{run_reached}
-use Rattle.node_moves.proofs.Beside.{node_beside}
-use Rattle.node_moves.proofs.Told.{all_shown, both_shown, sent_early, sent_late}
-use Rattle.node_moves.specs.Steps.{AllShown, IsSent}
-use Rattle.house_moves.specs.Shows.{OpenShown}
-use Rattle.house_moves.specs.Steps.{HouseStepShown, tables_meaning}
+use Rattle.actor_laws.proofs.node_moves.Beside.{node_beside}
+use Rattle.actor_laws.proofs.node_moves.Told.{all_shown, both_shown, sent_early, sent_late}
+use Rattle.actor_laws.specs.node_moves.Steps.{AllShown, IsSent}
+use Rattle.actor_laws.specs.house_moves.Shows.{OpenShown}
+use Rattle.actor_laws.specs.house_moves.Steps.{HouseStepShown, tables_meaning}
 use Rattle.world_steps.specs.Houses.{MakesCalls, made}
 use Rattle.world_steps.specs.World.{Down, HouseAt, IsUp, WorldOf, node_in}
 use Rattle.safe_runs.specs.Shown.{UpAt, OpenHouse, DiskShown, Shown, TiedSince}

@@ -8,6 +8,7 @@ pub mod Holding
 pub mod Recorded
 pub mod Housing
 pub mod Stopping
+pub mod Below
 pub mod Opening
 pub mod HouseEvents
 pub mod Events
@@ -31,4 +32,11 @@ pub mod CutLoses
 pub mod Finding
 pub mod StandingApart
 pub mod StandingSteps
+pub mod NextHouse
+pub mod NextRoot
+pub mod NextTold
+pub mod NextHeard
+pub mod NextGrants
+pub mod NextOffers
+pub mod NextSteps
 pub mod Sound

@@ -5,7 +5,7 @@ use Rattle.clearinghouse.specs.House.{HouseOf, Open, Stopped}
 use Rattle.clearinghouse.specs.declared.parts.RootGrant.{RootGrant}
 use Rattle.run_tables.specs.View.{View}
 use Rattle.run_tables.proofs.ValuesKept.{run_reached}
-use Rattle.house_moves.specs.Shows.{OpenShown}
+use Rattle.actor_laws.specs.house_moves.Shows.{OpenShown}
 use Rattle.world_steps.specs.Lost.{NothingLost, NothingLostAt}
 use Rattle.world_steps.specs.World.{Down, HouseAt, IsUp, WorldOf, open_house}
 use Rattle.safe_runs.specs.Shown.{HouseShown, Tied}

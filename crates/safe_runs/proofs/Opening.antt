@@ -25,10 +25,10 @@ use Rattle.run_tables.proofs.Lists.{same_or}
 use Rattle.run_tables.proofs.ValuesKept.{run_reached}
 use Rattle.actor_moves.specs.Beside.{SameAt, KeepsSent}
 use Rattle.actor_moves.proofs.Sent.{keeps_one}
-use Rattle.node_moves.proofs.Beside.{node_beside}
-use Rattle.node_moves.proofs.Told.{all_shown, both_shown, none_shown, sent_early}
-use Rattle.house_moves.specs.Shows.{OpenShown, stored_of}
-use Rattle.house_moves.specs.Steps.{tables_meaning}
+use Rattle.actor_laws.proofs.node_moves.Beside.{node_beside}
+use Rattle.actor_laws.proofs.node_moves.Told.{all_shown, both_shown, none_shown, sent_early}
+use Rattle.actor_laws.specs.house_moves.Shows.{OpenShown, stored_of}
+use Rattle.actor_laws.specs.house_moves.Steps.{tables_meaning}
 use Rattle.world_steps.specs.Houses.{Opens, calls_of, halted, made, silence}
 use Rattle.world_steps.specs.World.{Down, IsUp, WorldOf}
 use Rattle.safe_runs.specs.Shown.{UpAt, Closed, DiskShown, Shown, TiedSince}

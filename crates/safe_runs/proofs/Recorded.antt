@@ -13,7 +13,7 @@ use Rattle.run_tables.proofs.ValuesKept.{values_run}
 use Rattle.content_moves.specs.Shown.{outcome_number}
 use Rattle.world_steps.specs.Runs.{CanBegin}
 use Rattle.world_steps.specs.World.{Down, HouseAt, IsUp, WorldOf, recorded, recorded_at}
-use Rattle.house_moves.specs.Shows.{stored_of}
+use Rattle.actor_laws.specs.house_moves.Shows.{stored_of}
 use Rattle.safe_runs.specs.Shown.{HouseShown, Tied}
 
 pub told_back : (o : Outcome) → outcome_of (outcome_number o) ≡ o

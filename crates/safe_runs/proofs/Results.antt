@@ -21,11 +21,11 @@ use Rattle.run_tables.proofs.TasksKept.{tasks_reached}
 use Rattle.run_tables.proofs.ValuesKept.{run_reached, values_run}
 use Rattle.content_moves.specs.Shown.{outcome_number, ShowsRecord}
 use Rattle.content_moves.proofs.Apart.{own_grant}
-use Rattle.house_moves.specs.Steps.{tables_meaning}
-use Rattle.node_moves.specs.Shows.{mode_of, NodeShown, PartsShown}
-use Rattle.node_moves.proofs.Held.{HeldAt, held_at}
-use Rattle.node_moves.proofs.Members.{unrecorded}
-use Rattle.actor_agreement.specs.Values.{NextGrantIsFresh, IsOutcomeAt}
+use Rattle.actor_laws.specs.house_moves.Steps.{tables_meaning}
+use Rattle.actor_laws.specs.node_moves.Shows.{mode_of, NodeShown, PartsShown}
+use Rattle.actor_laws.proofs.node_moves.Held.{HeldAt, held_at}
+use Rattle.actor_laws.proofs.node_moves.Members.{unrecorded}
+use Rattle.actor_laws.specs.actor_agreement.Values.{NextGrantIsFresh, IsOutcomeAt}
 use Rattle.safe_runs.proofs.Recorded.{told_back}
 
 module _ (job : JobOf) (v : View) (run : Run (tables_meaning job) v) where

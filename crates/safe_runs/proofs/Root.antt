@@ -4,7 +4,7 @@ use Rattle.ids.specs.Names.{Grant}
 use Rattle.clearinghouse.specs.House.{HouseOf}
 use Rattle.clearinghouse.specs.declared.parts.RootGrant.{RootGrant}
 use Rattle.run_tables.specs.View.{View}
-use Rattle.house_moves.specs.Shows.{ShowsRoot, OpenShown}
+use Rattle.actor_laws.specs.house_moves.Shows.{ShowsRoot, OpenShown}
 
 root_is : (o : Option Grant) (r : RootGrant) → ShowsRoot o (Some r) → o ≡ Some r.grant
 root_is None r shows = absurd shows

@@ -22,10 +22,10 @@ use Rattle.run_tables.proofs.NamesReached.{names_reached}
 use Rattle.run_tables.proofs.Paths.{grant_of_transfer}
 use Rattle.run_tables.proofs.ValuesKept.{run_reached}
 use Rattle.content_moves.specs.Shown.{outcome_number, task_of}
-use Rattle.node_moves.specs.Shows.{BodyShown, GrantShown, OfferShown}
-use Rattle.node_moves.specs.Steps.{Carries, IsSent}
-use Rattle.house_moves.specs.Steps.{tables_meaning}
-use Rattle.actor_agreement.specs.Values.{BodyIsRight}
+use Rattle.actor_laws.specs.node_moves.Shows.{BodyShown, GrantShown, OfferShown}
+use Rattle.actor_laws.specs.node_moves.Steps.{Carries, IsSent}
+use Rattle.actor_laws.specs.house_moves.Steps.{tables_meaning}
+use Rattle.actor_laws.specs.actor_agreement.Values.{BodyIsRight}
 use Rattle.world_steps.specs.Agrees.{BodyAgrees, StoredAgree, WasGranted}
 use Rattle.world_steps.specs.Safe.{filling_of}
 use Rattle.world_steps.specs.World.{Holder, WorldOf}
@@ -95,7 +95,7 @@ module _ (job : JobOf) (w : WorldOf) (tied : Tied job w) where
       by_first (i, f) = let s = tied.shown.sent f.transfer f.sent in granted_by b.grant f.transfer f.grant f.hop s s.packet.body refl s.carries (tied.shown.net s.packet s.there)
 
   body_agrees : (x : Body) (to : ℕ) → BodyIsRight job x → BodyShown v to x → BodyAgrees job w.net x
-  body_agrees (body.Grant b) to right shown = right
+  body_agrees (body.Grant b) to right shown = (right.0, right.1)
   body_agrees (body.Result b) to right shown = (some_granted b to shown, outcome_of_granted b to shown)
   body_agrees (body.Offer b) to right shown = right.agrees
   body_agrees (body.Join b) to right shown = tt

@@ -13,8 +13,8 @@ use Rattle.run_tables.specs.Facts.{Came, request_of}
 use Rattle.run_tables.specs.Names.{Names}
 use Rattle.run_tables.specs.Requests.{Requests}
 use Rattle.run_tables.proofs.Among.{placed}
-use Rattle.node_moves.specs.Shows.{BodyShown, pending_of}
-use Rattle.node_moves.specs.Steps.{Carries, IsSent}
+use Rattle.actor_laws.specs.node_moves.Shows.{BodyShown, pending_of}
+use Rattle.actor_laws.specs.node_moves.Steps.{Carries, IsSent}
 use Rattle.world_steps.specs.Lost.{Answers, IsAwaited, IsTransfer, WasSent}
 use Rattle.world_steps.specs.World.{WorldOf}
 use Rattle.safe_runs.specs.Shown.{Shown}

@@ -21,6 +21,7 @@ use Rattle.safe_runs.proofs.Going.{first_sound, run_sound}
 use Rattle.safe_runs.proofs.Holding.{one_holder}
 use Rattle.safe_runs.proofs.Losing.{nothing_lost}
 use Rattle.safe_runs.proofs.Recorded.{recorded_is_meant}
+use Rattle.safe_runs.proofs.NextSteps.{next_steps}
 use Rattle.safe_runs.proofs.SentAgrees.{received}
 use Rattle.safe_runs.proofs.StandingSteps.{first_stands, runs_stand}
 use Rattle.safe_runs.proofs.Staying.{runs_stay}
@@ -65,4 +66,5 @@ module _ (job : JobOf) (ok : IsJob job) (d : Device) (entries : List Entry) (wor
     agree = λ w m. sound_agrees job w (sound w m);
     none_lost = λ w m. sound_loses job w (sound w m);
     stand = stands;
+    next = λ w m. next_steps job ok w (sound w m) (stands w m);
   }

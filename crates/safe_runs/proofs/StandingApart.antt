@@ -28,16 +28,16 @@ use Rattle.run_tables.proofs.KinReached.{kin_reached}
 use Rattle.run_tables.proofs.ValuesKept.{run_reached}
 use Rattle.content_moves.specs.Shown.{Shows}
 use Rattle.content_moves.proofs.Apart.{grant_named, own_grant}
-use Rattle.node_moves.specs.Shows.{mode_of, BodyShown, NodeShown, OfferShown, PartsShown}
-use Rattle.node_moves.specs.Steps.{AllShown}
-use Rattle.node_moves.proofs.Held.{HeldAt, held_at}
-use Rattle.whole_offers.specs.Gathered.{IsOfShown}
-use Rattle.whole_offers.specs.Kept.{NodeKept}
-use Rattle.whole_offers.specs.Whole.{IsPieceOf, OneOffer}
-use Rattle.whole_offers.proofs.Cutting.{arrives}
-use Rattle.whole_offers.proofs.Gathering.{of_shown}
-use Rattle.whole_offers.proofs.Wires.{all_whole}
-use Rattle.standing_laws.specs.Standing.{BodyIsApart, HaveOneHost}
+use Rattle.actor_laws.specs.node_moves.Shows.{mode_of, BodyShown, NodeShown, OfferShown, PartsShown}
+use Rattle.actor_laws.specs.node_moves.Steps.{AllShown}
+use Rattle.actor_laws.proofs.node_moves.Held.{HeldAt, held_at}
+use Rattle.actor_laws.specs.whole_offers.Gathered.{IsOfShown}
+use Rattle.actor_laws.specs.whole_offers.Kept.{NodeKept}
+use Rattle.actor_laws.specs.whole_offers.Whole.{IsPieceOf, OneOffer}
+use Rattle.actor_laws.proofs.whole_offers.Cutting.{arrives}
+use Rattle.actor_laws.proofs.whole_offers.Gathering.{of_shown}
+use Rattle.actor_laws.proofs.whole_offers.Wires.{all_whole}
+use Rattle.actor_laws.specs.standing.Standing.{BodyIsApart, HaveOneHost}
 
 -- the Offer that a Piece's packet says is the one that it was cut from
 module _ (job : JobOf) (n : NodeOf) (b : Piece) (o u : Offer) where

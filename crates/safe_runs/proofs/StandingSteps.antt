@@ -29,28 +29,28 @@ use Rattle.run_tables.specs.Tables.{◌∈◌}
 use Rattle.run_tables.specs.View.{Works}
 use Rattle.run_tables.proofs.Among.{got}
 use Rattle.run_tables.proofs.Lists.{some_same}
-use Rattle.node_moves.specs.Shows.{NodeShown, mode_of}
-use Rattle.house_moves.specs.Steps.{tables_meaning}
+use Rattle.actor_laws.specs.node_moves.Shows.{NodeShown, mode_of}
+use Rattle.actor_laws.specs.house_moves.Steps.{tables_meaning}
 use Rattle.world_steps.specs.Answers.{StepResult, Unfit, answered, house_same, same, stepped, with_some}
 use Rattle.world_steps.specs.Houses.{Ends, Halts, RestartHalts, Restarts, silence}
 use Rattle.world_steps.specs.Nodes.{at_node, can_start, grant_of, starts, victim_of}
 use Rattle.world_steps.specs.Runs.{Entry, Runs, ends, goes}
 use Rattle.world_steps.specs.Steps.{HouseEnds, HouseHalts, IsCut, Step, ThenCut, ThenStopped, house_crash, settled_by}
 use Rattle.world_steps.specs.World.{Down, HouseAt, IsUp, WorldOf, first_over, node_in, open_house, with_used, without_node}
-use Rattle.whole_offers.specs.Kept.{NodeKept}
-use Rattle.whole_offers.specs.Whole.{OneOffer}
+use Rattle.actor_laws.specs.whole_offers.Kept.{NodeKept}
+use Rattle.actor_laws.specs.whole_offers.Whole.{OneOffer}
 use Rattle.safe_runs.specs.Shown.{Tied}
 use Rattle.safe_runs.specs.Sound.{IsSound, cut_world, sound_here, sound_of}
 use Rattle.safe_runs.specs.Standing.{WorldStands}
 use Rattle.safe_runs.proofs.Going.{step_sound}
 use Rattle.safe_runs.proofs.Places.{left_there, new_or_old}
 use Rattle.safe_runs.proofs.StandingApart.{comes_apart}
-use Rattle.standing_laws.specs.Lasting.{AnswerLasts, NodeLasts}
-use Rattle.standing_laws.specs.Root.{HouseAnswerStands, RootStands}
-use Rattle.standing_laws.specs.Standing.{AnswerStands, NodeStands}
-use Rattle.standing_laws.proofs.HouseRows.{moment_stands, root_stands}
-use Rattle.standing_laws.proofs.Lasting.{ask_lasts, depart_lasts, exec_ready_lasts, packet_lasts, resend_lasts, start_lasts, whole_ready_lasts}
-use Rattle.standing_laws.proofs.Rows.{ask_stand, body_stands, depart_stand, exec_ready_stand, resend_stand, start_stands, whole_ready_stand}
+use Rattle.actor_laws.specs.standing.Lasting.{AnswerLasts, NodeLasts}
+use Rattle.actor_laws.specs.standing.Root.{HouseAnswerStands, RootStands}
+use Rattle.actor_laws.specs.standing.Standing.{AnswerStands, NodeStands}
+use Rattle.actor_laws.proofs.standing.HouseRows.{moment_stands, root_stands}
+use Rattle.actor_laws.proofs.standing.Lasting.{ask_lasts, depart_lasts, exec_ready_lasts, packet_lasts, resend_lasts, start_lasts, whole_ready_lasts}
+use Rattle.actor_laws.proofs.standing.Rows.{ask_stand, body_stands, depart_stand, exec_ready_stand, resend_stand, start_stands, whole_ready_stand}
 
 pub first_stands : (d : Device) → WorldStands (first_over d)
 first_stands d = record { waits = λ a n e. cc; lasts = λ a n e. cc; root = λ h e. cc }

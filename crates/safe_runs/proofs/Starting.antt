@@ -25,14 +25,14 @@ use Rattle.content_moves.proofs.Orders.{none_order}
 use Rattle.actor_moves.specs.Beside.{SameAt, SameHouse, KeepsSent, unmoved}
 use Rattle.actor_moves.proofs.Others.{beside}
 use Rattle.actor_moves.proofs.Sent.{house_all, keeps_all, keeps_one, runs_on, used_all, leads_all}
-use Rattle.node_moves.specs.Shows.{PartsShown, NodeShown}
-use Rattle.node_moves.specs.Steps.{StepShown}
-use Rattle.node_moves.proofs.Beside.{node_beside}
-use Rattle.node_moves.proofs.Told.{all_shown, both_shown, one_shown, sent_early, fills_on}
-use Rattle.node_moves.proofs.Rostering.{ends_shown}
+use Rattle.actor_laws.specs.node_moves.Shows.{PartsShown, NodeShown}
+use Rattle.actor_laws.specs.node_moves.Steps.{StepShown}
+use Rattle.actor_laws.proofs.node_moves.Beside.{node_beside}
+use Rattle.actor_laws.proofs.node_moves.Told.{all_shown, both_shown, one_shown, sent_early, fills_on}
+use Rattle.actor_laws.proofs.node_moves.Rostering.{ends_shown}
 use Rattle.world_steps.specs.Answers.{stepped}
 use Rattle.world_steps.specs.World.{WorldOf, is_used, name_of_word, node_in, with_used, without_node}
-use Rattle.house_moves.specs.Steps.{tables_meaning}
+use Rattle.actor_laws.specs.house_moves.Steps.{tables_meaning}
 use Rattle.safe_runs.specs.Shown.{UpAt, Shown, TiedSince}
 use Rattle.safe_runs.proofs.Places.{put_here, put_beside, gone_beside, new_or_old, left_there}
 use Rattle.safe_runs.proofs.Stepping.{disk_beside, house_beside, not_house}

@@ -10,7 +10,7 @@ use Rattle.run_tables.proofs.Stored.{stored_stays}
 use Rattle.run_tables.proofs.ValuesKept.{run_reached}
 use Rattle.run_tables.proofs.Among.{got}
 use Rattle.content_moves.specs.Shown.{outcome_number}
-use Rattle.house_moves.specs.Shows.{stored_of}
+use Rattle.actor_laws.specs.house_moves.Shows.{stored_of}
 use Rattle.world_steps.specs.Runs.{CanBegin, Entry, Runs, ends, goes}
 use Rattle.world_steps.specs.Safe.{Stays}
 use Rattle.world_steps.specs.World.{Down, HouseAt, IsUp, WorldOf, first_over, open_house, recorded, recorded_at}

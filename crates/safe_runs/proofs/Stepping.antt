@@ -16,14 +16,14 @@ use Rattle.run_tables.proofs.ValuesKept.{run_reached}
 use Rattle.actor_moves.specs.Beside.{SameAt, SameHouse, KeepsSent, unmoved}
 use Rattle.actor_moves.proofs.Others.{beside}
 use Rattle.actor_moves.proofs.Sent.{house_all, keeps_all, runs_on, used_all, leads_all}
-use Rattle.node_moves.specs.Shows.{mode_of, NodeShown}
-use Rattle.node_moves.specs.Steps.{StepShown, AnswerShown, shown_fills}
-use Rattle.node_moves.proofs.Beside.{node_beside}
-use Rattle.node_moves.proofs.Told.{packet_kept, all_shown, both_shown, none_shown, sent_early, sent_late, fills_on}
+use Rattle.actor_laws.specs.node_moves.Shows.{mode_of, NodeShown}
+use Rattle.actor_laws.specs.node_moves.Steps.{StepShown, AnswerShown, shown_fills}
+use Rattle.actor_laws.proofs.node_moves.Beside.{node_beside}
+use Rattle.actor_laws.proofs.node_moves.Told.{packet_kept, all_shown, both_shown, none_shown, sent_early, sent_late, fills_on}
 use Rattle.world_steps.specs.Answers.{answered, stepped}
 use Rattle.world_steps.specs.World.{Down, HouseAt, IsUp, Up, WorldOf, node_in, put_node}
-use Rattle.house_moves.specs.Shows.{OpenShown}
-use Rattle.house_moves.specs.Steps.{tables_meaning}
+use Rattle.actor_laws.specs.house_moves.Shows.{OpenShown}
+use Rattle.actor_laws.specs.house_moves.Steps.{tables_meaning}
 use Rattle.disk.specs.Device.{Device}
 use Rattle.safe_runs.specs.Shown.{UpAt, Closed, HouseShown, DiskShown, Shown, TiedSince}
 use Rattle.safe_runs.proofs.Places.{put_here, put_beside, new_or_old}

@@ -4,6 +4,7 @@ use Rattle.codec.specs.Table.{PacketOf}
 use Rattle.codec.specs.declared.body.Body.{Body}
 use Rattle.codec.specs.declared.body.Body.TheVariants as body
 use Rattle.disk.specs.Device.{Device}
+use Rattle.disk.specs.File.{bytes_of}
 use Rattle.serial_meaning.specs.Job.{JobOf, IsJob}
 use Rattle.clearinghouse.specs.Calls.{begins, passes}
 use Rattle.clearinghouse.specs.Cases as house_cases
@@ -24,19 +25,20 @@ use Rattle.run_tables.specs.Tables.{◌∈◌}
 use Rattle.run_tables.specs.View.{Works}
 use Rattle.run_tables.proofs.Among.{got}
 use Rattle.run_tables.proofs.Lists.{either}
-use Rattle.node_moves.specs.Shows.{mode_of, BodyShown}
-use Rattle.actor_agreement.specs.Values as actor
-use Rattle.actor_agreement.specs.Values.{AllRight, AnswerIsRight, BodyIsRight, HouseAnswerIsRight, BodyMayCome, NodeIsRight, StepIsRight}
-use Rattle.actor_agreement.proofs.House.{passes_right}
-use Rattle.actor_agreement.proofs.House.{packet_right as house_packet_right}
-use Rattle.actor_agreement.proofs.Sent.{both_sent, none_sent}
-use Rattle.actor_agreement.proofs.Table.{packet_right, start_right}
+use Rattle.actor_laws.specs.node_moves.Shows.{mode_of, BodyShown}
+use Rattle.actor_laws.specs.actor_agreement.Values as actor
+use Rattle.actor_laws.specs.actor_agreement.Values.{AllRight, AnswerIsRight, BodyIsRight, HouseAnswerIsRight, BodyMayCome, NodeIsRight, StepIsRight}
+use Rattle.actor_laws.proofs.actor_agreement.House.{passes_right}
+use Rattle.actor_laws.proofs.actor_agreement.House.{packet_right as house_packet_right}
+use Rattle.actor_laws.proofs.actor_agreement.Sent.{both_sent, none_sent}
+use Rattle.actor_laws.proofs.actor_agreement.Table.{packet_right, start_right}
 use Rattle.world_steps.specs.Answers.{StepResult, Unfit, answered, house_same, same, stepped}
 use Rattle.world_steps.specs.Houses.{Ends, Halts, RestartHalts, Restarts, silence}
 use Rattle.world_steps.specs.Nodes.{can_start, starts}
 use Rattle.world_steps.specs.Steps.{HouseEnds, HouseHalts, ThenCut, ThenStopped, house_crash, settled_by}
 use Rattle.world_steps.specs.World.{Down, HouseAt, IsUp, WorldOf, first_over, node_in, with_used, without_node}
 use Rattle.safe_runs.specs.Shown.{Tied}
+use Rattle.safe_runs.proofs.Below.{read_below}
 use Rattle.safe_runs.proofs.HouseEvents.{may_save}
 use Rattle.safe_runs.proofs.Opening.{read_saved}
 use Rattle.safe_runs.proofs.Places.{left_there, new_or_old}
@@ -191,7 +193,7 @@ module _ (job : JobOf) (w : WorldOf) (ok : IsJob job) (tied : Tied job w) (right
 
   -- an opening begins with no answers
   restarts_right : (o : StepResult) → Restarts job w o → WorldIsRight job o.world
-  restarts_right o (inl (way, e)) = rw e (housed job w right (IsUp (Open (begins silence (begun_of way.way)).after)) _ [] ((λ r m. absurd m), read_saved job tied.view w tied.shown way.way) (none_sent job))
+  restarts_right o (inl (way, e)) = rw e (housed job w right (IsUp (Open (begins silence (begun_of way.way)).after)) _ [] ((λ r m. absurd m), read_saved job tied.view w tied.shown way.way, read_below (bytes_of w.disk.file) way.way.sequence way.way.found way.way.reads) (none_sent job))
   restarts_right o (inr (f, refused, e)) = rw e (shut job w right w.house _ right.house)
 
   restart_halts_right : (k : ℕ) (bytes : List ℕ) (o : StepResult) → RestartHalts job k bytes w o → WorldIsRight job o.world

@@ -21,10 +21,10 @@ use Rattle.run_tables.proofs.Lists.{same_or}
 use Rattle.run_tables.proofs.Entries.{put_here, put_other}
 use Rattle.actor_moves.specs.Beside.{SameAt, KeepsSent}
 use Rattle.actor_moves.proofs.Sent.{keeps_one}
-use Rattle.node_moves.proofs.Beside.{node_beside}
-use Rattle.node_moves.proofs.Told.{all_shown, none_shown}
-use Rattle.house_moves.specs.Shows.{OpenShown}
-use Rattle.house_moves.specs.Steps.{HouseStepShown, tables_meaning}
+use Rattle.actor_laws.proofs.node_moves.Beside.{node_beside}
+use Rattle.actor_laws.proofs.node_moves.Told.{all_shown, none_shown}
+use Rattle.actor_laws.specs.house_moves.Shows.{OpenShown}
+use Rattle.actor_laws.specs.house_moves.Steps.{HouseStepShown, tables_meaning}
 use Rattle.world_steps.specs.Houses.{MakesCalls, halted}
 use Rattle.world_steps.specs.World.{Down, HouseAt, IsUp, WorldOf}
 use Rattle.safe_runs.specs.Shown.{UpAt, Closed, HouseShown, DiskShown, Shown, TiedSince}

@@ -10,8 +10,8 @@ use Rattle.node_state.specs.declared.parts.State.TheVariants.{Joining, Member, L
 use Rattle.run_tables.specs.View.{House, Sub, Works, View}
 use Rattle.run_tables.specs.View as tables
 use Rattle.run_tables.specs.Facts.{Live}
-use Rattle.node_moves.specs.Shows.{mode_of, IsShown, PartsShown}
-use Rattle.node_moves.proofs.Held.{FoundSub, found_sub}
+use Rattle.actor_laws.specs.node_moves.Shows.{mode_of, IsShown, PartsShown}
+use Rattle.actor_laws.proofs.node_moves.Held.{FoundSub, found_sub}
 use Rattle.world_steps.specs.Lost.{IsFrozen}
 use Rattle.world_steps.specs.World.{Holder, WorldOf, live_at, node_in}
 use Rattle.safe_runs.specs.Shown.{UpAt, Shown}

@@ -30,29 +30,29 @@ use Rattle.run_tables.proofs.Among.{found_among, got, placed}
 use Rattle.agreement.specs.Agreement.{AllSavedAgree}
 use Rattle.ids.specs.Names.{Grant}
 use Rattle.subcomputation.specs.Subs.{SubOf, sub_in}
-use Rattle.node_moves.specs.Shows.{NodeShown}
-use Rattle.node_moves.specs.Steps.{AnswerShown}
-use Rattle.node_moves.proofs.Changing.{exec_ready_shown, whole_ready_shown}
-use Rattle.node_moves.proofs.Resending.{resend_shown}
-use Rattle.node_moves.proofs.Table.{ask_shown, depart_shown}
-use Rattle.actor_agreement.specs.Values.{AnswerIsRight}
-use Rattle.actor_agreement.proofs.Changing.{exec_ready_right, whole_ready_right}
-use Rattle.actor_agreement.proofs.Leaving.{depart_right, resend_right}
-use Rattle.actor_agreement.proofs.Table.{ask_right}
-use Rattle.house_moves.specs.Steps.{tables_meaning}
+use Rattle.actor_laws.specs.node_moves.Shows.{NodeShown}
+use Rattle.actor_laws.specs.node_moves.Steps.{AnswerShown}
+use Rattle.actor_laws.proofs.node_moves.Changing.{exec_ready_shown, whole_ready_shown}
+use Rattle.actor_laws.proofs.node_moves.Resending.{resend_shown}
+use Rattle.actor_laws.proofs.node_moves.Table.{ask_shown, depart_shown}
+use Rattle.actor_laws.specs.actor_agreement.Values.{AnswerIsRight}
+use Rattle.actor_laws.proofs.actor_agreement.Changing.{exec_ready_right, whole_ready_right}
+use Rattle.actor_laws.proofs.actor_agreement.Leaving.{depart_right, resend_right}
+use Rattle.actor_laws.proofs.actor_agreement.Table.{ask_right}
+use Rattle.actor_laws.specs.house_moves.Steps.{tables_meaning}
 use Rattle.world_steps.specs.Answers.{StepResult, Unfit, answered, house_same, same, stepped, with_some}
 use Rattle.world_steps.specs.Houses.{Ends, Halts, RestartHalts, Restarts, goes_to, halted, made, opened_by}
 use Rattle.world_steps.specs.Nodes.{at_node, can_start, crashes, grant_of, starts, victim_of}
 use Rattle.world_steps.specs.Steps.{HouseEnds, HouseHalts, IsCut, Step, cut_short, house_crash, settled_by, stopped}
 use Rattle.world_steps.specs.World.{Down, HouseAt, IsUp, WorldOf, node_in, with_used, without_node}
-use Rattle.whole_offers.specs.Kept.{AnswerKept, NodeKept}
-use Rattle.whole_offers.specs.Plain.{ArePlain, IsPlainNode}
-use Rattle.whole_offers.specs.Whole.{IsPieceOf, OneOffer, cut_answer}
-use Rattle.whole_offers.proofs.Cutting.{arrives, plain_uncut}
-use Rattle.whole_offers.proofs.Rows.{none, one}
-use Rattle.whole_offers.proofs.Steps.{ask_kept, depart_kept, exec_ready_kept, kept_more, packet_kept, plain_one, resend_kept, start_kept, waits_not, whole_ready_kept}
-use Rattle.whole_offers.proofs.Uncut.{ask_uncut, depart_cut, exec_ready_uncut, packet_uncut, resend_cut, whole_ready_uncut}
-use Rattle.whole_offers.proofs.Wires.{comes_shown, piece_agrees}
+use Rattle.actor_laws.specs.whole_offers.Kept.{AnswerKept, NodeKept}
+use Rattle.actor_laws.specs.whole_offers.Plain.{ArePlain, IsPlainNode}
+use Rattle.actor_laws.specs.whole_offers.Whole.{IsPieceOf, OneOffer, cut_answer}
+use Rattle.actor_laws.proofs.whole_offers.Cutting.{arrives, plain_uncut}
+use Rattle.actor_laws.proofs.whole_offers.Rows.{none, one}
+use Rattle.actor_laws.proofs.whole_offers.Steps.{ask_kept, depart_kept, exec_ready_kept, kept_more, packet_kept, plain_one, resend_kept, start_kept, waits_not, whole_ready_kept}
+use Rattle.actor_laws.proofs.whole_offers.Uncut.{ask_uncut, depart_cut, exec_ready_uncut, packet_uncut, resend_cut, whole_ready_uncut}
+use Rattle.actor_laws.proofs.whole_offers.Wires.{comes_shown, piece_agrees}
 use Rattle.safe_runs.specs.Right.{WorldIsRight}
 use Rattle.safe_runs.specs.Shown.{TiedSince, tied_of}
 use Rattle.safe_runs.specs.Sound.{SoundSince, cut_world}

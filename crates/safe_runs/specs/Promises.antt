@@ -6,12 +6,14 @@ use Rattle.world_steps.specs.Agrees.{Agrees}
 use Rattle.world_steps.specs.Lost.{NothingLost}
 use Rattle.world_steps.specs.Safe.{Safe}
 use Rattle.world_steps.specs.World.{WorldOf}
+use Rattle.safe_runs.specs.Next.{NextSteps}
 use Rattle.safe_runs.specs.Standing.{WorldStands}
 
--- these worlds, one after another, are safe; and each agrees with the serial meaning, has lost nothing, and in each nobody waits for
--- somebody who is gone
+-- these worlds, one after another, are safe; and each agrees with the serial meaning and has lost nothing, in each nobody waits for
+-- somebody who is gone, and work and outcomes that come now are taken
 pub record AllSafe (job : JobOf) (worlds : List WorldOf) : Type 0 where
   pub safe : Safe job worlds
   pub agree : (w : WorldOf) → w ∈ worlds → Agrees job w
   pub none_lost : (w : WorldOf) → w ∈ worlds → NothingLost w
   pub stand : (w : WorldOf) → w ∈ worlds → WorldStands w
+  pub next : (w : WorldOf) → w ∈ worlds → NextSteps job w

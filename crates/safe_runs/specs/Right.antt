@@ -6,8 +6,8 @@ use Rattle.clearinghouse.specs.House.{State, Open, Stopped}
 use Rattle.node_state.specs.Node.{NodeOf}
 use Rattle.node_core.specs.declared.parts.Fill.{Fill}
 use Rattle.run_tables.specs.Tables.{◌∈◌}
-use Rattle.actor_agreement.specs.Values as actor
-use Rattle.actor_agreement.specs.Values.{AllRight, NodeIsRight}
+use Rattle.actor_laws.specs.actor_agreement.Values as actor
+use Rattle.actor_laws.specs.actor_agreement.Values.{AllRight, NodeIsRight}
 use Rattle.world_steps.specs.Safe.{filling_of}
 use Rattle.world_steps.specs.World.{Down, HouseAt, IsUp, WorldOf, node_in}
 

@@ -13,10 +13,10 @@ use Rattle.run_tables.specs.Tables.{◌∈◌}
 use Rattle.run_tables.specs.View.{Transfer, House, Works, View}
 use Rattle.run_tables.specs.Facts.{of_worker}
 use Rattle.run_tables.specs.Runs.{Run, Leads, stays_at}
-use Rattle.node_moves.specs.Shows.{NodeShown}
-use Rattle.node_moves.specs.Steps.{AllShown, IsSent, shown_fills}
-use Rattle.house_moves.specs.Shows.{OpenShown, stored_of}
-use Rattle.house_moves.specs.Steps.{tables_meaning}
+use Rattle.actor_laws.specs.node_moves.Shows.{NodeShown}
+use Rattle.actor_laws.specs.node_moves.Steps.{AllShown, IsSent, shown_fills}
+use Rattle.actor_laws.specs.house_moves.Shows.{OpenShown, stored_of}
+use Rattle.actor_laws.specs.house_moves.Steps.{tables_meaning}
 use Rattle.world_steps.specs.World.{Down, HouseAt, IsUp, WorldOf, is_used, node_in}
 
 -- a node of that name is up

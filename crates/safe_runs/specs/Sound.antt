@@ -5,8 +5,8 @@ use Rattle.serial_meaning.specs.Job.{JobOf}
 use Rattle.node_state.specs.Node.{NodeOf}
 use Rattle.run_tables.specs.View.{View}
 use Rattle.world_steps.specs.World.{WorldOf, node_in}
-use Rattle.whole_offers.specs.Kept.{NodeKept}
-use Rattle.whole_offers.specs.Whole.{OneOffer}
+use Rattle.actor_laws.specs.whole_offers.Kept.{NodeKept}
+use Rattle.actor_laws.specs.whole_offers.Whole.{OneOffer}
 use Rattle.safe_runs.specs.Right.{WorldIsRight}
 use Rattle.safe_runs.specs.Shown.{Tied, TiedSince, tied_here, tied_of}
 

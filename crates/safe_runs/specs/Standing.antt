@@ -2,9 +2,9 @@
 use Rattle.std.specs.Prelude.{◌≡◌, ℕ, Some}
 use Rattle.node_state.specs.Node.{NodeOf}
 use Rattle.clearinghouse.specs.House.{HouseOf}
-use Rattle.standing_laws.specs.Lasting.{NodeLasts}
-use Rattle.standing_laws.specs.Root.{RootStands}
-use Rattle.standing_laws.specs.Standing.{NodeStands}
+use Rattle.actor_laws.specs.standing.Lasting.{NodeLasts}
+use Rattle.actor_laws.specs.standing.Root.{RootStands}
+use Rattle.actor_laws.specs.standing.Standing.{NodeStands}
 use Rattle.world_steps.specs.World.{WorldOf, node_in, open_house}
 
 pub record WorldStands (w : WorldOf) : Type 0 where
@@ -13,5 +13,5 @@ pub record WorldStands (w : WorldOf) : Type 0 where
   pub waits : (a : ℕ) (n : NodeOf) → node_in a w.nodes ≡ Some n → NodeStands n
   -- who goes on is live by its own roster, and a leaver that holds something has a live heir
   pub lasts : (a : ℕ) (n : NodeOf) → node_in a w.nodes ≡ Some n → NodeLasts n
-  -- and by the clearinghouse's members the holder of the root's grant isn't gone
+  -- and by the clearinghouse's members the holder of the root's grant is live
   pub root : (h : HouseOf) → open_house w.house ≡ Some h → RootStands h

@@ -42,7 +42,8 @@ pub enum ReplayError {
 /// no memory; where that was the clearinghouse's, the clearinghouse is stopped. Refused where there is no memory for the first world
 /// alone (E9). In each world of it, from the first one on, no slot was filled twice and each value in one is the serial program's, no
 /// grant has two live holders, a recorded outcome is the job's meaning and stays, what was sent and what is held agrees with the
-/// serial meaning, and the work of each wanted grant is somewhere, or is cut off.
+/// serial meaning, the work of each wanted grant is somewhere, or is cut off, no member waits for somebody who is gone by its own roster,
+/// and work and outcomes that come now are taken.
 pub fn run<'a>(alloc: Global, job: &'a Job, events: &[Event]) -> Result<RunEnd<'a>, NoMemory>
     ensures job { IfOk result (λ r. r.world.job ≡ job.now) }
     ensures run { IfOk result (λ r. IsRun job.now events.now r.done r.stopped r.world) }

@@ -1,0 +1,12 @@
+pub mod Below
+pub mod Contents
+pub mod Sent
+pub mod Steps
+pub mod Recovering
+pub mod Changing
+pub mod Granting
+pub mod Taking
+pub mod Rostering
+pub mod Leaving
+pub mod Table
+pub mod House

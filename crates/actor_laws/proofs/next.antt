@@ -1,0 +1,4 @@
+pub mod Linked
+pub mod Fitting
+pub mod Closing
+pub mod Carrying

@@ -1,9 +1,0 @@
-use Rattle.house_moves.proofs.Moments.{passes_shown}
-use Rattle.house_moves.proofs.Table.{packet_shown}
-use Rattle.house_moves.proofs.laws.what_the_house_does_is_moves.Goals as goal
-
-pub returns-clause-packets : goal.returns-clause-packets
-returns-clause-packets c = λ job v h p run shown sound told. packet_shown job v run h shown sound.listing.rising p told
-
-pub returns-clause-moments : goal.returns-clause-moments
-returns-clause-moments c = λ job v h now run shown. passes_shown job v run h shown now

@@ -1,0 +1,4 @@
+pub mod Going
+pub mod Alone
+pub mod Ready
+pub mod OfRuns
