@@ -6,9 +6,9 @@ usage: bin/test          all, as the merge gate does: the first run proves every
 
 What the machine lacks is told first, by name, with status 2. Then come the checks of pages and lists, which take
 seconds; then `rt ci`, which proves each crate, tries the must-fail edits and runs the tests and programs
-(docs/GATE.md); then the others, by the programs that it built, so that nothing is proved again: those that
-wait for nobody beside the rest. It stops where a check fails, with its status. Standard error tells how long each took.
-The last line is the gate's own: `N passed, M failed`.
+(docs/GATE.md); then the others, by the programs that it built, so that nothing is proved again: those that wait for
+nobody beside the rest. It stops where a check fails, with its status. Standard error tells how long each took. The
+last line is the gate's own: `N passed, M failed`.
 """
 import os
 import shutil
@@ -158,8 +158,10 @@ def main(words):
     failures.pass_all([it for it in rest if not any(it in these for these in lists)])
     for it in beside:
         it.join()
+    if failures.found:
+        return failures.found[0]
     sys.stdout.buffer.write(last)
-    return failures.found[0] if failures.found else 0
+    return 0
 
 
 if __name__ == "__main__":
