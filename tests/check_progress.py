@@ -10,17 +10,15 @@ there. A run on nodes that takes long tells such lines too. What takes less than
 refused, or may make no second thread. The last line counts; the status is 1 where anything failed.
 """
 import os
-import pty
 import re
 import resource
 import shutil
 import subprocess
 import sys
 import tempfile
-import threading
 import time
 
-from common import EXAMPLES, TOP, Tally
+from common import EXAMPLES, TOP, Tally, Terminal
 
 CILKNOW, NOWSIM = map(os.path.abspath, [*sys.argv[1:], *[f"{TOP}/bin/{it}" for it in ("cilknow", "nowsim")][len(sys.argv) - 1:]])
 FIB = f"{EXAMPLES}/fib.ck"
@@ -38,20 +36,9 @@ class OnTerminal:
     """A program whose standard error is a terminal of its own."""
 
     def __init__(self, *words, out=subprocess.PIPE, before=None):
-        self.master, slave = pty.openpty()
-        self.began, self.told = time.monotonic(), b""
-        self.program = subprocess.Popen(words, stdin=subprocess.DEVNULL, stdout=out, stderr=slave, preexec_fn=before, cwd="/")
-        os.close(slave)
-        self.reader = threading.Thread(target=self.read, daemon=True)
-        self.reader.start()
-
-    def read(self):
-        """Reads what is told until no program has the terminal any more."""
-        try:
-            while more := os.read(self.master, 4096):
-                self.told += more
-        except OSError:
-            pass
+        self.terminal, self.began = Terminal(), time.monotonic()
+        how = {"stdin": subprocess.DEVNULL, "stdout": out, "stderr": self.terminal.given, "preexec_fn": before, "cwd": "/"}
+        self.program = subprocess.Popen(words, **how)
 
     def ended(self):
         """Its status, what it wrote and told, and how many seconds it took."""
@@ -61,9 +48,7 @@ class OnTerminal:
             self.program.kill()
             out, _ = self.program.communicate()
         took = time.monotonic() - self.began
-        self.reader.join(10)
-        os.close(self.master)
-        return self.program.returncode, out, self.told, took
+        return self.program.returncode, out, self.terminal.ended(), took
 
 
 def write_script(path, times):
@@ -134,7 +119,7 @@ def long_replays(folder):
 def long_run():
     """A run on nodes that would take minutes: a line is told, and then it is ended from outside."""
     run = OnTerminal(CILKNOW, "run", FIB, "--nodes", "2", "40")
-    while run.program.poll() is None and time.monotonic() < run.began + 20 and not re.match(LINE, run.told):
+    while run.program.poll() is None and time.monotonic() < run.began + 20 and not re.match(LINE, run.terminal.told):
         time.sleep(0.05)
     run.program.kill()
     _, out, told, took = run.ended()

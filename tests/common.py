@@ -2,8 +2,10 @@
 prints."""
 import importlib
 import os
+import pty
 import re
 import sys
+import threading
 
 sys.dont_write_bytecode = True
 
@@ -64,6 +66,29 @@ def are_told(script, *counts):
     if missing:
         print(f"docs/HOSTILE.md doesn't say of {script}: {', '.join(f'{it:,}' for it in missing)}", file=sys.stderr)
     return not missing
+
+
+class Terminal:
+    """A terminal, for whoever gets `given`; `told` is what is written there, until nobody has it any more."""
+
+    def __init__(self):
+        self.own, self.given = pty.openpty()
+        self.told, self.reader = b"", threading.Thread(target=self.reads, daemon=True)
+        self.reader.start()
+
+    def reads(self):
+        try:
+            while more := os.read(self.own, 4096):
+                self.told += more
+        except OSError:
+            pass
+
+    def ended(self):
+        """All that was told there. Who was given the terminal has ended."""
+        os.close(self.given)
+        self.reader.join(10)
+        os.close(self.own)
+        return self.told
 
 
 class Tally:

@@ -7,8 +7,9 @@ First each call of the library, also those that are refused; and jobs on actors 
 any order, and which crash, the clearinghouse too. Then runs of one house and three workers, of whose datagrams a tenth is lost, a tenth comes
 twice and a tenth comes late: a worker is killed, one is told to go, one joins late, and in each third run the house is killed and started
 again over its file. Each outcome is the right one, and is answered at once by a house that starts over the same file afterwards. Every second
-run is of programs that were compiled with sanitizers, and goes on beside the others. Each leaves traces; these are put in one order by `cilknow merge`, which `cilknow replay
---names` replays to the same outcome, with just the packets that the actors say that they sent. Traces that are changed are refused.
+run is of programs that were compiled with sanitizers, and goes on beside the others. Each leaves traces; these are put in one order by
+`cilknow merge`, which `cilknow replay --names` replays to the same outcome, with just the packets that the actors say that they sent. Traces
+that are changed are refused.
 
 Strangers send what they have, also recorded datagrams a thousand times, cut off, changed, from elsewhere or of other jobs, which changes no
 outcome; beside the other rows a network is gone for ten seconds; workers wait for a house that starts late; what is refused is refused with
@@ -17,7 +18,6 @@ install` wrote. What this machine doesn't have is left out, and said. The last l
 """
 import filecmp
 import os
-import pty
 import random
 import re
 import resource
@@ -31,7 +31,7 @@ import tempfile
 import threading
 import time
 
-from common import EXAMPLES, TOP, Tally
+from common import EXAMPLES, TOP, Tally, Terminal
 
 FOLDER = os.path.abspath(sys.argv[1])
 PROGRAM = os.path.abspath(sys.argv[2])
@@ -622,28 +622,6 @@ def cut_off():
             job.end()
         for it in folders:
             it.cleanup()
-
-
-class Terminal:
-    """A terminal, and what is told there until nobody has it any more."""
-
-    def __init__(self):
-        self.own, self.given = pty.openpty()
-        self.told, self.reader = b"", threading.Thread(target=self.reads, daemon=True)
-        self.reader.start()
-
-    def reads(self):
-        try:
-            while more := os.read(self.own, 4096):
-                self.told += more
-        except OSError:
-            pass
-
-    def ended(self):
-        os.close(self.given)
-        self.reader.join(10)
-        os.close(self.own)
-        return self.told
 
 
 def on_terminal():
