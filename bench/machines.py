@@ -22,9 +22,12 @@ def free_port():
         return it.getsockname()[1]
 
 
-def serial():
+def serial(copies=1):
+    """The time of so many evaluators at once, which tell what as many cores give just then."""
     begun = time.monotonic()
-    subprocess.run((PROGRAM, "serial", FIB, "--turns", "1000000000000", INPUT), stdout=subprocess.DEVNULL, check=True)
+    words = PROGRAM, "serial", FIB, "--turns", "1000000000000", INPUT
+    for it in [subprocess.Popen(words, stdout=subprocess.DEVNULL) for _ in range(copies)]:
+        it.wait()
     return time.monotonic() - begun
 
 
@@ -100,11 +103,13 @@ def told(waited):
     return f"least {min(it[0] for it in waited)}, median {medians[len(medians) // 2]} microseconds" if waited else "none was answered"
 
 
-alone = min(serial() for _ in range(TIMES))
-print(f"FIB {INPUT}: serial {alone:.2f} s")
-for workers in range(1, MOST_WORKERS + 1):
-    took, _, waited = min(machines(workers) for _ in range(TIMES))
-    print(f"a house and {workers} workers: {took:.2f} s, {alone / took:.2f} times as fast as serial; a request for work and its answer: {told(waited)}")
+# (all of them one after the other, and that some times, so that each sees the same machine)
+tries = [[(serial(workers), machines(workers)) for workers in range(1, MOST_WORKERS + 1)] for _ in range(TIMES)]
+at_once, runs = ([min(each[at][which] for each in tries) for at in range(MOST_WORKERS)] for which in (0, 1))
+print(f"FIB {INPUT}: serial {at_once[0]:.2f} s")
+for workers, together, (took, _, waited) in zip(range(1, MOST_WORKERS + 1), at_once, runs):
+    print(f"a house and {workers} workers: {took:.2f} s, {at_once[0] / took:.2f} times as fast as serial, {together / workers / took:.2f} of as many evaluators "
+          f"at once; a request for work and its answer: {told(waited)}")
 large = str(int(INPUT) + 4)
 took, of_house, _ = machines(MANY, large)
 print(f"FIB {large}, a house and {MANY} workers on {os.cpu_count()} processors: {took:.2f} s, of which the house takes {100 * of_house / took:.2f} % of a core")

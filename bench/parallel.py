@@ -8,7 +8,8 @@ import tempfile
 import time
 
 PROGRAM, EXAMPLES = sys.argv[1:3]
-TRIES = 3
+TRIES = 5
+MOST_AT_ONCE = 4
 MANY = "100000000000"
 # As many tasks as calls; with a cut-off a programmer would write none below it.
 TASKS = r"""
@@ -51,16 +52,12 @@ WIDE = (
 
 
 def timed(*words, env=None):
-    """Wall and processor time in seconds of a command's best run of three, and what it told."""
+    """Wall and processor time in seconds of a command's best run of some, and what it told."""
     best = None
     for _ in range(TRIES):
-        start = time.monotonic()
-        child = subprocess.Popen(words, stdout=subprocess.PIPE, stderr=subprocess.PIPE, text=True, env=env)
-        told = child.communicate()
-        wall = time.monotonic() - start
-        if child.returncode:
+        took = once(*words, env=env)
+        if took is None:
             return None
-        took = wall, told[1]
         best = min(best, took) if best else took
     before = os.times()
     subprocess.run(words, stdout=subprocess.DEVNULL, stderr=subprocess.DEVNULL, env=env)
@@ -69,26 +66,49 @@ def timed(*words, env=None):
     return best[0], busy, best[1]
 
 
+def once(*words, env=None, copies=1):
+    """Wall time in seconds of a command, of which so many copies run at once, and what the first one told."""
+    start = time.monotonic()
+    children = [subprocess.Popen(words, stdout=subprocess.DEVNULL, stderr=subprocess.PIPE, text=True, env=env) for _ in range(copies)]
+    told = [child.communicate()[1] for child in children]
+    wall = time.monotonic() - start
+    return None if any(child.returncode for child in children) else (wall, told[0])
+
+
 def count(told, name):
     found = re.search(rf"^{name} (\d+)$", told, re.M)
     return int(found.group(1)) if found else 0
 
 
+HOWS = [["--bodies", str(it)] for it in range(1, MOST_AT_ONCE + 1)] + [["--nodes", str(it)] for it in range(2, MOST_AT_ONCE + 1)]
+
+
 def row(name, file, inputs):
-    """A row: serially, and on nodes."""
+    """Rows of a job: serially, and on nodes. All of them are run one after the other, and that some times, so that each sees the same machine.
+    So many evaluators at once tell what as many cores give: the part of it that a run has is the last column."""
+    serially = (PROGRAM, "serial", file, "--turns", MANY)
     # (counting takes a tenth of a serial turn)
-    alone = timed(PROGRAM, "serial", file, "--turns", MANY, *inputs)
-    needed = count(timed(PROGRAM, "serial", file, "--turns", MANY, "--stats", *inputs)[2], "turns")
-    print(f"| {name} | `serial` | {alone[0] * 1e3:.0f} | 1.00 | {needed:,} | | |", flush=True)
-    for how in (["--bodies", "1"], ["--bodies", "2"], ["--bodies", "3"], ["--bodies", "4"], ["--nodes", "2"], ["--nodes", "3"], ["--nodes", "4"]):
-        words = (PROGRAM, "run", file, "--turns", MANY, "--grain", "100000", *how)
-        took, stats = timed(*words, *inputs), subprocess.run((*words, "--stats", *inputs), capture_output=True, text=True).stderr
-        if took is None:
-            print(f"| {name} | `run {' '.join(how)}` | no outcome | | | | |")
+    needed = count(subprocess.run((*serially, "--stats", *inputs), capture_output=True, text=True).stderr, "turns")
+    commands = {" ".join(how): (PROGRAM, "run", file, "--turns", MANY, "--grain", "100000", *how) for how in HOWS}
+    at_once, took = {}, {}
+    for _ in range(TRIES):
+        for copies in range(1, MOST_AT_ONCE + 1):
+            at_once[copies] = min(at_once.get(copies, 1e9), once(*serially, *inputs, copies=copies)[0])
+        for how, words in commands.items():
+            ended = once(*words, *inputs)
+            took[how] = min(took.get(how, 1e9), ended[0]) if ended else None
+    alone = at_once[1]
+    print(f"| {name} | `serial` | {alone * 1e3:.0f} | 1.00 | {needed:,} | | 1.00 |", flush=True)
+    for how, words in commands.items():
+        if took[how] is None:
+            print(f"| {name} | `run {how}` | no outcome | | | | |")
             continue
+        stats = subprocess.run((*words, "--stats", *inputs), capture_output=True, text=True).stderr
         turns, wholes = count(stats, "turns"), count(stats, "tasks evaluated whole")
         spent = (turns + count(stats, "turns in them") + count(stats, "turns evaluated in vain")) / max(needed, 1)
-        print(f"| {name} | `run {' '.join(how)}` | {took[0] * 1e3:.0f} | {alone[0] / took[0]:.2f} | {spent:.3f} | {turns + wholes:,} | {took[1] / took[0]:.1f} |", flush=True)
+        threads = int(how.split()[1])
+        part = at_once[threads] / threads / took[how]
+        print(f"| {name} | `run {how}` | {took[how] * 1e3:.0f} | {alone / took[how]:.2f} | {spent:.3f} | {turns + wholes:,} | {part:.2f} |", flush=True)
 
 
 def openmp(folder):
@@ -124,7 +144,7 @@ def crashed():
         print(f"| {name} | {timed(*words, *faults, '36')[0] * 1e3:.0f} |", flush=True)
 
 
-print("| job | how | ms | times as fast as `serial` | turns, or evaluated for each needed | events that carry out frames | processors busy |")
+print("| job | how | ms | times as fast as `serial` | turns, or evaluated for each needed | events that carry out frames | of as many evaluators at once |")
 print("|---|---|---|---|---|---|---|")
 with tempfile.TemporaryDirectory() as here:
     for title, text in ("comb", COMB), ("wide", WIDE):

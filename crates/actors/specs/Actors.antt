@@ -25,12 +25,14 @@ use Rattle.actors.specs.declared.error.HouseCallError.TheVariants.{House}
 use Rattle.actors.specs.declared.error.NodeCallError.{NodeCallError}
 use Rattle.actors.specs.declared.error.NodeCallError.TheVariants.{Node}
 
--- packets in their order: one, if it was taken from among them, and others, the first of which stands last
+-- packets in their order: one, if it was taken from among them, and others, the first of which
+-- stands last
 abbrev pub waiting : Option PacketOf → List PacketOf → List PacketOf
 waiting None turned = reverse turned
 waiting (Some p) turned = p ∷ reverse turned
 
--- the first packet that waits is given as bytes, where there is room for them, and waits no longer; and how many these are
+-- the first packet that waits is given as bytes, where there is room for them, and waits no longer;
+-- and how many these are
 abbrev pub IsGiven : (count : ℕ) → (buffer given : List ℕ) → (old new : List PacketOf) → Type 0
 IsGiven count buffer given [] new = (count ≡ 0) × (given ≡ buffer) × (new ≡ [])
 IsGiven count buffer given (p ∷ ps) new = (bytes : List ℕ) × Spells bytes p × (count ≡ length bytes)
@@ -42,7 +44,8 @@ pub record NodeActorOf : Type 0 where
   pub on : NodeOn
   pub waits : List PacketOf
 
--- how a ready frame is carried out: by its own turn, or by its task's whole value, which is found in so many turns
+-- how a ready frame is carried out: by its own turn, or by its task's whole value, which is found
+-- in so many turns
 abbrev pub carried : JobOf → Grant → ℕ → Option ℕ → NodeOf → Answer
 carried job g f None n = calls.exec_ready job g f n
 carried job g f (Some turns) n = calls.whole_ready job turns g f n
@@ -52,7 +55,8 @@ abbrev pub Did : Answer → Result Bool NodeCallError → (old new : NodeActorOf
 Did expected (Ok ignored) old new = (step : Step) × Meets expected (Ok step) old.on new.on × (new.waits ≡ step.sent)
 Did expected (Err e) old new = new ≡ old
 
--- the same of a frame that is carried out, with in how many turns its task's whole value was found, if it was
+-- the same of a frame that is carried out, with in how many turns its task's whole value was found,
+-- if it was
 abbrev pub IsCarried : Grant → ℕ → Result (Option ℕ) NodeCallError → (old new : NodeActorOf) → Type 0
 IsCarried g f (Ok turns) old new = (step : Step) × Meets (carried old.on.job g f turns old.on.node) (Ok step) old.on new.on × (new.waits ≡ step.sent)
 IsCarried g f (Err e) old new = new ≡ old
@@ -65,7 +69,8 @@ IsWorked (Ok (Some w)) old new = (work : Work) × (work_at old.on.node old.on.po
     × (step : Step) × Meets (carried old.on.job work.grant work.frame w.turns old.on.node) (Ok step) old.on new.on × (new.waits ≡ step.sent)
 IsWorked (Err e) old new = new ≡ old
 
--- what is told of what a node answers: whether it ignored a packet, or why it refuses; and what waits then
+-- what is told of what a node answers: whether it ignored a packet, or why it refuses; and what
+-- waits then
 abbrev pub NodeTells : Result Step NodeError → Result Bool NodeCallError → (before after : List PacketOf) → Type 0
 NodeTells (Ok step) result before after = (result ≡ Ok step.ignored) × (after ≡ step.sent)
 NodeTells (Err e) result before after = (result ≡ Err (Node e)) × (after ≡ before)
@@ -83,7 +88,8 @@ pub record HouseActorOf (D : Type 0) : Type 0 where
   pub on : HouseOn D
   pub waits : List PacketOf
 
--- what a clearinghouse answers meets a case, and one that is stopped answers why, and stays as it is
+-- what a clearinghouse answers meets a case, and one that is stopped answers why, and stays as it
+-- is
 abbrev pub MeetsStopped : {D : Type 0} → (Result HouseStep HouseError → HouseOn D → HouseOn D → Type 0) → Result HouseStep HouseError → HouseOn D → HouseOn D → Type 0
 MeetsStopped meets r old new = meets r old new × ((s : Stop) → old.state ≡ Stopped s → IsErrOf r (error_of_stop s) × (new ≡ old))
 

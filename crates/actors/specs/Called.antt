@@ -62,7 +62,8 @@ abbrev pub told_house : Result Bool HouseCallError → Result ℤ ActorError
 told_house (Ok ignored) = Ok (told ignored)
 told_house (Err e) = Err (of_house e)
 
--- of the ready frame that came first: 0 where there was none, 1 where it was carried out by its own turn, 2 where by its task's whole value
+-- of the ready frame that came first: 0 where there was none, 1 where it was carried out by its own
+-- turn, 2 where by its task's whole value
 abbrev pub told_turns : Option ℕ → ℤ
 told_turns None = pos 1
 told_turns (Some n) = pos 2

@@ -18,7 +18,8 @@ started job word = record { on = record { job = job; node = (calls.start job wor
 abbrev pub IsStarted : {D : Type 0} → List ℕ → List ℤ → (number word : ℕ) → Actor D → Type 0
 IsStarted text input number word a = (job : JobOf) × IsJobOf text input number job × (a ≡ Node (record { node = started job word; last = None }))
 
--- or it is the clearinghouse of that job, opened over a disk, for which a member may be silent for 500 moments; no packet waits
+-- or it is the clearinghouse of that job, opened over a disk, for which a member may be silent for
+-- 500 moments; no packet waits
 abbrev pub IsOpen : {D : Type 0} (device : D → Device) (planned : D → ℕ → Option (List ℕ)) → List ℕ → List ℤ → ℕ → Actor D → Type 0
 IsOpen {D} device planned text input number a = (job : JobOf) × IsJobOf text input number job
     × (disk : D) × (h : HouseActorOf D) × (files : FileCalls) × IsOpened device planned job 500 disk h.on × (h.waits ≡ [])

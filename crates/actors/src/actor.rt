@@ -34,8 +34,9 @@ pub enum Actor<'a, D: Disk> {
 }
 
 impl<'a, D: Disk> Actor<'a, D> {
-    /// What is asked of it is done. Of calls that may send: 0, or 1 where it ignored them; of `Call::Work` 0 where no frame was ready, 1 where one
-    /// was carried out by its own turn, 2 where by its task's whole value; else what is shown.
+    /// What is asked of it is done. Of calls that may send: 0, or 1 where it ignored them; of
+    /// `Call::Work` 0 where no frame was ready, 1 where one was carried out by its own turn, 2
+    /// where by its task's whole value; else what is shown.
     pub fn call(&mut self, call: Call) -> Result<i64, ActorError>
         ensures { IsCalled D.device D.planned call result self.old self.new }
     {
@@ -57,8 +58,9 @@ impl<'a, D: Disk> Actor<'a, D> {
         }
     }
 
-    /// Copies the first packet that waits to a buffer that is long enough, and it waits no longer. How many bytes it has; 0 where none waits.
-    /// Refused where something waits to be done to the file.
+    /// Copies the first packet that waits to a buffer that is long enough, and it waits no longer.
+    /// How many bytes it has; 0 where none waits. Refused where something waits to be done to the
+    /// file.
     pub fn give(&mut self, buffer: &mut [u8]) -> Result<i64, ActorError>
         ensures { IsHanded result buffer.old buffer.new self.old self.new }
     {
@@ -69,8 +71,9 @@ impl<'a, D: Disk> Actor<'a, D> {
         }
     }
 
-    /// Copies what is to be done next to the file to a buffer that is long enough, as `FileCalls::give` says, and it waits no longer. How many
-    /// bytes that has; 0 where nothing waits.
+    /// Copies what is to be done next to the file to a buffer that is long enough, as
+    /// `FileCalls::give` says, and it waits no longer. How many bytes that has; 0 where nothing
+    /// waits.
     pub fn give_file_call(&mut self, buffer: &mut [u8]) -> Result<i64, ActorError>
         ensures length { length buffer.new ≡ length buffer.old }
         ensures handed { IsFileHanded self.old self.new }
@@ -103,18 +106,18 @@ impl<'a> HostNode<'a> {
         ensures { NodeIsCalled call result self.old self.new }
     {
         match call {
-            Call::Work => self.works(),
+            Call::Work => self.work(),
             Call::AskHouse => told_of_node(self.node.ask_house()),
             Call::Ask(word) => told_of_node(self.node.ask(word)),
             Call::Resend => told_of_node(self.node.resend()),
             Call::Depart(heir) => told_of_node(self.node.depart(heir)),
             Call::Tick(_) => Err(ActorError::NotThis),
-            Call::See(seen) => self.shows(seen),
+            Call::See(seen) => self.show(seen),
         }
     }
 
     /// It carries out the ready frame that comes first, which is noted.
-    fn works(&mut self) -> Result<i64, ActorError>
+    fn work(&mut self) -> Result<i64, ActorError>
         ensures { NodeWorks result self.old self.new }
     {
         let worked = self.node.work()?;
@@ -123,7 +126,7 @@ impl<'a> HostNode<'a> {
     }
 
     /// What it shows of itself.
-    fn shows(&self, seen: Seen) -> Result<i64, ActorError> {
+    fn show(&self, seen: Seen) -> Result<i64, ActorError> {
         match seen {
             Seen::State => Ok(state_of(&self.node)),
             Seen::Ready => match self.node.is_ready() {
@@ -223,7 +226,7 @@ impl<'a, D: Disk> HostHouse<'a, D> {
                 }
                 told_of_house(self.house.tick(now))
             }
-            Call::See(seen) => self.shows(seen),
+            Call::See(seen) => self.show(seen),
             _ => Err(ActorError::NotThis),
         }
     }
@@ -249,7 +252,7 @@ impl<'a, D: Disk> HostHouse<'a, D> {
     }
 
     /// What it shows of itself.
-    fn shows(&self, seen: Seen) -> Result<i64, ActorError>
+    fn show(&self, seen: Seen) -> Result<i64, ActorError>
         ensures { HouseShows seen result self.now.house }
     {
         match seen {

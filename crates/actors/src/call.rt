@@ -1,6 +1,7 @@
 //! What a host asks of an actor.
 
-/// What a host asks of an actor. All but the last two are a node's; a moment comes to a clearinghouse.
+/// What a host asks of an actor. All but the last two are a node's; a moment comes to a
+/// clearinghouse.
 #[derive(Clone, Copy)]
 pub enum Call {
     /// It carries out the ready frame that comes first: `NodeActor::work`.
@@ -36,7 +37,8 @@ pub enum Seen {
     Outcome,
     /// A clearinghouse: the value, 0 where there is none.
     Value,
-    /// A node, of the frame that it carried out last by `Work`, each 0 where there was none: its grant's minter, and its number.
+    /// A node, of the frame that it carried out last by `Work`, each 0 where there was none: its
+    /// grant's minter, and its number.
     Minter,
     Grant,
     /// The frame's number.
@@ -84,7 +86,8 @@ impl Call {
     ghost use Rattle.std.specs.Prelude.{◌≡◌};
     ghost use Rattle.actors.specs.Numbers.{call_of};
 
-    /// The call of a number, with another one that it takes; none where it is no call's. To ask the worker 0 is to ask the clearinghouse.
+    /// The call of a number, with another one that it takes; none where it is no call's. To ask the
+    /// worker 0 is to ask the clearinghouse.
     pub fn of(what: u32, a: u64) -> Option<Call>
         ensures { result ≡ call_of what a }
     {

@@ -53,8 +53,9 @@ fn kept_job(alloc: Global, text: &[u8], input: &[i64], number: u64) -> Result<&'
 }
 
 impl HostActor {
-    /// A node that starts, with a start word; it evaluates a task in at most so many turns at once. Refused by the number of the job's fault (2 to
-    /// 18, 21, 9), by 60 for a word outside 1 to 2^63 - 1, and by 63 where there is no memory.
+    /// A node that starts, with a start word; it evaluates a task in at most so many turns at once.
+    /// Refused by the number of the job's fault (2 to 18, 21, 9), by 60 for a word outside 1 to
+    /// 2^63 - 1, and by 63 where there is no memory.
     pub fn node(
         alloc: Global,
         text: &[u8],
@@ -79,8 +80,9 @@ impl HostActor {
         }
     }
 
-    /// The clearinghouse over a file's content; an empty one is made a store first. What is to be done to the file waits. Refused by the number
-    /// of the job's fault, and as `House::open` is; the file is to be left as it is then.
+    /// The clearinghouse over a file's content; an empty one is made a store first. What is to be
+    /// done to the file waits. Refused by the number of the job's fault, and as `House::open` is;
+    /// the file is to be left as it is then.
     pub fn house(
         alloc: Global,
         text: &[u8],
@@ -110,7 +112,8 @@ impl HostActor {
         }
     }
 
-    /// What is asked of it by a number, with another one, is done, as `Actor::call` says. The number 6 ends it.
+    /// What is asked of it by a number, with another one, is done, as `Actor::call` says. The
+    /// number 6 ends it.
     pub fn call(&mut self, what: u32, a: u64) -> i64
         ensures { IsCalledBy ⟦<FileDisk<HostFile> as Disk>⟧.device ⟦<FileDisk<HostFile> as Disk>⟧.planned what a result self.old.actor self.new.actor }
     {
@@ -131,8 +134,8 @@ impl HostActor {
         numbered(self.actor.take(bytes))
     }
 
-    /// Copies to a buffer what waits for the host: by 0 the next packet, by 1 what is to be done next to the file, as `Actor::give` and
-    /// `Actor::give_file_call` say.
+    /// Copies to a buffer what waits for the host: by 0 the next packet, by 1 what is to be done
+    /// next to the file, as `Actor::give` and `Actor::give_file_call` say.
     pub fn give(&mut self, what: u32, buffer: &mut [u8]) -> i64
         ensures { IsGivenBy what result buffer.old buffer.new self.old.actor self.new.actor }
     {

@@ -1,8 +1,10 @@
 //! A file that a host keeps.
 //!
-//! An actor does no input or output. So the clearinghouse's disk is over a copy of the file's content, and what is done to it waits for the
-//! host, which does the same to the file, call by call, before it takes the packets that came with it: then what a crash leaves of the file
-//! is what a crash may leave of the disk. Where one of these calls fails, the host lets the actor go, as by a crash.
+//! An actor does no input or output. So the clearinghouse's disk is over a copy of the file's
+//! content, and what is done to it waits for the host, which does the same to the file, call by
+//! call, before it takes the packets that came with it: then what a crash leaves of the file is
+//! what a crash may leave of the disk. Where one of these calls fails, the host lets the actor go,
+//! as by a crash.
 ghost use Rattle.std.specs.Prelude.{◌≡◌, ◌≤◌, IfOk, length};
 
 use std::alloc::{AllocError, Global};
@@ -85,9 +87,10 @@ impl HostFile {
 }
 
 impl FileCalls {
-    /// Copies the first call that waits to the beginning of a buffer that is long enough, and it waits no longer: one byte, 1 for bytes that
-    /// are written, 2 for a new length, 3 for a sync; then eight, the highest first, the offset or the new length; then the bytes. How many
-    /// bytes that has; 0 where none waits.
+    /// Copies the first call that waits to the beginning of a buffer that is long enough, and it
+    /// waits no longer: one byte, 1 for bytes that are written, 2 for a new length, 3 for a sync;
+    /// then eight, the highest first, the offset or the new length; then the bytes. How many bytes
+    /// that has; 0 where none waits.
     pub fn give(&self, buffer: &mut [u8]) -> usize
         ensures { length buffer.new ≡ length buffer.old }
     {

@@ -17,11 +17,12 @@ use serial_meaning::Job;
 use std::alloc::Global;
 use std::marker::Model;
 
-/// The clearinghouse of a host, over a disk, and the packets that wait for the host. Contracts see the clearinghouse with its job and its
-/// checkpoint's store, and these packets in their order.
+/// The clearinghouse of a host, over a disk, and the packets that wait for the host. Contracts see
+/// the clearinghouse with its job and its checkpoint's store, and these packets in their order.
 ///
-/// A call that may send is refused where packets wait (`Unsent`), and changes nothing. Else it is one case of the protocol: what the
-/// clearinghouse sends waits then, and it is told whether a packet was ignored, or why the clearinghouse refuses the call.
+/// A call that may send is refused where packets wait (`Unsent`), and changes nothing. Else it is
+/// one case of the protocol: what the clearinghouse sends waits then, and it is told whether a
+/// packet was ignored, or why the clearinghouse refuses the call.
 #[derive(Drop)]
 pub struct HouseActor<'a, D: Disk> {
     alloc: Global,
@@ -44,7 +45,8 @@ impl<'a, D: Disk> Model for HouseActor<'a, D> {
 }
 
 impl<'a, D: Disk> HouseActor<'a, D> {
-    /// Opens the clearinghouse of a job over its checkpoint, as `House::open` does. No packet waits. Refused, it gives the disk back.
+    /// Opens the clearinghouse of a job over its checkpoint, as `House::open` does. No packet
+    /// waits. Refused, it gives the disk back.
     pub fn open(
         alloc: Global,
         job: &'a Job,
@@ -81,7 +83,8 @@ impl<'a, D: Disk> HouseActor<'a, D> {
         self.outbox.is_empty()
     }
 
-    /// Copies the first packet that waits to a buffer that is long enough, and it waits no longer. How many bytes it has; 0 where none waits.
+    /// Copies the first packet that waits to a buffer that is long enough, and it waits no longer.
+    /// How many bytes it has; 0 where none waits.
     pub fn give(&mut self, buffer: &mut [u8]) -> usize
         ensures given { IsGiven result buffer.old buffer.new self.old.waits self.new.waits }
         ensures house { self.new.on ≡ self.old.on }
@@ -95,9 +98,9 @@ impl<'a, D: Disk> HouseActor<'a, D> {
         ensures called { self.old.waits ≡ [] → HouseCalled (MeetsStopped (HouseMeets D.device D.planned (calls.on_bytes
             self.old.on.job bytes.now self.old.on.state))) result self.old self.new }
     {
-        self.sends()?;
+        self.check_clear()?;
         let answer = self.house.on_bytes(self.alloc, bytes);
-        self.tells(answer)
+        self.tell(answer)
     }
 
     /// A moment comes: the case of `House::tick`.
@@ -106,9 +109,9 @@ impl<'a, D: Disk> HouseActor<'a, D> {
         ensures called { self.old.waits ≡ [] → HouseCalled (MeetsStopped (HouseMeets D.device D.planned (calls.tick
             self.old.on.job now self.old.on.state))) result self.old self.new }
     {
-        self.sends()?;
+        self.check_clear()?;
         let answer = self.house.tick(self.alloc, now);
-        self.tells(answer)
+        self.tell(answer)
     }
 
     /// Gives the disk back.
@@ -120,7 +123,7 @@ impl<'a, D: Disk> HouseActor<'a, D> {
     }
 
     /// A call that may send is refused where packets wait.
-    fn sends(&self) -> Result<(), HouseCallError>
+    fn check_clear(&self) -> Result<(), HouseCallError>
         ensures ok { OnOk result (self.now.waits ≡ []) }
         ensures err { IfErr result (λ e. (e ≡ Unsent) × (0 < length self.now.waits)) }
     {
@@ -132,7 +135,7 @@ impl<'a, D: Disk> HouseActor<'a, D> {
     }
 
     /// What a call sends waits, and what is told of it is answered.
-    fn tells(&mut self, answer: Result<HouseStep, HouseError>) -> Result<bool, HouseCallError>
+    fn tell(&mut self, answer: Result<HouseStep, HouseError>) -> Result<bool, HouseCallError>
         ensures told { HouseTells answer result self.old.waits self.new.waits }
         ensures house { self.new.on ≡ self.old.on }
     {

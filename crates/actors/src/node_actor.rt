@@ -18,7 +18,8 @@ use serial_meaning::{Flat, Job, Whole};
 use std::alloc::Global;
 use std::marker::Model;
 
-/// A frame that was carried out, by its numbers: by its own turn, or by its task's whole value, which was found in so many turns.
+/// A frame that was carried out, by its numbers: by its own turn, or by its task's whole value,
+/// which was found in so many turns.
 #[derive(Clone, Copy)]
 pub struct Worked {
     pub minter: u64,
@@ -27,10 +28,12 @@ pub struct Worked {
     pub turns: Option<u64>,
 }
 
-/// A node of a host, and the packets that wait for it. Contracts see the node with its job, and these packets in their order.
+/// A node of a host, and the packets that wait for it. Contracts see the node with its job, and
+/// these packets in their order.
 ///
-/// A call that may send is refused where packets wait (`Unsent`), and changes nothing. Else it is one case of the protocol: what the node
-/// sends waits then, and it is told whether a packet was ignored, or why the node refuses the call.
+/// A call that may send is refused where packets wait (`Unsent`), and changes nothing. Else it is
+/// one case of the protocol: what the node sends waits then, and it is told whether a packet was
+/// ignored, or why the node refuses the call.
 #[derive(Drop)]
 pub struct NodeActor<'a> {
     alloc: Global,
@@ -60,8 +63,8 @@ impl<'a> Model for NodeActor<'a> {
 }
 
 impl<'a> NodeActor<'a> {
-    /// A node that starts; its Join waits. Each call of `work` evaluates a task in at most so many turns. Refused only when out of memory
-    /// (E63).
+    /// A node that starts; its Join waits. Each call of `work` evaluates a task in at most so many
+    /// turns. Refused only when out of memory (E63).
     pub fn start(
         alloc: Global,
         job: &'a Job,
@@ -110,7 +113,8 @@ impl<'a> NodeActor<'a> {
         self.outbox.is_empty()
     }
 
-    /// Copies the first packet that waits to a buffer that is long enough, and it waits no longer. How many bytes it has; 0 where none waits.
+    /// Copies the first packet that waits to a buffer that is long enough, and it waits no longer.
+    /// How many bytes it has; 0 where none waits.
     pub fn give(&mut self, buffer: &mut [u8]) -> usize
         ensures given { IsGiven result buffer.old buffer.new self.old.waits self.new.waits }
         ensures node { self.new.on ≡ self.old.on }
@@ -124,18 +128,19 @@ impl<'a> NodeActor<'a> {
         ensures called { self.old.waits ≡ [] → NodeCalled (Meets (cases.on_bytes self.old.on.job (own_candidate self.old.on.posts)
             bytes.now self.old.on.node)) result self.old self.new }
     {
-        self.sends()?;
+        self.check_clear()?;
         let answer = self.node.on_bytes(self.alloc, bytes);
-        self.tells(answer)
+        self.tell(answer)
     }
 
-    /// Carries out the ready frame that comes first, the newest of the deepest level: by its task's whole value, where one evaluation or a
-    /// value that an earlier one kept gives it, else by its own turn. None where no frame is ready.
+    /// Carries out the ready frame that comes first, the newest of the deepest level: by its task's
+    /// whole value, where one evaluation or a value that an earlier one kept gives it, else by its
+    /// own turn. None where no frame is ready.
     pub fn work(&mut self) -> Result<Option<Worked>, NodeCallError>
         ensures unsent { 0 < length self.old.waits → (result ≡ Err Unsent) × (self.new ≡ self.old) }
         ensures worked { self.old.waits ≡ [] → IsWorked result self.old self.new }
     {
-        self.sends()?;
+        self.check_clear()?;
         let work = match self.node.ready_at(self.alloc, 0) {
             Ok(Some(work)) => work,
             Ok(None) => return Ok(None),
@@ -143,7 +148,7 @@ impl<'a> NodeActor<'a> {
         };
         let (grant, frame) = (work.grant, work.frame);
         let found = self.value_of(work);
-        let turns = self.carries_out(grant, frame, found)?;
+        let turns = self.carry_out(grant, frame, found)?;
         Ok(Some(Worked {
             minter: grant.minter().word(),
             number: grant.number(),
@@ -162,7 +167,7 @@ impl<'a> NodeActor<'a> {
             return None;
         }
         if let Some(whole) = self.kept.take(&work) {
-            self.sizes.ends_kept(&whole);
+            self.sizes.use_kept(&whole);
             return Some(whole);
         }
         let most_turns = self.sizes.most_turns();
@@ -186,18 +191,19 @@ impl<'a> NodeActor<'a> {
             self.sizes.levels(),
         ) {
             Ok(whole) => {
-                self.sizes.ends(&whole);
+                self.sizes.succeed(&whole);
                 Some(whole)
             }
             Err((_, left)) => {
-                self.kept.add(self.sizes.fails(thread, left));
+                self.kept.add(self.sizes.fail(thread, left));
                 None
             }
         }
     }
 
-    /// A ready frame is carried out by its task's whole value, where that was found, or by its own turn. In how many turns it was found.
-    fn carries_out(
+    /// A ready frame is carried out by its task's whole value, where that was found, or by its own
+    /// turn. In how many turns it was found.
+    fn carry_out(
         &mut self,
         grant: GrantId,
         frame: FrameNo,
@@ -209,18 +215,18 @@ impl<'a> NodeActor<'a> {
         match found {
             Some(whole) => {
                 let turns = whole.turns();
-                self.sends_whole(grant, frame, &whole)?;
+                self.send_whole(grant, frame, &whole)?;
                 Ok(Some(turns))
             }
             None => {
-                self.sends_turn(grant, frame)?;
+                self.send_turn(grant, frame)?;
                 Ok(None)
             }
         }
     }
 
     /// A ready frame is carried out by its task's whole value.
-    fn sends_whole(
+    fn send_whole(
         &mut self,
         grant: GrantId,
         frame: FrameNo,
@@ -232,15 +238,15 @@ impl<'a> NodeActor<'a> {
         let answer = self
             .node
             .whole_with(self.alloc, &self.flat, grant, frame, whole.turns(), whole);
-        self.tells(answer)
+        self.tell(answer)
     }
 
     /// A ready frame is carried out by its own turn.
-    fn sends_turn(&mut self, grant: GrantId, frame: FrameNo) -> Result<bool, NodeCallError>
+    fn send_turn(&mut self, grant: GrantId, frame: FrameNo) -> Result<bool, NodeCallError>
         ensures { Did (carried self.old.on.job grant frame None self.old.on.node) result self.old self.new }
     {
         let answer = self.node.exec_ready(self.alloc, grant, frame);
-        self.tells(answer)
+        self.tell(answer)
     }
 
     /// Carries out a ready frame, by its numbers: the case of `Node::exec_ready`.
@@ -249,14 +255,15 @@ impl<'a> NodeActor<'a> {
         ensures called { self.old.waits ≡ [] → NodeCalled (MeetsUnless (calls.exec_ready self.old.on.job
             (record { minter = minter; number = number }) frame self.old.on.node) MayLackMemory) result self.old self.new }
     {
-        self.sends()?;
+        self.check_clear()?;
         let answer = self
             .node
             .exec_ready_named(self.alloc, minter, number, frame);
-        self.tells(answer)
+        self.tell(answer)
     }
 
-    /// Carries out a ready frame, by its numbers, with its task's whole value in at most so many turns: the case of `Node::whole_ready`.
+    /// Carries out a ready frame, by its numbers, with its task's whole value in at most so many
+    /// turns: the case of `Node::whole_ready`.
     pub fn whole(
         &mut self,
         minter: u64,
@@ -268,11 +275,11 @@ impl<'a> NodeActor<'a> {
         ensures called { self.old.waits ≡ [] → NodeCalled (MeetsUnless (calls.whole_ready self.old.on.job most_turns
             (record { minter = minter; number = number }) frame self.old.on.node) MayLackMemory) result self.old self.new }
     {
-        self.sends()?;
+        self.check_clear()?;
         let answer = self
             .node
             .whole_ready_named(self.alloc, &self.flat, minter, number, frame, most_turns);
-        self.tells(answer)
+        self.tell(answer)
     }
 
     /// Asks the clearinghouse for work: the case of `Node::ask`.
@@ -281,9 +288,9 @@ impl<'a> NodeActor<'a> {
         ensures called { self.old.waits ≡ [] → NodeCalled (MeetsUnless (calls.ask self.old.on.job victim.House self.old.on.node)
             LacksMemoryLast) result self.old self.new }
     {
-        self.sends()?;
+        self.check_clear()?;
         let answer = self.node.ask(self.alloc, Victim::House);
-        self.tells(answer)
+        self.tell(answer)
     }
 
     /// Asks another worker for work, by its start word: the same.
@@ -292,9 +299,9 @@ impl<'a> NodeActor<'a> {
         ensures called { self.old.waits ≡ [] → NodeCalled (MeetsUnless (calls.ask self.old.on.job (victim.Worker word) self.old.on.node)
             LacksMemoryLast) result self.old self.new }
     {
-        self.sends()?;
+        self.check_clear()?;
         let answer = self.node.ask_named(self.alloc, word);
-        self.tells(answer)
+        self.tell(answer)
     }
 
     /// Sends again what isn't answered: the case of `Node::resend`.
@@ -303,9 +310,9 @@ impl<'a> NodeActor<'a> {
         ensures called { self.old.waits ≡ [] → NodeCalled (MeetsUnless (calls.resend self.old.on.job self.old.on.node) MayLackMemory)
             result self.old self.new }
     {
-        self.sends()?;
+        self.check_clear()?;
         let answer = self.node.resend(self.alloc);
-        self.tells(answer)
+        self.tell(answer)
     }
 
     /// Leaves, and hands its work to an heir, by its start word: the case of `Node::depart`.
@@ -314,13 +321,13 @@ impl<'a> NodeActor<'a> {
         ensures called { self.old.waits ≡ [] → NodeCalled (MeetsUnless (calls.depart self.old.on.job heir self.old.on.node) MayLackMemory)
             result self.old self.new }
     {
-        self.sends()?;
+        self.check_clear()?;
         let answer = self.node.depart_named(self.alloc, heir);
-        self.tells(answer)
+        self.tell(answer)
     }
 
     /// A call that may send is refused where packets wait.
-    fn sends(&self) -> Result<(), NodeCallError>
+    fn check_clear(&self) -> Result<(), NodeCallError>
         ensures ok { OnOk result (self.now.waits ≡ []) }
         ensures err { IfErr result (λ e. (e ≡ Unsent) × (0 < length self.now.waits)) }
     {
@@ -332,7 +339,7 @@ impl<'a> NodeActor<'a> {
     }
 
     /// What a call sends waits, and what is told of it is answered.
-    fn tells(&mut self, answer: Result<Step, NodeError>) -> Result<bool, NodeCallError>
+    fn tell(&mut self, answer: Result<Step, NodeError>) -> Result<bool, NodeCallError>
         ensures told { NodeTells answer result self.old.waits self.new.waits }
         ensures node { self.new.on ≡ self.old.on }
     {

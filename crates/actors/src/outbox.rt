@@ -53,7 +53,8 @@ impl Outbox {
         self.first.is_none() && self.turned.is_empty()
     }
 
-    /// Copies the first one to the beginning of a buffer that is long enough, and it waits no longer. How many bytes it has; 0 where none waits.
+    /// Copies the first one to the beginning of a buffer that is long enough, and it waits no
+    /// longer. How many bytes it has; 0 where none waits.
     pub fn give(&mut self, buffer: &mut [u8]) -> usize
         ensures { IsGiven result buffer.old buffer.new self.old self.new }
     {

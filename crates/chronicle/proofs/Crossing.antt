@@ -1,5 +1,5 @@
--- Which values may cross threads: a world with its history and a seat may go to another thread where its disk may, and so a chronicle is
--- shared.
+-- Which values may cross threads: a world with its history and a seat may go to another thread
+-- where its disk may, and so a chronicle is shared.
 use denote.RattleType.{RattleType}
 use denote.Enum.Declared.{shape as cases}
 use denote.Builtin.{bool}

@@ -9,7 +9,8 @@ use Rattle.chronicle.specs.declared.chronicle.Delivery.TheVariants.{Came, Looked
 use Rattle.chronicle.specs.declared.kept.Entry.{Entry}
 use Rattle.chronicle.specs.History.{entry}
 
--- a packet of a number comes to the node of a place, or where there is no place to the clearinghouse
+-- a packet of a number comes to the node of a place, or where there is no place to the
+-- clearinghouse
 abbrev pub delivery : Option ℕ → ℕ → Event
 delivery (Some p) index = AtNode p (node.Deliver index)
 delivery None index = AtHouse (house.Deliver index)

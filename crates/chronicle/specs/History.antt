@@ -31,7 +31,8 @@ actor_of e = actor_number e.event
 abbrev pub entry : Event → EventAnswer → Entry
 entry event told = record { event = event; told = told }
 
--- the outcome that is told: of an event of the clearinghouse the one that is recorded after it, if one is
+-- the outcome that is told: of an event of the clearinghouse the one that is recorded after it, if
+-- one is
 abbrev pub outcome_told : EventAnswer → Option Outcome
 outcome_told told.Unfit = None
 outcome_told told.Ignored = None
@@ -60,8 +61,8 @@ pub record BeginningOf : Type 0 where
 abbrev pub beginning : JobOf → Device → BeginningOf
 beginning job disk = record { job = job; disk = disk }
 
--- a list of entries is a history of a job over a disk: a run begins with that disk, on which no outcome stands, it has these events, and
--- its answers are told so
+-- a list of entries is a history of a job over a disk: a run begins with that disk, on which no
+-- outcome stands, it has these events, and its answers are told so
 pub record IsHistory (job : JobOf) (disk : Device) (entries : List Entry) : Type 0 where
   pub first : IsFirst job disk
   pub steps : List RunEntry
@@ -69,8 +70,9 @@ pub record IsHistory (job : JobOf) (disk : Device) (entries : List Entry) : Type
   pub runs : Runs job (first_over disk) steps worlds
   pub told : map told_entry steps ≡ entries
 
--- and where the values agree that are saved on the disk, all worlds of the run are safe, agree with the serial meaning, and have lost
--- nothing; on a disk that was formatted for the job no value is saved
+-- and where the values agree that are saved on the disk, all worlds of the run are safe, agree with
+-- the serial meaning, and have lost nothing; on a disk that was formatted for the job no value is
+-- saved
 pub record IsSafeHistory (job : JobOf) (disk : Device) (entries : List Entry) : Type 0 where
   pub history : IsHistory job disk entries
   pub safe : StoredAgree job disk → AllSafe job (first_over disk ∷ history.worlds)

@@ -9,7 +9,8 @@ use Rattle.world_steps.specs.World.{WorldOf}
 use Rattle.chronicle.specs.declared.kept.Entry.{Entry}
 use Rattle.chronicle.specs.History.{IsHistory, IsSafeHistory, reached}
 
--- a world, the disk with which its run began, the history that led to it, and whether an event found no memory
+-- a world, the disk with which its run began, the history that led to it, and whether an event
+-- found no memory
 pub record KeptOf : Type 0 where
   pub on : WorldOn
   pub first : Device
@@ -25,7 +26,8 @@ pub record OutOfMemoryBy (job : JobOf) (w v : WorldOf) : Type 0 where
   pub out_of_memory : IsOutOfMemory event (record { job = job; world = w; is_placed = was_placed }) is_placed after
   pub left : v ≡ after.world
 
--- a world is the one that was reached; where an event found no memory, it differs from that at most in what this event left
+-- a world is the one that was reached; where an event found no memory, it differs from that at most
+-- in what this event left
 abbrev pub Stands : JobOf → Bool → (reached world : WorldOf) → Type 0
 Stands job out_of_memory w v = MatchBool out_of_memory ((v ≡ w) ⊎ OutOfMemoryBy job w v) (v ≡ w)
 

@@ -9,7 +9,8 @@ use Rattle.turn_lock.specs.Seats.{LockOf, SeatOf}
 use Rattle.chronicle.specs.declared.kept.Entry.{Entry}
 use Rattle.chronicle.specs.History.{BeginningOf, actor_of, beginning}
 
--- a chronicle: which it is, how many actors have a seat, its job, and the disk with which its history begins
+-- a chronicle: which it is, how many actors have a seat, its job, and the disk with which its
+-- history begins
 pub record ChronicleOf : Type 0 where
   pub chronicle : TableId
   pub actors : ℕ
@@ -20,8 +21,9 @@ pub record ChronicleOf : Type 0 where
 abbrev pub chronicle_of : LockOf BeginningOf → ChronicleOf
 chronicle_of l = record { chronicle = l.table; actors = l.actors; job = l.fixed.job; first = l.fixed.disk }
 
--- a seat: its chronicle, and how many actors that has; its actor, and the entries of this actor's events, the newest last; the
--- history, while the kept value is out with the seat; and with what the history begins
+-- a seat: its chronicle, and how many actors that has; its actor, and the entries of this actor's
+-- events, the newest last; the history, while the kept value is out with the seat; and with what
+-- the history begins
 pub record ActorSeatOf : Type 0 where
   pub chronicle : TableId
   pub actors : ℕ
@@ -54,7 +56,8 @@ first_last (x ∷ xs) = xs ++ x ∷ []
 abbrev pub entries_of : List ActorSeatOf → ℕ → List Entry
 entries_of seats a = flat_map (λ s. if s.actor == a then s.entries else []) seats
 
--- the trace has of each actor just what its seat has, in the same order, and of nobody else anything
+-- the trace has of each actor just what its seat has, in the same order, and of nobody else
+-- anything
 abbrev pub TellsOf : List ActorSeatOf → List Entry → Type 0
 TellsOf seats trace = (a : ℕ) → own actor_of a trace ≡ entries_of seats a
 

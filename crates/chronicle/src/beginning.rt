@@ -7,7 +7,8 @@ use std::marker::Model;
 use std::snapshot::Snapshot;
 use world_steps::FirstDisk;
 
-/// With what a history begins, as contracts see it: its job, and the device over which its clearinghouse stands. It takes no bytes.
+/// With what a history begins, as contracts see it: its job, and the device over which its
+/// clearinghouse stands. It takes no bytes.
 #[derive(Drop)]
 pub struct Beginning<D: SteadyDisk + Drop = MemDisk> {
     job: Snapshot<Job>,

@@ -42,7 +42,8 @@ const ROSTER: u8 = 2;
 /// The number of the kind Save, at the same place.
 const SAVE: u8 = 14;
 
-/// For whom a packet is: the clearinghouse, in whichever epoch; the same, where it is a Save; or the worker of a start word.
+/// For whom a packet is: the clearinghouse, in whichever epoch; the same, where it is a Save; or
+/// the worker of a start word.
 #[derive(Clone, Copy, Debug, PartialEq, Eq)]
 pub enum Receiver {
     Clearinghouse,
@@ -71,21 +72,24 @@ pub struct Arrived {
     pub roster: Option<Vec<u8>>,
 }
 
-/// What is told of an event that was committed, and a ready frame that was found right behind it, in the same turn of the lock.
+/// What is told of an event that was committed, and a ready frame that was found right behind it,
+/// in the same turn of the lock.
 #[derive(Drop)]
 pub struct Continued {
     pub committed: Committed,
     pub next: Option<Work>,
 }
 
-/// What a look for a packet came to: one that came, with what was told of it, or how many packets were looked at in all.
+/// What a look for a packet came to: one that came, with what was told of it, or how many packets
+/// were looked at in all.
 #[derive(Drop)]
 pub enum Delivery {
     Came(Arrived, Committed),
     Looked(u64),
 }
 
-/// What a chronicle comes to: what was committed, the disk of its clearinghouse, and whether an event found no memory.
+/// What a chronicle comes to: what was committed, the disk of its clearinghouse, and whether an
+/// event found no memory.
 #[derive(Drop)]
 pub struct Finished<D: Drop> {
     pub trace: Trace,
@@ -101,8 +105,9 @@ struct Wanted<'f> {
     besides: &'f [FrameOf],
 }
 
-/// A world under a lock, with the history that led to it. Threads share it by reference, each with the seats of its actors. Contracts see
-/// which chronicle it is, how many actors have a seat, the job, and the disk with which its history begins.
+/// A world under a lock, with the history that led to it. Threads share it by reference, each with
+/// the seats of its actors. Contracts see which chronicle it is, how many actors have a seat, the
+/// job, and the disk with which its history begins.
 #[derive(Drop)]
 pub struct Chronicle<'a, D: SteadyDisk + Drop = MemDisk> {
     job: &'a Job,
@@ -129,8 +134,9 @@ impl<'a, D: SteadyDisk + Drop> Model for Chronicle<'a, D> {
 }
 
 impl<'a, D: SteadyDisk + Drop> Chronicle<'a, D> {
-    /// A chronicle of a job's first world over the disk with which its run begins, with no history, and a seat for each actor: those of the nodes 0 to `nodes - 1` by rising
-    /// place, and the clearinghouse's last. Refused only when out of memory (E9).
+    /// A chronicle of a job's first world over the disk with which its run begins, with no history,
+    /// and a seat for each actor: those of the nodes 0 to `nodes - 1` by rising place, and the
+    /// clearinghouse's last. Refused only when out of memory (E9).
     #[tactic(auto, using(crate::proofs::Seats::all_blank, crate::proofs::Seats::in_order))]
     pub fn new(
         alloc: Global,
@@ -153,9 +159,10 @@ impl<'a, D: SteadyDisk + Drop> Chronicle<'a, D> {
         Ok((Chronicle { job, lock, sent }, seats))
     }
 
-    /// An event of the seat's actor is carried out, and becomes the seat's next entry. What it tells is of a step of the world that was
-    /// under the lock. Where what is saved on the disk agrees with which the history begins, an outcome that it tells is the job's meaning.
-    /// E9 where there is no memory, and from then on; the seat is as it was then.
+    /// An event of the seat's actor is carried out, and becomes the seat's next entry. What it
+    /// tells is of a step of the world that was under the lock. Where what is saved on the disk
+    /// agrees with which the history begins, an outcome that it tells is the job's meaning. E9
+    /// where there is no memory, and from then on; the seat is as it was then.
     pub fn commit<R: Wait>(
         &self,
         rt: &R,
@@ -176,9 +183,10 @@ impl<'a, D: SteadyDisk + Drop> Chronicle<'a, D> {
         Ok(continued.committed)
     }
 
-    /// As `commit`, with a turn of the job's program that was evaluated before. An Exec uses it where it is the ready frame's own, of
-    /// its thread on its numbers; else it is put aside, and the frame's body is evaluated in the step. Right behind it, in the same turn
-    /// of the lock, a ready frame is looked for as by `ready`.
+    /// As `commit`, with a turn of the job's program that was evaluated before. An Exec uses it
+    /// where it is the ready frame's own, of its thread on its numbers; else it is put aside, and
+    /// the frame's body is evaluated in the step. Right behind it, in the same turn of the lock, a
+    /// ready frame is looked for as by `ready`.
     pub fn commit_turn<R: Wait>(
         &self,
         rt: &R,
@@ -209,9 +217,10 @@ impl<'a, D: SteadyDisk + Drop> Chronicle<'a, D> {
         self.enter(rt, seat, event, Some(turn), None, Some(&wanted))
     }
 
-    /// As `commit_turn`, with a task of the job's program that was evaluated whole before. A Whole uses it where it is the ready frame's
-    /// own, of its thread on its numbers, in the room below its place and in no more turns; else it is put aside, and the frame's task is
-    /// evaluated in the step.
+    /// As `commit_turn`, with a task of the job's program that was evaluated whole before. A Whole
+    /// uses it where it is the ready frame's own, of its thread on its numbers, in the room below
+    /// its place and in no more turns; else it is put aside, and the frame's task is evaluated in
+    /// the step.
     pub fn commit_whole<R: Wait>(
         &self,
         rt: &R,
@@ -242,10 +251,11 @@ impl<'a, D: SteadyDisk + Drop> Chronicle<'a, D> {
         self.enter(rt, seat, event, None, Some(whole), Some(&wanted))
     }
 
-    /// The first packet from the one of a number on that is addressed to a receiver comes to the node of a place, or where there is no
-    /// place to the clearinghouse, in the turn of the lock in which it is found: its delivery is committed, as by `commit`. Where none is
-    /// found nothing is committed, and it is told how many packets were looked at: as by `packet_for`, or those before a Roster whose
-    /// bytes find no memory.
+    /// The first packet from the one of a number on that is addressed to a receiver comes to the
+    /// node of a place, or where there is no place to the clearinghouse, in the turn of the lock in
+    /// which it is found: its delivery is committed, as by `commit`. Where none is found nothing is
+    /// committed, and it is told how many packets were looked at: as by `packet_for`, or those
+    /// before a Roster whose bytes find no memory.
     pub fn commit_delivery<R: Wait>(
         &self,
         rt: &R,
@@ -266,15 +276,15 @@ impl<'a, D: SteadyDisk + Drop> Chronicle<'a, D> {
         ensures err { OnErr result (seat.new ≡ seat.old) }
     {
         let mut kept = self.lock.take(rt, &mut seat.seat);
-        let found = arrives(alloc, &kept, from, receiver);
-        let answer = comes(&mut kept, seat, place, found);
-        self.sent.notes(&kept);
+        let found = find_packet(alloc, &kept, from, receiver);
+        let answer = deliver(&mut kept, seat, place, found);
+        self.sent.note(&kept);
         self.lock.put(&mut seat.seat, kept);
         answer
     }
 
-    // An event is carried out under the lock, with what was evaluated for it, if that is at hand, and then a ready frame is looked for, if
-    // one is wanted.
+    // An event is carried out under the lock, with what was evaluated for it, if that is at hand,
+    // and then a ready frame is looked for, if one is wanted.
     fn enter<R: Wait>(
         &self,
         rt: &R,
@@ -303,15 +313,16 @@ impl<'a, D: SteadyDisk + Drop> Chronicle<'a, D> {
             Some(wanted) => wanted.work_in(self.job, &kept),
             None => None,
         };
-        self.sent.notes(&kept);
+        self.sent.note(&kept);
         self.lock.put(&mut seat.seat, kept);
         let committed = answer?;
         Ok(Continued { committed, next })
     }
 
-    /// The first ready frame of the node of a place that isn't among these, from the deepest level on and in a level the newest first;
-    /// none where there is none, or when out of memory. It is a hint: the next event may find the world changed. Its thread takes its
-    /// numbers, so that its turn can be evaluated outside the lock.
+    /// The first ready frame of the node of a place that isn't among these, from the deepest level
+    /// on and in a level the newest first; none where there is none, or when out of memory. It is a
+    /// hint: the next event may find the world changed. Its thread takes its numbers, so that its
+    /// turn can be evaluated outside the lock.
     pub fn ready<R: Wait>(
         &self,
         rt: &R,
@@ -335,8 +346,8 @@ impl<'a, D: SteadyDisk + Drop> Chronicle<'a, D> {
         work
     }
 
-    /// The number of the first packet from one on that is addressed to a receiver. Else how many packets were looked at: all that were
-    /// sent. A hint. It takes no memory.
+    /// The number of the first packet from one on that is addressed to a receiver. Else how many
+    /// packets were looked at: all that were sent. A hint. It takes no memory.
     pub fn packet_for<R: Wait>(
         &self,
         rt: &R,
@@ -353,8 +364,8 @@ impl<'a, D: SteadyDisk + Drop> Chronicle<'a, D> {
         found
     }
 
-    /// The number of the first Save from the packet of a number on, and how many steps its place has. Else how many packets were looked at:
-    /// all that were sent. A hint. It takes no memory.
+    /// The number of the first Save from the packet of a number on, and how many steps its place
+    /// has. Else how many packets were looked at: all that were sent. A hint. It takes no memory.
     pub fn save_for<R: Wait>(
         &self,
         rt: &R,
@@ -377,21 +388,23 @@ impl<'a, D: SteadyDisk + Drop> Chronicle<'a, D> {
         self.job
     }
 
-    /// How many packets were sent, as far as is known without the lock. A hint, which may lag behind.
+    /// How many packets were sent, as far as is known without the lock. A hint, which may lag
+    /// behind.
     pub fn sent(&self) -> u64 {
         self.sent.all()
     }
 
-    /// How many packets were sent up to the last one that may be addressed to a receiver, as far as is known without the lock. Who reads
-    /// `sent` first and then this: from this number on, and below that one, no packet is addressed to the receiver. A hint, which may lag
-    /// behind.
+    /// How many packets were sent up to the last one that may be addressed to a receiver, as far as
+    /// is known without the lock. Who reads `sent` first and then this: from this number on, and
+    /// below that one, no packet is addressed to the receiver. A hint, which may lag behind.
     pub fn sent_to(&self, receiver: Receiver) -> u64 {
         self.sent.to(receiver)
     }
 
-    /// Ends the chronicle, once all seats are back, and gives the disk back. What was committed is a safe history of the job over the disk
-    /// with which it began, which has of each actor just what its seat has, in the same order, and nothing else; the disk is the one that it
-    /// leaves. None only where a seat is missing. It takes no memory.
+    /// Ends the chronicle, once all seats are back, and gives the disk back. What was committed is
+    /// a safe history of the job over the disk with which it began, which has of each actor just
+    /// what its seat has, in the same order, and nothing else; the disk is the one that it leaves.
+    /// None only where a seat is missing. It takes no memory.
     pub fn finish(self, mut seats: Vec<ActorSeat<'a, D>>) -> Option<Finished<D>>
         requires own { All (IsSeatIn self) seats.items }
         ensures run { IfSome result (λ r. IsSafeHistory self.entry.job self.entry.first r.trace) }
@@ -440,8 +453,9 @@ fn by_place<'a, D: SteadyDisk + Drop>(
     Ok(seats)
 }
 
-/// A packet that was found comes, as the next entry of the history; where none was found nothing does.
-fn comes<'a, D: SteadyDisk + Drop>(
+/// A packet that was found comes, as the next entry of the history; where none was found nothing
+/// does.
+fn deliver<'a, D: SteadyDisk + Drop>(
     kept: &mut Kept<'a, D>,
     seat: &mut ActorSeat<'a, D>,
     place: Option<NodePlace>,
@@ -460,7 +474,8 @@ fn comes<'a, D: SteadyDisk + Drop>(
         → (o : Outcome) → outcome_told e.told ≡ Some o → o ≡ meaning_of kept.old.on.job)) }
     ensures err { OnErr result (kept.new.entries ≡ kept.old.entries) }
 
-    // A packet that was found comes, or there is no memory for it; where none was found nothing changes.
+    // A packet that was found comes, or there is no memory for it; where none was found nothing
+    // changes.
     ensures came { (a : ArrivedOf) → found ≡ Ok a → IfOk result (λ d. (c : CommittedOf) × (d ≡ Came a c)) }
     ensures none { (n : ℕ) → found ≡ Err n → (result ≡ Ok (Looked n)) × (kept.new ≡ kept.old) }
 {
@@ -476,7 +491,8 @@ fn comes<'a, D: SteadyDisk + Drop>(
     }
 }
 
-/// The delivery of a packet to the node of a place, or where there is no place to the clearinghouse.
+/// The delivery of a packet to the node of a place, or where there is no place to the
+/// clearinghouse.
 pub fn delivery_to(place: Option<NodePlace>, index: u64) -> Event
     ensures same { result ≡ delivery place index }
     ensures actor { actor_number result ≡ actor_number (delivery place 0) }
@@ -488,7 +504,8 @@ pub fn delivery_to(place: Option<NodePlace>, index: u64) -> Event
 }
 
 impl Wanted<'_> {
-    /// The first ready frame that is wanted, if its thread takes its numbers. It is found by its name, and only then looked at.
+    /// The first ready frame that is wanted, if its thread takes its numbers. It is found by its
+    /// name, and only then looked at.
     fn work_in<D: SteadyDisk + Drop>(&self, job: &Job, kept: &Kept<'_, D>) -> Option<Work>
         ensures { IfSome result (λ w. Takes job.now.program w.thread (length w.numbers)) }
     {
@@ -540,9 +557,10 @@ fn frame_named(grant: GrantId, frame: FrameNo) -> FrameOf {
     }
 }
 
-/// The first packet from the one of a number on that is addressed to a receiver, with its bytes if it is a Roster. Else how many were
-/// looked at: all, or those before a Roster whose bytes find no memory.
-fn arrives<D: SteadyDisk + Drop>(
+/// The first packet from the one of a number on that is addressed to a receiver, with its bytes if
+/// it is a Roster. Else how many were looked at: all, or those before a Roster whose bytes find no
+/// memory.
+fn find_packet<D: SteadyDisk + Drop>(
     alloc: Global,
     kept: &Kept<'_, D>,
     from: u64,
@@ -555,7 +573,8 @@ fn arrives<D: SteadyDisk + Drop>(
     }
 }
 
-/// The number of the first packet from one on that is addressed to a receiver, or how many were sent.
+/// The number of the first packet from one on that is addressed to a receiver, or how many were
+/// sent.
 fn first_for<D: SteadyDisk + Drop>(
     kept: &Kept<'_, D>,
     from: u64,
@@ -574,8 +593,8 @@ fn first_for<D: SteadyDisk + Drop>(
     Err(sent)
 }
 
-/// The number of the first Save from one on, and how many steps its place has: that many stand behind the word of who sent it, which is the
-/// fourth one. Else how many packets were sent.
+/// The number of the first Save from one on, and how many steps its place has: that many stand
+/// behind the word of who sent it, which is the fourth one. Else how many packets were sent.
 fn first_save<D: SteadyDisk + Drop>(kept: &Kept<'_, D>, from: u64) -> Result<(u64, u8), u64> {
     let index = first_for(kept, from, Receiver::Saves)?;
     let steps = match kept.world().packet(index) {

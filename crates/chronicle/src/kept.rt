@@ -38,7 +38,8 @@ pub struct Committed {
 }
 
 impl Committed {
-    /// The outcome that the clearinghouse has recorded after the event, if it is one of the clearinghouse and it has; else none.
+    /// The outcome that the clearinghouse has recorded after the event, if it is one of the
+    /// clearinghouse and it has; else none.
     pub fn outcome(&self) -> Option<Outcome>
         ensures { result ≡ outcome_told self.now.told }
     {
@@ -59,8 +60,9 @@ pub(crate) fn outcome_of(told: EventAnswer) -> Option<Outcome>
     }
 }
 
-/// A history, and the world that it reaches. Contracts see both, with the world's job and the disk with which the run began, and whether
-/// an event found no memory. The world has a place of its own in memory: so what moves at each turn of the lock is small.
+/// A history, and the world that it reaches. Contracts see both, with the world's job and the disk
+/// with which the run began, and whether an event found no memory. The world has a place of its own
+/// in memory: so what moves at each turn of the lock is small.
 #[derive(Drop)]
 pub struct Kept<'a, D: SteadyDisk + Drop = MemDisk> {
     alloc: Global,
@@ -106,7 +108,8 @@ impl<'a, D: SteadyDisk + Drop> KeepsHistory for Kept<'a, D> {
 }
 
 impl<'a, D: SteadyDisk + Drop> Kept<'a, D> {
-    /// The first world of a job over the disk with which its run begins, with no history. Refused only when out of memory (E9).
+    /// The first world of a job over the disk with which its run begins, with no history. Refused
+    /// only when out of memory (E9).
     pub fn new(alloc: Global, first: FirstDisk<'a, D>) -> Result<Kept<'a, D>, NoMemory>
         ensures kept { IfOk result (λ k. (k.on.job ≡ first.entry.job) × (k.entries ≡ []) × (k.out_of_memory ≡ false)) }
         ensures world { IfOk result (λ k. IsFirst first.entry.job (D.device first.entry.disk)
@@ -128,11 +131,12 @@ impl<'a, D: SteadyDisk + Drop> Kept<'a, D> {
         })
     }
 
-    /// An event of the seat's actor is carried out, an Exec by the turn at hand and a Whole by the task that was evaluated whole, if it is
-    /// the ready frame's own. It goes to the end of
-    /// the history, which had of the actor just the seat's entries; where what is saved on the first disk agrees, an outcome that is told
-    /// is the job's meaning. E9 where there is no memory, also from then on: the history is as it was, and so is the world, except that a clearinghouse that was to answer
-    /// is stopped.
+    /// An event of the seat's actor is carried out, an Exec by the turn at hand and a Whole by the
+    /// task that was evaluated whole, if it is the ready frame's own. It goes to the end of the
+    /// history, which had of the actor just the seat's entries; where what is saved on the first
+    /// disk agrees, an outcome that is told is the job's meaning. E9 where there is no memory, also
+    /// from then on: the history is as it was, and so is the world, except that a clearinghouse
+    /// that was to answer is stopped.
     pub fn enter(
         &mut self,
         seat: &mut ActorSeat<'a, D>,
@@ -189,8 +193,8 @@ impl<'a, D: SteadyDisk + Drop> Kept<'a, D> {
         &self.world
     }
 
-    /// Its history, which is a safe one of the job over the disk with which it began, the world's disk, and whether an event found no
-    /// memory.
+    /// Its history, which is a safe one of the job over the disk with which it began, the world's
+    /// disk, and whether an event found no memory.
     pub fn into_parts(self) -> (Vec<Entry>, D, bool)
         ensures same { result.0.items ≡ self.entry.entries }
         ensures run { IsSafeHistory self.entry.on.job self.entry.first result.0.items }

@@ -8,8 +8,9 @@ use event_script::Event;
 use std::marker::Model;
 use turn_lock::LockSeat;
 
-/// The right of one actor to commit its events. It has no clone. Contracts see the chronicle that it is of, the number of its actor, and
-/// the entries of this actor's events; while the kept value is out with the seat, `taken` is its history.
+/// The right of one actor to commit its events. It has no clone. Contracts see the chronicle that
+/// it is of, the number of its actor, and the entries of this actor's events; while the kept value
+/// is out with the seat, `taken` is its history.
 #[derive(Drop)]
 pub struct ActorSeat<'a, D: SteadyDisk + Drop = MemDisk> {
     pub(crate) seat: LockSeat<Kept<'a, D>>,
@@ -30,8 +31,8 @@ impl<'a, D: SteadyDisk + Drop> Model for ActorSeat<'a, D> {
 }
 
 impl<'a, D: SteadyDisk + Drop> ActorSeat<'a, D> {
-    /// The number of its actor: 0 is the clearinghouse, and p + 1 the node of place p. While the kept value is out with the seat, the
-    /// history has of the actor just the seat's entries.
+    /// The number of its actor: 0 is the clearinghouse, and p + 1 the node of place p. While the
+    /// kept value is out with the seat, the history has of the actor just the seat's entries.
     pub fn actor(&self) -> u64
         ensures actor { result ≡ self.now.actor }
         ensures own { IfSome self.now.taken (λ log. own actor_of self.now.actor log ≡ self.now.entries) }

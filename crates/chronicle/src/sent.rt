@@ -11,10 +11,10 @@ use std::sync::atomic::Ordering::SeqCst;
 /// In how many parts workers are told apart by their start words.
 const PARTS: u64 = 64;
 
-/// How many packets were sent in all, and up to the last one to each part of the receivers: those of workers, then the clearinghouse, and
-/// then the same for Saves.
-/// Written under the lock, and only where it changes, so that who reads it in vain has it at hand. Each has cache lines of its own, so that
-/// what is written for one actor doesn't take those of others away.
+/// How many packets were sent in all, and up to the last one to each part of the receivers: those
+/// of workers, then the clearinghouse, and then the same for Saves. Written under the lock, and
+/// only where it changes, so that who reads it in vain has it at hand. Each has cache lines of its
+/// own, so that what is written for one actor doesn't take those of others away.
 #[derive(Drop)]
 pub(crate) struct Sent {
     all: CachePadded<AtomicU64>,
@@ -34,9 +34,9 @@ impl Sent {
         })
     }
 
-    /// What a world sent by now. The numbers of parts are written first: who reads the number in all before one of these finds each packet
-    /// below it counted there.
-    pub(crate) fn notes<D: SteadyDisk + Drop>(&self, kept: &Kept<'_, D>) {
+    /// What a world sent by now. The numbers of parts are written first: who reads the number in
+    /// all before one of these finds each packet below it counted there.
+    pub(crate) fn note<D: SteadyDisk + Drop>(&self, kept: &Kept<'_, D>) {
         let world = kept.world();
         let sent = world.packets() as u64;
         let before = self.all.load(SeqCst);

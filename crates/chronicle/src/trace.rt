@@ -18,7 +18,8 @@ use world_steps::RunCounts;
 /// The first line of a script by which nodes have the places 0 to 63.
 const FIRST_LINE: &[u8] = b"# nodes 64\n";
 
-/// All that was committed, and what was counted meanwhile. Contracts see the entries, in the order in which they were committed.
+/// All that was committed, and what was counted meanwhile. Contracts see the entries, in the order
+/// in which they were committed.
 #[derive(Drop)]
 pub struct Trace {
     pub(crate) entries: Vec<Entry>,
@@ -47,15 +48,17 @@ impl Trace {
         &self.counts
     }
 
-    /// Tells how many values that evaluations had kept were used, and how many turns were evaluated of which nothing was kept.
+    /// Tells how many values that evaluations had kept were used, and how many turns were evaluated
+    /// of which nothing was kept.
     pub fn tell_kept(&mut self, used: u64, vain: u64)
         ensures { self.new ≡ self.old }
     {
         self.counts.tell_kept(used, vain);
     }
 
-    /// The outcome that an event of the clearinghouse told first, if one did. It is the job's meaning, where the trace is a safe history
-    /// of the job over a disk on which what is saved agrees.
+    /// The outcome that an event of the clearinghouse told first, if one did. It is the job's
+    /// meaning, where the trace is a safe history of the job over a disk on which what is saved
+    /// agrees.
     pub fn outcome(&self) -> Option<Outcome>
         ensures first { result ≡ first_outcome self.now }
         ensures meant { (job : JobOf) (first : Device) → IsSafeHistory job first self.now → StoredAgree job first
@@ -64,8 +67,8 @@ impl Trace {
         first_outcome(self.entries.as_slice())
     }
 
-    /// Its script: a first line by which nodes have 64 places, and then the line of each event, each ended by a line feed. It is read as
-    /// just these events. Refused only when out of memory.
+    /// Its script: a first line by which nodes have 64 places, and then the line of each event,
+    /// each ended by a line feed. It is read as just these events. Refused only when out of memory.
     pub fn script(&self, alloc: Global) -> Result<Vec<u8>, AllocError>
         ensures text { IfOk result (λ t. t.items ≡ text_of (events_of self.now)) }
         ensures read { IfOk result (λ t. script t.items ≡ Ok (events_of self.now)) }

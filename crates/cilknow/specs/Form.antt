@@ -10,7 +10,8 @@ use Rattle.task_syntax.specs.declared.error.PrintError.TheVariants as print
 use Rattle.cilknow.specs.declared.form.FormFault.{FormFault}
 use Rattle.cilknow.specs.declared.form.FormFault.TheVariants as fault
 
--- the form is what is printed of the program that the text reads as, and is read as the same program, but for offsets
+-- the form is what is printed of the program that the text reads as, and is read as the same
+-- program, but for offsets
 pub record IsFormOf (text form : List ℕ) : Type 0 where
   pub program : Program
   pub reads : ReadsAsProgram text program

@@ -28,7 +28,8 @@ pub record IsRunCounted (text : List ℕ) (input : List ℤ) (number turns : ℕ
   pub is : IsJobOf text input number job
   pub counted : IsCounted job turns
 
--- what a refusal of a text on an input says, of the job's number and of the turns that were given; being out of memory says nothing
+-- what a refusal of a text on an input says, of the job's number and of the turns that were given;
+-- being out of memory says nothing
 abbrev pub IsRefusalOf : List ℕ → List ℤ → ℕ → ℕ → SoloFault → Type 0
 IsRefusalOf text input number turns (solo.Job e) = IsRefusal text input e
 IsRefusalOf text input number turns solo.TurnsSpent = IsRunShort text input number turns

@@ -21,8 +21,8 @@ status_of_run solo.TurnsSpent = 3
 status_of_run solo.NumbersSpent = 3
 status_of_run solo.Memory = 3
 
--- words that ask for nothing that is there are 2, a file that can't be read or written is 4, what isn't replayed has its own
--- status, and traces that aren't merged are 1
+-- words that ask for nothing that is there are 2, a file that can't be read or written is 4, what
+-- isn't replayed has its own status, and traces that aren't merged are 1
 abbrev pub status_of : CommandFault → ℕ
 status_of command.Usage = 2
 status_of command.File = 4

@@ -61,8 +61,8 @@ pub enum CommandFault {
 }
 
 impl CommandFault {
-    /// The status that the program ends with: 1 for a text, an input or a script that is refused, 2 for the words, 3 for a run
-    /// without outcome, 4 for a file.
+    /// The status that the program ends with: 1 for a text, an input or a script that is refused, 2
+    /// for the words, 3 for a run without outcome, 4 for a file.
     pub fn status(self) -> u8
         ensures { result ≡ status_of self }
     {
@@ -186,7 +186,8 @@ fn write_line<O: Write>(out: &mut O, text: impl fmt::Display + Drop) -> io::Resu
     out.flush()
 }
 
-/// What a replay comes to. What was counted is told where that is asked for, and so the program is read once more, for its threads' names.
+/// What a replay comes to. What was counted is told where that is asked for, and so the program is
+/// read once more, for its threads' names.
 fn answer_replay<R: Files + AllocGlobal + Threads + Clock + Sync, O: Write>(
     rt: &R,
     words: ReplayWords<'_>,
@@ -204,7 +205,8 @@ fn answer_replay<R: Files + AllocGlobal + Threads + Clock + Sync, O: Write>(
     write_replayed(out, &replayed).map_err(unwritten)
 }
 
-/// The picture of a replay, which is made in full before any of it is written. The file for it is open before the replay begins.
+/// The picture of a replay, which is made in full before any of it is written. The file for it is
+/// open before the replay begins.
 fn answer_draw<R: Files<File = File> + AllocGlobal, O: Write>(
     rt: &R,
     words: DrawWords<'_>,
@@ -306,9 +308,10 @@ fn shown<O: Write>(text: &str, out: &mut O) -> Result<(), CommandFault> {
     out.flush().map_err(|_| CommandFault::File)
 }
 
-/// Carries out a command line, the program's own name its first word: answers go to `out`, and a fault goes to `err` as one
-/// line, behind which it is explained where the words ask for that. Where `err` is a terminal it is told there how far a long replay, or a
-/// long run on nodes, has come. The status to end with is 0 where all was done, and else that of the fault.
+/// Carries out a command line, the program's own name its first word: answers go to `out`, and a
+/// fault goes to `err` as one line, behind which it is explained where the words ask for that.
+/// Where `err` is a terminal it is told there how far a long replay, or a long run on nodes, has
+/// come. The status to end with is 0 where all was done, and else that of the fault.
 pub fn command<
     R: Files<File = File> + AllocGlobal + Threads + Wait + Clock + Sync + Clone + Drop,
     S: AsStr,
@@ -364,7 +367,8 @@ fn beside_in(alloc: Global, request: &Subcommand<'_>) -> Result<Option<String>, 
     }
 }
 
-/// Why the words of a request don't go together: by their numbers and options, and then by the files that they name.
+/// Why the words of a request don't go together: by their numbers and options, and then by the
+/// files that they name.
 fn misuse_of<R: Files>(rt: &R, request: &Subcommand<'_>, named: &Named<'_>) -> Option<Misuse> {
     if let Subcommand::Run(words) = request {
         if let Some(misuse) = words.misuse() {
@@ -374,7 +378,8 @@ fn misuse_of<R: Files>(rt: &R, request: &Subcommand<'_>, named: &Named<'_>) -> O
     named.one_file(rt)
 }
 
-/// Writes a fault of a command line that names these files to `err`, and explains it; the status to end with.
+/// Writes a fault of a command line that names these files to `err`, and explains it; the status to
+/// end with.
 fn explained<R: Files<File = File> + AllocGlobal, E: Write>(
     rt: &R,
     failure: Failure,

@@ -14,7 +14,8 @@ use std::fs::File;
 use std::io::{self, Write};
 use std::rt::Files;
 
-/// Explains a fault of a command line that names these files. What can't be read any more isn't explained.
+/// Explains a fault of a command line that names these files. What can't be read any more isn't
+/// explained.
 pub fn explain<R: Files<File = File> + AllocGlobal, W: Write>(
     rt: &R,
     out: &mut W,

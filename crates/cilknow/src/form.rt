@@ -45,9 +45,10 @@ impl From<PrintError> for FormFault {
     }
 }
 
-/// The one form of a program's text: each thread on a line, one blank between any two tokens, and parentheses around the operands
-/// that are operations. It is read as the same program, but for offsets. Kinds aren't checked. Refused where the text isn't read (E2
-/// to E6), where the form would be over 65,536 bytes (E3), and when out of memory (E9).
+/// The one form of a program's text: each thread on a line, one blank between any two tokens, and
+/// parentheses around the operands that are operations. It is read as the same program, but for
+/// offsets. Kinds aren't checked. Refused where the text isn't read (E2 to E6), where the form
+/// would be over 65,536 bytes (E3), and when out of memory (E9).
 pub fn form_of(alloc: Global, text: &[u8]) -> Result<Vec<u8>, FormFault>
     ensures form { IfOk result (λ v. IsFormOf text.now v.items) }
     ensures refused { IfErr result (IsFormRefusal text.now) }

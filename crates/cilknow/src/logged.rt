@@ -8,8 +8,9 @@ use world_steps::EventAnswer;
 /// Who tells the lines of a log.
 const TARGET: &str = "cilknow";
 
-/// The log of a run: a line at level info, ended by a line feed, for each event of its trace by which a node started, crashed or left, in
-/// their order; one that was refused has none. The message is the event's line of the script. A line that finds no memory is left out.
+/// The log of a run: a line at level info, ended by a line feed, for each event of its trace by
+/// which a node started, crashed or left, in their order; one that was refused has none. The
+/// message is the event's line of the script. A line that finds no memory is left out.
 pub fn log_text(alloc: Global, trace: &Trace) -> Vec<u8> {
     let mut text = Vec::new(alloc);
     for entry in trace.entries() {

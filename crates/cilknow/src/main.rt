@@ -27,8 +27,9 @@ use std::io::{LineWriter, Stdout};
 use std::process::ExitCode;
 pub use stored::{found_in, info_in};
 
-/// Standard output, to which each line goes at once, so that a program that is killed has told it whole or not at all; or, where there is no
-/// memory for a line, in the parts in which it is written.
+/// Standard output, to which each line goes at once, so that a program that is killed has told it
+/// whole or not at all; or, where there is no memory for a line, in the parts in which it is
+/// written.
 fn lines(rt: &HostRuntime) -> LineWriter<Stdout> {
     if let Ok(lines) = LineWriter::new(rt.alloc(), rt.stdout()) {
         return lines;

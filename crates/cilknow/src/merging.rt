@@ -25,7 +25,8 @@ pub enum TracesFault {
     Line(u64),
 }
 
-/// Where a trace was refused: its file, the line, and why it has no place; none where it is no line of a trace.
+/// Where a trace was refused: its file, the line, and why it has no place; none where it is no line
+/// of a trace.
 #[derive(Drop)]
 pub struct TraceLine {
     pub path: String,
@@ -33,8 +34,8 @@ pub struct TraceLine {
     pub why: Option<Stuck>,
 }
 
-/// The traces of a folder in one order, as a script, which is made in full before any of it is written. The file for it is open before the
-/// traces are read.
+/// The traces of a folder in one order, as a script, which is made in full before any of it is
+/// written. The file for it is open before the traces are read.
 pub fn answer_merge<R: Files<File = File> + AllocGlobal + Clone + Drop, O: Write>(
     rt: &R,
     words: MergeWords<'_>,

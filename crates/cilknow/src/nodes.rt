@@ -37,7 +37,8 @@ pub enum RunDisk<'a> {
     Memory,
 }
 
-/// What a run came to: its outcome, and its trace. Of an outcome that was kept before there is no trace.
+/// What a run came to: its outcome, and its trace. Of an outcome that was kept before there is no
+/// trace.
 #[derive(Drop)]
 pub struct Ended {
     pub outcome: Outcome,
@@ -84,7 +85,8 @@ fn ran_noted<'a, R: Threads + AllocGlobal + Wait + Clock + Sync>(
     ran
 }
 
-/// A job is run by nodes on threads over a disk. Where standard error is a terminal and the run takes long, how far it has come is told there.
+/// A job is run by nodes on threads over a disk. Where standard error is a terminal and the run
+/// takes long, how far it has come is told there.
 pub fn ran_on_nodes<'a, R: Threads + AllocGlobal + Wait + Clock + Sync>(
     rt: &R,
     job: &'a Job,
@@ -97,7 +99,8 @@ pub fn ran_on_nodes<'a, R: Threads + AllocGlobal + Wait + Clock + Sync>(
     }
     let progress = RunProgress::new();
     let shared = &progress;
-    // (where no second thread can be made, the first closure is called last: then the run has ended, and nothing is told)
+    // (where no second thread can be made, the first closure is called last: then the run has
+    // ended, and nothing is told)
     let (_, ran) = join(
         rt,
         || tell(rt, err, shared),

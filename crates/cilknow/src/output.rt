@@ -5,7 +5,8 @@ use std::io::{self, Write};
 use std::os::unix::fs::MetadataExt;
 use std::rt::Files;
 
-/// A file that is open for an answer. It is as it was before that is written, and empty where it was made for it.
+/// A file that is open for an answer. It is as it was before that is written, and empty where it
+/// was made for it.
 #[derive(Drop)]
 pub struct Output {
     file: File,
@@ -25,7 +26,8 @@ impl Output {
         }
     }
 
-    /// Makes a file. What a link leads to is no new one, since the link stays when it is taken away.
+    /// Makes a file. What a link leads to is no new one, since the link stays when it is taken
+    /// away.
     fn make<R: Files<File = File>>(rt: &R, path: &str) -> io::Result<Output> {
         match OpenOptions::new()
             .write(true)
@@ -52,7 +54,8 @@ impl Output {
         self.file.write_all(bytes)
     }
 
-    /// There is no answer: a file that was made for it is taken away, if its name still is that file's.
+    /// There is no answer: a file that was made for it is taken away, if its name still is that
+    /// file's.
     pub fn give_up<R: Files<File = File>>(self, rt: &R, path: &str) {
         if !self.is_new {
             return;

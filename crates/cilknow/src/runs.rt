@@ -100,8 +100,8 @@ fn ran_alone<R: Files + AllocGlobal, E: Write>(
     Ok(outcome)
 }
 
-/// The outcome of a job by nodes on threads. The files for its trace and its log are open before it begins, and are written once the outcome was
-/// told.
+/// The outcome of a job by nodes on threads. The files for its trace and its log are open before it
+/// begins, and are written once the outcome was told.
 fn answer_by_nodes<R: Files<File = File> + AllocGlobal + Threads + Wait + Clock + Sync, O: Write>(
     rt: &R,
     words: JobWords<'_>,
@@ -151,14 +151,16 @@ fn tell_ran<O: Write, E: Write>(
     }
 }
 
-/// How a run on nodes begins: with an outcome that its store keeps, which is all of it, or over a disk.
+/// How a run on nodes begins: with an outcome that its store keeps, which is all of it, or over a
+/// disk.
 #[derive(Drop)]
 enum Begins<'a> {
     Kept(Outcome),
     Over(RunDisk<'a>),
 }
 
-/// How the run of a job begins: over the file of its store, where one is named, and else over a disk in memory.
+/// How the run of a job begins: over the file of its store, where one is named, and else over a
+/// disk in memory.
 fn begins_of<'a, R: Files<File = File> + AllocGlobal, E: Write>(
     rt: &R,
     named: &Named<'_>,
@@ -216,7 +218,8 @@ impl Outputs {
         give_up_output(rt, self.log, named.log);
     }
 
-    /// Writes the log of a run and the script of its trace. Where the outcome was kept before, there is no trace, and the log has no line.
+    /// Writes the log of a run and the script of its trace. Where the outcome was kept before,
+    /// there is no trace, and the log has no line.
     fn write(self, alloc: Global, trace: &Option<Trace>) -> Result<(), Unwritten> {
         write_log(alloc, self.log, trace)?;
         write_script(alloc, self.trace, trace)

@@ -7,10 +7,11 @@ use one_node::evaluate_counted;
 use serial_meaning::{CountsTurns, Outcome};
 use std::alloc::Global;
 
-/// The outcome of a program's text on an input, run on one node and one thread: of the ready frames the newest of the
-/// greatest level runs, and each body is one turn. The refusals come in this order: the text (E2 to E6), its kinds (E10 to
-/// E18), the count of inputs (E21), and then E95 where the run takes more than `turns` turns, and E62 where the
-/// number that is next after one of these would pass 2^32 - 1. E9 comes when out of memory. The turns are counted.
+/// The outcome of a program's text on an input, run on one node and one thread: of the ready frames
+/// the newest of the greatest level runs, and each body is one turn. The refusals come in this
+/// order: the text (E2 to E6), its kinds (E10 to E18), the count of inputs (E21), and then E95
+/// where the run takes more than `turns` turns, and E62 where the number that is next after one of
+/// these would pass 2^32 - 1. E9 comes when out of memory. The turns are counted.
 pub fn solo<C: CountsTurns>(
     alloc: Global,
     text: &[u8],

@@ -15,13 +15,15 @@ use std::io::{self, Write};
 use std::rt::Files;
 use world_steps::{FirstDisk, Found};
 
-/// Opens the store of a job in a file, which is made where it is missing or empty, and which no other run can open until this one ends. The
-/// text is the one of the job's program. Before a store is made, the file beside it says whose it is; where that is missing beside another
-/// store, this is told on `err`. What is found is the job's outcome, or that a run can begin over the file.
+/// Opens the store of a job in a file, which is made where it is missing or empty, and which no
+/// other run can open until this one ends. The text is the one of the job's program. Before a store
+/// is made, the file beside it says whose it is; where that is missing beside another store, this
+/// is told on `err`. What is found is the job's outcome, or that a run can begin over the file.
 ///
-/// A fault of a file where one of both can't be opened, or another run has the store; E62 and E70 to E73, as `FirstDisk::found` says; and E70
-/// where the file beside the store names another program or input, E71 where it names none, also where there is no store yet. But for E72 a
-/// store that is refused isn't written to; nor is a file of another kind.
+/// A fault of a file where one of both can't be opened, or another run has the store; E62 and E70
+/// to E73, as `FirstDisk::found` says; and E70 where the file beside the store names another
+/// program or input, E71 where it names none, also where there is no store yet. But for E72 a store
+/// that is refused isn't written to; nor is a file of another kind.
 pub fn found_in<'a, R: Files<File = File> + AllocGlobal, E: Write>(
     rt: &R,
     path: &str,
@@ -48,7 +50,8 @@ pub fn found_in<'a, R: Files<File = File> + AllocGlobal, E: Write>(
     Ok(found)
 }
 
-/// What the store in a file keeps. A fault of a file where it can't be read; else E71 to E73, as `checkpoint::inspect` says.
+/// What the store in a file keeps. A fault of a file where it can't be read; else E71 to E73, as
+/// `checkpoint::inspect` says.
 pub fn info_in<R: Files<File = File> + AllocGlobal>(rt: &R, path: &str) -> Result<Info, Failure> {
     let alloc = rt.alloc();
     let mut disk = shown_disk(rt, path).map_err(store_fault)?;
@@ -79,7 +82,8 @@ fn own_disk<R: Files<File = File> + AllocGlobal>(
     FileDisk::new(rt.alloc(), file).map_err(store_fault)
 }
 
-/// A file for reading and writing that is this run's alone. It is made where it is missing, in a folder that can be opened.
+/// A file for reading and writing that is this run's alone. It is made where it is missing, in a
+/// folder that can be opened.
 fn own_file<R: Files<File = File>>(rt: &R, path: &str) -> io::Result<File> {
     let file = match options().open(rt, path) {
         Err(e) if e.kind() == io::ErrorKind::NotFound => {

@@ -14,8 +14,9 @@ pub fn write_beside<R: Files<File = File>>(rt: &R, beside: &str, line: &[u8]) ->
     file.sync_all()
 }
 
-/// Whether the file beside a store says that the store is of the job of this line: false where it isn't there. E70 where it names another one,
-/// E71 where it names none, and a fault of a file where it can't be read.
+/// Whether the file beside a store says that the store is of the job of this line: false where it
+/// isn't there. E70 where it names another one, E71 where it names none, and a fault of a file
+/// where it can't be read.
 pub fn is_said<R: Files<File = File> + AllocGlobal>(
     rt: &R,
     beside: &str,
@@ -30,8 +31,9 @@ pub fn is_said<R: Files<File = File> + AllocGlobal>(
     }
 }
 
-/// Refuses a file beside a store that is of another kind, so that it isn't written over: E71 where it is neither such a line nor the beginning
-/// of one, as a run that is killed may leave it, and a fault of a file where it can't be read.
+/// Refuses a file beside a store that is of another kind, so that it isn't written over: E71 where
+/// it is neither such a line nor the beginning of one, as a run that is killed may leave it, and a
+/// fault of a file where it can't be read.
 pub fn is_ours<R: Files<File = File> + AllocGlobal>(rt: &R, beside: &str) -> Result<(), Failure> {
     match read_beside(rt, beside) {
         Ok(said) if is_beginning(said.as_slice()) => Ok(()),

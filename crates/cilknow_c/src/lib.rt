@@ -1,7 +1,9 @@
-//! The actors for a host program in C, by opaque pointers. `machines/cilknow.h` says what each call does, and what the host owes.
+//! The actors for a host program in C, by opaque pointers. `machines/cilknow.h` says what each call
+//! does, and what the host owes.
 //!
-//! **Proved**: of each call by an actor's pointer, that an actor is there before it and behind it, and what the call comes to: the case of the
-//! protocol, as the clauses of `HostActor` say it. **Not proved**: that a host in C keeps what the header asks of it, and that its declarations are
+//! **Proved**: of each call by an actor's pointer, that an actor is there before it and behind it,
+//! and what the call comes to: the case of the protocol, as the clauses of `HostActor` say it.
+//! **Not proved**: that a host in C keeps what the header asks of it, and that its declarations are
 //! those of these functions.
 #![tactic(auto)]
 
@@ -118,8 +120,8 @@ pub extern "C" fn cilknow_digest(bytes: &[u8], digest: &mut [u8]) -> i32 {
     0
 }
 
-/// The line that names a program and an input, in a buffer's first bytes. How many it has, 79; else the number of the job's fault, negated, or
-/// -102 where the buffer is shorter.
+/// The line that names a program and an input, in a buffer's first bytes. How many it has, 79; else
+/// the number of the job's fault, negated, or -102 where the buffer is shorter.
 #[unsafe(no_mangle)]
 pub extern "C" fn cilknow_job_line(
     alloc: Global,

@@ -1,7 +1,8 @@
 //! What a command line of `cilknow` asks for, and which files it names.
 //!
-//! [`read_words`] reads the words, says what is wrong with them, or gives the text of a help. Words that are understood and ask for nothing
-//! that is there are a [`Misuse`]. [`Named`] has the files that are named, by their [`Place`] on the command line.
+//! [`read_words`] reads the words, says what is wrong with them, or gives the text of a help. Words
+//! that are understood and ask for nothing that is there are a [`Misuse`]. [`Named`] has the files
+//! that are named, by their [`Place`] on the command line.
 #![tactic(auto)]
 
 mod helps;

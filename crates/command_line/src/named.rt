@@ -9,8 +9,9 @@ use std::os::unix::fs::MetadataExt;
 use std::path::Path;
 use std::rt::Files;
 
-/// What is read or written: the file of a program's text, of a script and of a store, the file beside the store, the files of a trace, a log and
-/// a picture or of a merged script, the folder of traces, and standard output.
+/// What is read or written: the file of a program's text, of a script and of a store, the file
+/// beside the store, the files of a trace, a log and a picture or of a merged script, the folder of
+/// traces, and standard output.
 #[derive(Clone, Copy, Debug, PartialEq, Eq)]
 pub enum Place {
     Text,
@@ -51,7 +52,8 @@ impl Display for Place {
     }
 }
 
-/// The files that a command line names, where it does. Beside a store lies a file that says whose it is.
+/// The files that a command line names, where it does. Beside a store lies a file that says whose
+/// it is.
 #[derive(Clone, Copy)]
 pub struct Named<'a> {
     pub text: Option<&'a str>,
@@ -161,7 +163,8 @@ pub fn folder_of(path: &str) -> &str {
     }
 }
 
-/// Whether two paths name one file: by their texts, or both that of one node, or the same entry of one folder that isn't there yet.
+/// Whether two paths name one file: by their texts, or both that of one node, or the same entry of
+/// one folder that isn't there yet.
 pub fn is_one_file<R: Files>(rt: &R, first: &str, second: &str) -> bool {
     if is_one_text(first, second) {
         return true;

@@ -16,11 +16,13 @@ pub enum Asked<'a> {
     Command(Words<'a>),
     /// It asks for a text: a help, or the version.
     Text(String),
-    /// A fault of usage, or being out of memory; and what is wrong, where one of the words asks to explain it.
+    /// A fault of usage, or being out of memory; and what is wrong, where one of the words asks to
+    /// explain it.
     Fault(WordsFault, Option<String>),
 }
 
-/// A command line: what it asks for, whether a fault is to be explained, and whether what was counted is to be told.
+/// A command line: what it asks for, whether a fault is to be explained, and whether what was
+/// counted is to be told.
 #[derive(Drop)]
 pub struct Words<'a> {
     pub request: Subcommand<'a>,
@@ -58,7 +60,8 @@ pub struct JobWords<'a> {
     pub input: Vec<i64>,
 }
 
-/// A picture: the replay that it shows, whether it leaves out who takes part and is there, and the file to which it is written, if one is named.
+/// A picture: the replay that it shows, whether it leaves out who takes part and is there, and the
+/// file to which it is written, if one is named.
 #[derive(Drop)]
 pub struct DrawWords<'a> {
     pub replay: ReplayWords<'a>,
@@ -73,8 +76,9 @@ pub struct MergeWords<'a> {
     pub out: Option<&'a str>,
 }
 
-/// The faults that a run asks for: the word from which they are drawn, of how many packets one is lost and one repeated, none where that is 0,
-/// behind how many events nodes crash and leave, and how many do.
+/// The faults that a run asks for: the word from which they are drawn, of how many packets one is
+/// lost and one repeated, none where that is 0, behind how many events nodes crash and leave, and
+/// how many do.
 #[derive(Clone, Copy)]
 pub struct FaultWords {
     pub word: u64,
@@ -85,8 +89,9 @@ pub struct FaultWords {
     pub departures: u64,
 }
 
-/// A run: its job, how many nodes and how many body workers each, in at most how many turns a task is evaluated whole, if that is said, the
-/// faults, the file of a store that keeps its outcome, and the files to which its trace and its log are written, where they are named.
+/// A run: its job, how many nodes and how many body workers each, in at most how many turns a task
+/// is evaluated whole, if that is said, the faults, the file of a store that keeps its outcome, and
+/// the files to which its trace and its log are written, where they are named.
 #[derive(Drop)]
 pub struct RunWords<'a> {
     pub job: JobWords<'a>,
@@ -100,8 +105,9 @@ pub struct RunWords<'a> {
 }
 
 impl<'a> RunWords<'a> {
-    /// Whether nothing asks for threads: one node with one body worker and without faults, of which each turn is taken by itself unless it is
-    /// said otherwise, no outcome is kept, and no trace and no log is written.
+    /// Whether nothing asks for threads: one node with one body worker and without faults, of which
+    /// each turn is taken by itself unless it is said otherwise, no outcome is kept, and no trace
+    /// and no log is written.
     pub fn is_alone(&self) -> bool {
         self.nodes == 1
             && self.bodies == 1
@@ -120,8 +126,9 @@ impl<'a> RunWords<'a> {
             || self.faults.departures != 0
     }
 
-    /// In at most how many turns a task is evaluated whole. Where it isn't said, and the run is one for trying the protocol or reading it,
-    /// under faults or with a trace, each frame takes its own turn.
+    /// In at most how many turns a task is evaluated whole. Where it isn't said, and the run is one
+    /// for trying the protocol or reading it, under faults or with a trace, each frame takes its
+    /// own turn.
     pub fn grain(&self) -> u64 {
         match self.grain {
             Some(grain) => grain,
@@ -502,8 +509,9 @@ fn usage_text<S: AsStr>(alloc: Global, words: &[S], error: &Error) -> Option<Str
     }
 }
 
-/// What the words ask for, the program's own name the first of them; none where they ask for nothing that is there. The `Err` is a
-/// fault of usage, being out of memory, or the text of the help or the version where they ask for that.
+/// What the words ask for, the program's own name the first of them; none where they ask for
+/// nothing that is there. The `Err` is a fault of usage, being out of memory, or the text of the
+/// help or the version where they ask for that.
 fn words_of<'a, S: AsStr>(alloc: Global, words: &'a [S]) -> Result<Option<Words<'a>>, Error> {
     let matches = all_words(alloc)?.try_get_matches_from(words)?;
     let Some((command, inner)) = matches.subcommand() else {
@@ -521,7 +529,8 @@ fn words_of<'a, S: AsStr>(alloc: Global, words: &'a [S]) -> Result<Option<Words<
     }
 }
 
-/// What a subcommand asks for; none where there is none of that name, or its words aren't all there.
+/// What a subcommand asks for; none where there is none of that name, or its words aren't all
+/// there.
 fn request_of<'a>(
     alloc: Global,
     command: &str,

@@ -1,8 +1,9 @@
-//! What a run does, in words: a line for each event, with the thread body that ran, the packets that were sent and the values that were
-//! put into slots.
+//! What a run does, in words: a line for each event, with the thread body that ran, the packets
+//! that were sent and the values that were put into slots.
 //!
-//! A worker is written by its start word, the clearinghouse in epoch N as `HN` and that of any epoch as `house`, and a grant by its minter
-//! and its number, as `3/1` or `H1/1`. The words are for people: nothing reads them back, and no clause speaks of them.
+//! A worker is written by its start word, the clearinghouse in epoch N as `HN` and that of any
+//! epoch as `house`, and a grant by its minter and its number, as `3/1` or `H1/1`. The words are
+//! for people: nothing reads them back, and no clause speaks of them.
 #![tactic(auto)]
 
 mod fault;

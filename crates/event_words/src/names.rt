@@ -1,4 +1,5 @@
-//! Short names of workers, the clearinghouse, grants and places, and what an outcome and progress are called.
+//! Short names of workers, the clearinghouse, grants and places, and what an outcome and progress
+//! are called.
 
 use ids::{Actor, Address, GrantId, Outcome, Place, Progress, Status};
 use std::fmt;
@@ -11,7 +12,8 @@ pub(crate) struct ActorName(pub(crate) Actor);
 #[derive(Clone, Copy)]
 pub(crate) struct GrantName(pub(crate) GrantId);
 
-/// Who is named as the minter of a grant, by its number: an actor, or what no grant has, 0 or `house`.
+/// Who is named as the minter of a grant, by its number: an actor, or what no grant has, 0 or
+/// `house`.
 #[derive(Clone, Copy)]
 pub(crate) struct MinterName(pub(crate) u64);
 
@@ -19,7 +21,8 @@ pub(crate) struct MinterName(pub(crate) u64);
 #[derive(Clone, Copy)]
 pub(crate) struct AddressName(pub(crate) Address);
 
-/// A place: `the root`, or `place 0.2, level 1`, its steps from the root on and how many levels below the root it is.
+/// A place: `the root`, or `place 0.2, level 1`, its steps from the root on and how many levels
+/// below the root it is.
 #[derive(Clone, Copy)]
 pub(crate) struct PlaceName<'a>(pub(crate) &'a Place);
 

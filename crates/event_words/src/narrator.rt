@@ -9,14 +9,16 @@ use std::alloc::Global;
 use std::io::{self, Write};
 use world::{EventAnswer, Watch, World};
 
-/// Tells the replay of a script while it goes: a line for each event, handed on in one piece. It is told what was done, and of the
-/// clearinghouse's outcome where it is seen first.
+/// Tells the replay of a script while it goes: a line for each event, handed on in one piece. It is
+/// told what was done, and of the clearinghouse's outcome where it is seen first.
 #[derive(Drop)]
 pub struct Narrator<'o, 's, O: Write> {
     out: &'o mut O,
-    /// The events behind the one that is seen next, unless the script is refused: then none is seen.
+    /// The events behind the one that is seen next, unless the script is refused: then none is
+    /// seen.
     ahead: Option<Script<'s>>,
-    /// The thread and the numbers of the frame that the next event runs, if it does: behind that event the frame is gone.
+    /// The thread and the numbers of the frame that the next event runs, if it does: behind that
+    /// event the frame is gone.
     task: Vec<u8>,
     events: u64,
     has_outcome: bool,
@@ -38,8 +40,8 @@ impl<'o, 's, O: Write> Narrator<'o, 's, O> {
         narrator
     }
 
-    /// Hands on what was written. Refused where a line couldn't be written, or found no memory: the lines before it are written, and none
-    /// behind it.
+    /// Hands on what was written. Refused where a line couldn't be written, or found no memory: the
+    /// lines before it are written, and none behind it.
     pub fn finish(self) -> Result<(), NarratorFault> {
         match self.fault {
             Some(fault) => Err(fault),
@@ -110,7 +112,8 @@ impl<'o, 's, O: Write> Watch for Narrator<'o, 's, O> {
     }
 }
 
-/// The line of an event, with its end; of one that runs a frame, by the words of its thread and numbers. Refused only when out of memory.
+/// The line of an event, with its end; of one that runs a frame, by the words of its thread and
+/// numbers. Refused only when out of memory.
 fn text_of(
     alloc: Global,
     number: u64,

@@ -9,9 +9,10 @@ use task_tree::Program;
 /// So many members of a roster are listed at most; of the others the count is told.
 const MOST_LISTED: usize = 8;
 
-/// Writes the words of a packet: its kind, the grant that it speaks of, the worker that it says to be from, whom it goes to, and what else
-/// it says, as `Grant 3/1 to 5: request 1, main(0) at place 2, level 1`. A thread has its name in the program, or its number where the
-/// program has no such thread. No line's end is written.
+/// Writes the words of a packet: its kind, the grant that it speaks of, the worker that it says to
+/// be from, whom it goes to, and what else it says, as `Grant 3/1 to 5: request 1, main(0) at place
+/// 2, level 1`. A thread has its name in the program, or its number where the program has no such
+/// thread. No line's end is written.
 pub fn write_packet<O: Write>(out: &mut O, program: &Program, packet: &Packet) -> io::Result<()> {
     let body = packet.body();
     write!(out, "{}", kind_of(body))?;
@@ -125,7 +126,8 @@ fn write_roster<O: Write>(out: &mut O, roster: &Roster) -> io::Result<()> {
     write!(out, ")")
 }
 
-/// Writes the request that a grant answers, its task, and how many saved values come with it, if any do.
+/// Writes the request that a grant answers, its task, and how many saved values come with it, if
+/// any do.
 fn write_grant<O: Write>(out: &mut O, program: &Program, grant: &Grant) -> io::Result<()> {
     write!(out, ": request {}, ", grant.seq.number())?;
     write_granted(out, program, &grant.task)?;
@@ -160,7 +162,8 @@ pub(crate) fn write_thread<O: Write>(out: &mut O, program: &Program, thread: u8)
     }
 }
 
-/// Writes how often an offered subcomputation has moved, how far it is, and how many frames and records it has.
+/// Writes how often an offered subcomputation has moved, how far it is, and how many frames and
+/// records it has.
 fn write_offer<O: Write>(out: &mut O, offer: &Offer) -> io::Result<()> {
     let (frames, records) = (offer.frames.len(), offer.records.len());
     write!(
@@ -173,7 +176,8 @@ fn write_offer<O: Write>(out: &mut O, offer: &Offer) -> io::Result<()> {
     )
 }
 
-/// Writes how often the offer of a piece has moved, which of its parts the piece has, counted from 1, and how many bytes this part has.
+/// Writes how often the offer of a piece has moved, which of its parts the piece has, counted from
+/// 1, and how many bytes this part has.
 fn write_piece<O: Write>(out: &mut O, piece: &Piece) -> io::Result<()> {
     let (part, count) = (u32::from(piece.number).saturating_add(1), piece.bytes.len());
     write!(

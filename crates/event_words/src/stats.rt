@@ -25,7 +25,8 @@ const KINDS: [&str; 15] = [
     "SavedGrant",
 ];
 
-/// Writes how many turns were taken, how many by each thread that took one, and the level of the deepest place; a line each.
+/// Writes how many turns were taken, how many by each thread that took one, and the level of the
+/// deepest place; a line each.
 pub fn write_turns<O: Write>(out: &mut O, program: &Program, turns: &TurnCounts) -> io::Result<()> {
     writeln!(out, "turns {}", turns.all())?;
     for thread in 0..=u8::MAX {
@@ -40,9 +41,10 @@ pub fn write_turns<O: Write>(out: &mut O, program: &Program, turns: &TurnCounts)
     out.flush()
 }
 
-/// Writes the turns of a run on nodes as `write_turns` does, and behind them how many tasks were evaluated whole, if any was, and in how many
-/// turns; how often work was asked for, granted, refused, and done again; the packets by their kinds; and how many frames and subcomputations
-/// one node held at most; a line each.
+/// Writes the turns of a run on nodes as `write_turns` does, and behind them how many tasks were
+/// evaluated whole, if any was, and in how many turns; how often work was asked for, granted,
+/// refused, and done again; the packets by their kinds; and how many frames and subcomputations one
+/// node held at most; a line each.
 pub fn write_counts<O: Write>(
     out: &mut O,
     program: &Program,
@@ -60,8 +62,9 @@ pub fn write_counts<O: Write>(
     out.flush()
 }
 
-/// Writes how many tasks were evaluated whole, and in how many turns; nothing where none was. Of a run on threads, how many values were used
-/// that evaluations had kept which ran out of turns, and how many turns were evaluated of which nothing was kept.
+/// Writes how many tasks were evaluated whole, and in how many turns; nothing where none was. Of a
+/// run on threads, how many values were used that evaluations had kept which ran out of turns, and
+/// how many turns were evaluated of which nothing was kept.
 fn write_wholes<O: Write>(out: &mut O, counts: &RunCounts) -> io::Result<()> {
     if counts.wholes() == 0 {
         return Ok(());

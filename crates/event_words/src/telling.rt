@@ -13,7 +13,8 @@ use std::io::{self, Write};
 use task_tree::Program;
 use world::{EventAnswer, World};
 
-/// The number of an event and its line, and behind a colon what it did, parted by semicolons. All that fails here fails when out of memory.
+/// The number of an event and its line, and behind a colon what it did, parted by semicolons. All
+/// that fails here fails when out of memory.
 #[derive(Drop)]
 pub(crate) struct Telling {
     text: Vec<u8>,
@@ -35,7 +36,8 @@ impl Telling {
         })
     }
 
-    /// Tells what was told of an event, behind which the world is this; of an outcome only where it is a new one.
+    /// Tells what was told of an event, behind which the world is this; of an outcome only where it
+    /// is a new one.
     pub(crate) fn tell(
         &mut self,
         alloc: Global,
@@ -85,7 +87,8 @@ impl Telling {
         write!(self.text, "{words}")
     }
 
-    /// Says which body ran, by the words of its thread and numbers, and what it came to, with so many values put into slots.
+    /// Says which body ran, by the words of its thread and numbers, and what it came to, with so
+    /// many values put into slots.
     pub(crate) fn say_turn(
         &mut self,
         world: &World<'_>,

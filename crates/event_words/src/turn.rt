@@ -1,4 +1,5 @@
-//! The words of a turn: which frame a node carried out, by its body or by its whole value, and what that came to.
+//! The words of a turn: which frame a node carried out, by its body or by its whole value, and what
+//! that came to.
 
 use crate::names::MinterName;
 use crate::packet::write_thread;
@@ -10,7 +11,8 @@ use subcomputation::Sub;
 use task_tree::Program;
 use world::World;
 
-/// A frame that an event carries out, the place whose node does, and whether it is by the frame's whole value.
+/// A frame that an event carries out, the place whose node does, and whether it is by the frame's
+/// whole value.
 #[derive(Clone, Copy)]
 pub struct Ran {
     pub place: NodePlace,
@@ -48,9 +50,9 @@ pub(crate) fn write_ran<O: Write>(out: &mut O, ran: &Ran) -> io::Result<()> {
     )
 }
 
-/// Writes the words of a turn, in the world after it: the event, and behind a colon what it came to, as
-/// `exec 0 H1/1 2: main(1) sends 1 to slot 0 of frame 1`. Before the turn `write_task` has written the task, and the turn put so many values
-/// into slots. No line's end is written.
+/// Writes the words of a turn, in the world after it: the event, and behind a colon what it came
+/// to, as `exec 0 H1/1 2: main(1) sends 1 to slot 0 of frame 1`. Before the turn `write_task` has
+/// written the task, and the turn put so many values into slots. No line's end is written.
 pub fn write_turn<O: Write>(
     out: &mut O,
     world: &World<'_>,
@@ -64,7 +66,8 @@ pub fn write_turn<O: Write>(
     write_end(out, world, ran, fills)
 }
 
-/// Writes the thread and the numbers of a frame that is to run, as `main(1)`, in the world before that; nothing where it isn't there.
+/// Writes the thread and the numbers of a frame that is to run, as `main(1)`, in the world before
+/// that; nothing where it isn't there.
 pub fn write_task<O: Write>(out: &mut O, world: &World<'_>, ran: &Ran) -> io::Result<()> {
     let Some(node) = world.node(ran.place) else {
         return Ok(());
@@ -109,8 +112,8 @@ fn write_frame<O: Write>(out: &mut O, program: &Program, frame: &Frame) -> io::R
     write!(out, ")")
 }
 
-/// Writes what a turn came to, in the world after it: the value that it sent, and whither; or the frames that it made. Of a task that was
-/// evaluated whole, the value that it gave.
+/// Writes what a turn came to, in the world after it: the value that it sent, and whither; or the
+/// frames that it made. Of a task that was evaluated whole, the value that it gave.
 pub(crate) fn write_end<O: Write>(
     out: &mut O,
     world: &World<'_>,
@@ -143,7 +146,8 @@ pub(crate) fn write_end<O: Write>(
     }
 }
 
-/// Writes the value that a turn sent; or that a task gave which was evaluated whole, and in how many turns.
+/// Writes the value that a turn sent; or that a task gave which was evaluated whole, and in how
+/// many turns.
 fn write_value<O: Write>(out: &mut O, node: &Node<'_>, ran: &Ran, value: i64) -> io::Result<()> {
     if !ran.is_whole {
         return write!(out, " sends {value}");

@@ -46,7 +46,8 @@ pub fn explain_replay<R: Files + AllocGlobal, W: Write>(
     }
 }
 
-/// Explains that a packet isn't the one that a script tells: whose trace tells it, and in which line.
+/// Explains that a packet isn't the one that a script tells: whose trace tells it, and in which
+/// line.
 fn explain_packet<W: Write>(
     out: &mut W,
     script: &str,
@@ -83,7 +84,8 @@ fn word_at(line: &[u8], index: usize) -> &str {
     }
 }
 
-/// Tells which of the named files can't be read, and why; where each can, that what is answered can't be written.
+/// Tells which of the named files can't be read, and why; where each can, that what is answered
+/// can't be written.
 pub fn explain_files<R: Files, W: Write>(rt: &R, out: &mut W, files: &[&str]) -> io::Result<()> {
     for file in files {
         if let Err(error) = look_at(rt, *file) {
@@ -96,7 +98,8 @@ pub fn explain_files<R: Files, W: Write>(rt: &R, out: &mut W, files: &[&str]) ->
     )
 }
 
-/// Whether a file can be read, by its first byte. What is no file and no folder is left alone, since it may keep its reader waiting.
+/// Whether a file can be read, by its first byte. What is no file and no folder is left alone,
+/// since it may keep its reader waiting.
 fn look_at<R: Files>(rt: &R, file: &str) -> io::Result<()> {
     let metadata = fs::metadata(rt, file)?;
     if metadata.is_file() || metadata.is_dir() {

@@ -159,7 +159,8 @@ fn back(a: &[u8], b: &[u8]) -> usize {
     len
 }
 
-/// Whether two words differ in one letter at most, of which one of them may have none, or in two that changed places.
+/// Whether two words differ in one letter at most, of which one of them may have none, or in two
+/// that changed places.
 fn is_near(a: &[u8], b: &[u8]) -> bool {
     let front = front(a, b);
     let (a, b) = (part(a, front, a.len()), part(b, front, b.len()));

@@ -6,7 +6,8 @@ use std::alloc::Global;
 
 const COMMENT: &str = "a comment is written `// ..`, up to the end of its line";
 
-/// What to write in the place of what stands at an offset, where these sorts can stand; none where it is no such form.
+/// What to write in the place of what stands at an offset, where these sorts can stand; none where
+/// it is no such form.
 pub(crate) fn habit_at(
     alloc: Global,
     text: &[u8],
@@ -44,7 +45,8 @@ fn is_behind_else(text: &[u8], at: usize, wanted: &Wanted) -> bool {
     wanted.has(Sort::OpenBrace) && !wanted.has(Sort::Operator) && before.ends_with(b"else")
 }
 
-/// Whether a name stands at an offset, and a single `=` behind it, with blanks in front of that or none.
+/// Whether a name stands at an offset, and a single `=` behind it, with blanks in front of that or
+/// none.
 fn is_given(alloc: Global, text: &[u8], at: usize, word: &[u8]) -> bool {
     has_assign(text, at.saturating_add(word.len()))
         && stands_behind(alloc, part(text, 0, at), b"let".as_slice(), word)

@@ -83,8 +83,8 @@ fn has_hole_at(uses: &[Use], at: u32) -> bool {
     false
 }
 
-/// Whether the name at an offset of a block lacks its `?`: it is a whole argument of `spawn_next`, which has no
-/// such hole, and it is used as one.
+/// Whether the name at an offset of a block lacks its `?`: it is a whole argument of `spawn_next`,
+/// which has no such hole, and it is used as one.
 fn lacks_mark(block: &Block, at: u32, name: &[u8]) -> bool {
     let End::Next(_, _, arguments, uses) = &block.end else {
         return false;
@@ -307,7 +307,8 @@ impl<'a> Around<'a> {
         }
     }
 
-    /// Writes what to write for a name that isn't known, where a continuation is wanted or a `?` is forgotten.
+    /// Writes what to write for a name that isn't known, where a continuation is wanted or a `?` is
+    /// forgotten.
     fn write_hint<W: Write>(&self, out: &mut W) -> io::Result<()> {
         match role_at(self.block, self.at) {
             Role::Number => {

@@ -93,7 +93,8 @@ impl Mistake {
     }
 }
 
-/// What is wrong with a line of a script, from 1 on; none where it isn't the first one that is refused, or may go on.
+/// What is wrong with a line of a script, from 1 on; none where it isn't the first one that is
+/// refused, or may go on.
 pub(crate) fn mistake_in(script: &[u8], number: u64) -> Option<Mistake> {
     match Script::new(script) {
         Err(line) if line.number() == number => {}

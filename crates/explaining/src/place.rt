@@ -8,8 +8,8 @@ const BEFORE: usize = 60;
 /// How many carets there are at most.
 const CARETS: usize = 40;
 
-/// Bytes of a text that are meant: their line and column, each from 1 on, where that line begins, where they
-/// begin, and how many they are.
+/// Bytes of a text that are meant: their line and column, each from 1 on, where that line begins,
+/// where they begin, and how many they are.
 #[derive(Clone, Copy)]
 pub(crate) struct Place {
     line: usize,
@@ -149,7 +149,8 @@ impl Place {
         self.len > 0
     }
 
-    /// Writes the file, the line and the column, and the bytes that are meant, if they are to be told.
+    /// Writes the file, the line and the column, and the bytes that are meant, if they are to be
+    /// told.
     pub(crate) fn write_front<W: Write>(
         &self,
         out: &mut W,
@@ -165,7 +166,8 @@ impl Place {
         Ok(())
     }
 
-    /// Writes the line of the place, and below it carets under what is meant; of a long line the part around the place.
+    /// Writes the line of the place, and below it carets under what is meant; of a long line the
+    /// part around the place.
     pub(crate) fn write_line<W: Write>(&self, out: &mut W, text: &[u8]) -> io::Result<()> {
         let from = self.start.max(self.at.saturating_sub(BEFORE));
         write!(out, "    ")?;

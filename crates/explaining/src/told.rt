@@ -9,8 +9,9 @@ use std::alloc::Global;
 use std::io::{self, Write};
 use task_syntax::{LONGEST_TEXT, ParseError, Program, parse};
 
-/// Explains why a text of a file and an input are no job: at the place of the text, if the fault has one, or by the
-/// numbers that `main` takes. A fault that isn't the text's isn't explained: another text stands there by now.
+/// Explains why a text of a file and an input are no job: at the place of the text, if the fault
+/// has one, or by the numbers that `main` takes. A fault that isn't the text's isn't explained:
+/// another text stands there by now.
 pub fn explain_job<W: Write>(
     alloc: Global,
     out: &mut W,
@@ -107,8 +108,9 @@ pub fn explain_number<W: Write>(out: &mut W, number: u8) -> io::Result<()> {
     writeln!(out, "{sentence}")
 }
 
-/// Explains that a line of a script's file, from 1 on, isn't an event's. A line that isn't the first of these bytes
-/// which is refused isn't explained: another script stands there by now, or they are a part of it.
+/// Explains that a line of a script's file, from 1 on, isn't an event's. A line that isn't the
+/// first of these bytes which is refused isn't explained: another script stands there by now, or
+/// they are a part of it.
 pub fn explain_line<W: Write>(
     out: &mut W,
     file: &str,

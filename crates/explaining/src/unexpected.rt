@@ -6,8 +6,9 @@ use crate::wanted::{Sort, Wanted, stands_behind};
 use std::alloc::Global;
 use std::io::{self, Write};
 
-/// Explains that the token at an offset of a text can't stand there, or that the text can't end there. Where a
-/// semicolon is missing in front of it, or the text ends, the place is behind the last token.
+/// Explains that the token at an offset of a text can't stand there, or that the text can't end
+/// there. Where a semicolon is missing in front of it, or the text ends, the place is behind the
+/// last token.
 pub(crate) fn explain_unexpected<W: Write>(
     alloc: Global,
     out: &mut W,
@@ -42,7 +43,8 @@ pub(crate) fn explain_unexpected<W: Write>(
     }
 }
 
-/// Writes what is wrong at a place of a text, and what is wanted; and what is meant, where bytes are.
+/// Writes what is wrong at a place of a text, and what is wanted; and what is meant, where bytes
+/// are.
 fn write_all<W: Write>(
     out: &mut W,
     file: &str,

@@ -1,5 +1,6 @@
-//! What can stand at a place of a text. The reader itself says so: it reads what stands in front of the place, and
-//! behind that one token of a sort. Where it refuses neither that token nor anything before it, it can stand there.
+//! What can stand at a place of a text. The reader itself says so: it reads what stands in front of
+//! the place, and behind that one token of a sort. Where it refuses neither that token nor anything
+//! before it, it can stand there.
 
 use std::alloc::{AllocError, Global};
 use std::io::{self, Write};
@@ -123,8 +124,8 @@ fn refusal(alloc: Global, text: &[u8]) -> Option<Option<usize>> {
     }
 }
 
-/// Whether a token can stand behind these bytes, or a text can end there; none where that isn't known. A comment in
-/// which they end goes no further.
+/// Whether a token can stand behind these bytes, or a text can end there; none where that isn't
+/// known. A comment in which they end goes no further.
 fn stands(alloc: Global, before: &[u8], token: &[u8]) -> Option<bool> {
     let text = joined(alloc, before, token).ok()?;
     let refused = refusal(alloc, text.as_slice())?;

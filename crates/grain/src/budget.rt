@@ -1,25 +1,29 @@
 //! In how many turns a node lets its body workers evaluate a task.
 
-/// So many turns a task may take at least, where a run allows as many: they take about as long as the events of its frame.
+/// So many turns a task may take at least, where a run allows as many: they take about as long as
+/// the events of its frame.
 const LEAST: u64 = 1_024;
 
 /// The first task of a node may take one in so many of the turns that a run allows.
 const FIRST: u64 = 8;
 
-/// Where less than one in so many turns of values that were used was in vain, a task may take one in so many of these.
+/// Where less than one in so many turns of values that were used was in vain, a task may take one
+/// in so many of these.
 const FEW: u64 = 8;
 
 const PART: u64 = 32;
 
-/// In at most how many turns the next task is evaluated. They are halved where one didn't come to its end in as many, and doubled where one
-/// took more than half of them; there are more where little was in vain so far. So what is evaluated in vain is at most some times as much
-/// as what isn't, however many of a node's tasks are large.
+/// In at most how many turns the next task is evaluated. They are halved where one didn't come to
+/// its end in as many, and doubled where one took more than half of them; there are more where
+/// little was in vain so far. So what is evaluated in vain is at most some times as much as what
+/// isn't, however many of a node's tasks are large.
 #[derive(Clone, Copy)]
 pub(crate) struct Budget {
     // How many a run allows; 0 where each frame takes its own turn.
     grain: u64,
     most: u64,
-    // The turns of values by which frames were carried out, and of those that were tried in vain, but for kept values that were used.
+    // The turns of values by which frames were carried out, and of those that were tried in vain,
+    // but for kept values that were used.
     used: u64,
     vain: u64,
 }
@@ -50,7 +54,7 @@ impl Budget {
     }
 
     /// A frame is carried out by its task's value, which was found in so many turns.
-    pub(crate) fn ends(&mut self, turns: u64) {
+    pub(crate) fn succeed(&mut self, turns: u64) {
         self.used = self.used.saturating_add(turns);
         if turns > self.most / 2 {
             self.most = self.most.saturating_mul(2).min(self.grain);
@@ -58,13 +62,13 @@ impl Budget {
     }
 
     /// The same, where the value was kept: these turns weren't in vain.
-    pub(crate) fn ends_kept(&mut self, turns: u64) {
-        self.ends(turns);
+    pub(crate) fn use_kept(&mut self, turns: u64) {
+        self.succeed(turns);
         self.vain = self.vain.saturating_sub(turns);
     }
 
     /// A task wasn't evaluated to its end in so many turns.
-    pub(crate) fn fails(&mut self, turns: u64) {
+    pub(crate) fn fail(&mut self, turns: u64) {
         self.vain = self.vain.saturating_add(turns);
         if turns <= self.most {
             self.most = (self.most / 2).max(LEAST).min(self.grain);
@@ -72,7 +76,7 @@ impl Budget {
     }
 
     /// Another node starts at the place: nothing is known of its tasks.
-    pub(crate) fn forgets(&mut self) {
+    pub(crate) fn forget(&mut self) {
         *self = Budget::new(self.grain);
     }
 }

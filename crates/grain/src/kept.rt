@@ -79,7 +79,8 @@ impl KeptValues {
     }
 }
 
-/// Whether a value is that of a ready frame's task, as far as its thread, its numbers and its room say so.
+/// Whether a value is that of a ready frame's task, as far as its thread, its numbers and its room
+/// say so.
 fn is_value_of(value: &Whole, work: &Work) -> bool {
     value.thread() == work.thread
         && value.room() == work.room

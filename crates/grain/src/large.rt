@@ -8,17 +8,18 @@ use std::alloc::{AllocError, Global};
 /// From how many tasks on that are known to be large older ones are forgotten.
 const MOST_LARGE: usize = 4_096;
 
-/// After how many evaluations in a row of tasks of a thread that didn't come to their end its next ones aren't tried, but for one in so many.
+/// After how many evaluations in a row of tasks of a thread that didn't come to their end its next
+/// ones aren't tried, but for one in so many.
 const MOST_FAILED: u32 = 8;
 
 const TRIED: u32 = 64;
 
-/// A task that was under way where an evaluation broke off is known to be large where that evaluation had done one in so many of its turns
-/// below it. One that began later may be small.
+/// A task that was under way where an evaluation broke off is known to be large where that
+/// evaluation had done one in so many of its turns below it. One that began later may be small.
 const PART: u64 = 8;
 
-/// The tasks that are known to be large. Of each thread, how many of its tasks in a row weren't evaluated to their end, and how many weren't
-/// tried since the last one that was.
+/// The tasks that are known to be large. Of each thread, how many of its tasks in a row weren't
+/// evaluated to their end, and how many weren't tried since the last one that was.
 #[derive(Drop)]
 pub(crate) struct LargeTasks {
     tasks: Vec<UnderWay>,
@@ -43,7 +44,7 @@ impl LargeTasks {
     }
 
     /// Whether a ready frame's task is known to be large. It isn't any more then.
-    pub(crate) fn takes(&mut self, work: &Work) -> bool {
+    pub(crate) fn take(&mut self, work: &Work) -> bool {
         let Some(index) = self.last(work) else {
             return false;
         };
@@ -53,7 +54,8 @@ impl LargeTasks {
         true
     }
 
-    /// Where a ready frame's task stands last. Those of one evaluation become ready from its own task inwards, and stand the other way round.
+    /// Where a ready frame's task stands last. Those of one evaluation become ready from its own
+    /// task inwards, and stand the other way round.
     fn last(&self, work: &Work) -> Option<usize> {
         let count = self.tasks.len();
         for behind in 0..count {
@@ -66,7 +68,7 @@ impl LargeTasks {
     }
 
     /// Whether a task of a thread isn't tried, as those before weren't evaluated to their end.
-    pub(crate) fn passes_over(&mut self, thread: u8) -> bool {
+    pub(crate) fn pass_over(&mut self, thread: u8) -> bool {
         match self.failed.get(usize::from(thread)) {
             Some(failed) if *failed >= MOST_FAILED => {}
             _ => return false,
@@ -79,21 +81,21 @@ impl LargeTasks {
     }
 
     /// A task of a thread was evaluated to its end.
-    pub(crate) fn ends(&mut self, thread: u8) {
+    pub(crate) fn succeed(&mut self, thread: u8) {
         if let Some(failed) = self.failed.get_mut(usize::from(thread)) {
             *failed = 0;
         }
     }
 
     /// A task of a thread wasn't evaluated to its end.
-    pub(crate) fn fails(&mut self, thread: u8) {
+    pub(crate) fn fail(&mut self, thread: u8) {
         if let Some(failed) = self.failed.get_mut(usize::from(thread)) {
             *failed = failed.saturating_add(1);
         }
     }
 
     /// Tasks are known to be large, as far as there is memory; the outermost one stands last.
-    pub(crate) fn learns(&mut self, mut tasks: Vec<UnderWay>) {
+    pub(crate) fn learn(&mut self, mut tasks: Vec<UnderWay>) {
         if self.tasks.len() >= MOST_LARGE {
             self.tasks.clear();
         }
@@ -101,14 +103,15 @@ impl LargeTasks {
     }
 
     /// Nothing is known any more.
-    pub(crate) fn forgets(&mut self) {
+    pub(crate) fn forget(&mut self) {
         self.tasks.clear();
         self.failed.fill(0);
     }
 }
 
-/// Of the tasks that were under way where an evaluation of so many turns broke off, from the outermost one on, those that are large by what
-/// was kept, which stands in the same order; the outermost one stands last then.
+/// Of the tasks that were under way where an evaluation of so many turns broke off, from the
+/// outermost one on, those that are large by what was kept, which stands in the same order; the
+/// outermost one stands last then.
 pub(crate) fn large_of(under_way: &mut Vec<UnderWay>, kept: &[Whole], turns: u64) {
     let room = room_of_part(kept, turns / PART);
     if let Some(first) = under_way.iter().position(|task| task.room <= room) {
@@ -117,8 +120,8 @@ pub(crate) fn large_of(under_way: &mut Vec<UnderWay>, kept: &[Whole], turns: u64
     under_way.reverse();
 }
 
-/// How many places can be below the innermost value of those that make up so many turns together, from the innermost one outwards; as many as
-/// a number says where they don't.
+/// How many places can be below the innermost value of those that make up so many turns together,
+/// from the innermost one outwards; as many as a number says where they don't.
 fn room_of_part(kept: &[Whole], turns: u64) -> u16 {
     let mut done: u64 = 0;
     for value in kept.iter().rev() {

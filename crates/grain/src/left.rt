@@ -10,11 +10,13 @@ use node_core::Work;
 use serial_meaning::{ALL_LEVELS, Flat, Keeper, UnderWay, Whole};
 use std::alloc::Global;
 
-/// On how many levels below a task an evaluation keeps values at most. To do so on all of them takes up to a half longer.
+/// On how many levels below a task an evaluation keeps values at most. To do so on all of them takes
+/// up to a half longer.
 pub(crate) const LEVELS: u16 = 7;
 
-/// What is left of an evaluation that broke off: in how many turns it did; the values of tasks below that it finished; those tasks that are
-/// known to be large; and on how many levels the next evaluation should keep values. Of one that wasn't begun nothing is.
+/// What is left of an evaluation that broke off: in how many turns it did; the values of tasks
+/// below that it finished; those tasks that are known to be large; and on how many levels the next
+/// evaluation should keep values. Of one that wasn't begun nothing is.
 #[derive(Drop)]
 pub struct Left {
     pub turns: u64,
@@ -37,8 +39,8 @@ impl Left {
     }
 }
 
-/// Evaluates a ready frame's task whole, in at most so many turns, and keeps values on so many levels below it. Where that isn't done, the
-/// task's numbers come back, and what is left.
+/// Evaluates a ready frame's task whole, in at most so many turns, and keeps values on so many
+/// levels below it. Where that isn't done, the task's numbers come back, and what is left.
 pub fn evaluate(
     alloc: Global,
     checked: &Checked,
@@ -85,7 +87,8 @@ pub fn evaluate(
     }
 }
 
-/// Whether the thread of a ready frame is there and takes its numbers, as it does of each frame that a node has.
+/// Whether the thread of a ready frame is there and takes its numbers, as it does of each frame
+/// that a node has.
 pub fn takes_its_numbers(checked: &Checked, work: &Work) -> bool
     ensures { result ≡ true → Takes checked.now work.now.thread (length work.now.numbers) }
 {
@@ -95,8 +98,9 @@ pub fn takes_its_numbers(checked: &Checked, work: &Work) -> bool
     checked.program().thread(work.thread).numbers.len() == work.numbers.len()
 }
 
-/// On how many levels those evaluations should keep values that follow one of a task with so many places below its own, which took so many
-/// turns and didn't come to its end: on all of them, where what it kept on the first ones is less than three quarters of what it did.
+/// On how many levels those evaluations should keep values that follow one of a task with so many
+/// places below its own, which took so many turns and didn't come to its end: on all of them, where
+/// what it kept on the first ones is less than three quarters of what it did.
 fn levels_behind(kept: &[Whole], room: u16, turns: u64) -> u16 {
     let mut near: u64 = 0;
     for value in kept {

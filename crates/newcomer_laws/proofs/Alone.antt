@@ -182,7 +182,8 @@ started job a word w can o over =
     let all : starts job a word w ≡ stepped a (start job word) (with_used word w) = rw can refl in
     went a (start job word) (with_used word w) o (over ∙ all)
 
--- where a run of a newcomer stands: the open clearinghouse, its node, and how many packets were sent
+-- where a run of a newcomer stands: the open clearinghouse, its node, and how many packets were
+-- sent
 record Stage (a : ℕ) (h : HouseOf) (n : NodeOf) (sent : ℕ) (w : WorldOf) : Type 0 where
   house : open_house w.house ≡ Some h
   node : node_in a w.nodes ≡ Some n

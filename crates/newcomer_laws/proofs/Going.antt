@@ -1,4 +1,5 @@
--- What one event leads to that is carried out: a call of a node, and a packet that is delivered to the clearinghouse.
+-- What one event leads to that is carried out: a call of a node, and a packet that is delivered to
+-- the clearinghouse.
 use Rattle.std.proofs.Common.{◌≡◌, ◌+◌, ℕ, List, [], ◌∷◌, ◌++◌, length, slice_get, Option, Some, refl, ap, subst, ◌∙◌, arith, length-append}
 use Rattle.codec.specs.Table.{PacketOf}
 use Rattle.level_deques.proofs.Lists.{get_second}

@@ -1,4 +1,5 @@
--- Where a newcomer can finish: behind a moment at which the root's holder was silent for too long, and behind an opening.
+-- Where a newcomer can finish: behind a moment at which the root's holder was silent for too long,
+-- and behind an opening.
 use Rattle.std.proofs.Common.{◌≡◌, ◌+◌, ◌<◌, ◌^◌, ℕ, Bool, true, false, cond, List, [], ◌∷◌, length, map, ⊎_elim, Option, None, Some, refl, sym, ap, ◌∙◌, arith}
 use Rattle.std.specs.List.{list_any}
 use Rattle.std.proofs.lemmas.Bool.{lt-ltb}

@@ -16,7 +16,8 @@ use Rattle.world_steps.specs.Nodes.{can_start}
 use Rattle.world_steps.specs.Steps.{CarriedOut}
 use Rattle.world_steps.specs.World.{WorldOf, open_house}
 
--- events are carried out one after another, whatever each of them leads to, and lead from a world to a last one
+-- events are carried out one after another, whatever each of them leads to, and lead from a world
+-- to a last one
 abbrev pub AllCarriedOut : JobOf → List Event → WorldOf → WorldOf → Type 0
 AllCarriedOut job [] w last = last ≡ w
 AllCarriedOut job (e ∷ es) w last = (o : StepResult) × CarriedOut job e w o × AllCarriedOut job es o.world last
@@ -28,7 +29,8 @@ pub record CanFinish (h : HouseOf) : Type 0 where
   pub grant : h.minted + 1 < 2 ^ 64
   pub commit : h.sequence + 1 < 2 ^ 64
 
--- a node can start at a place with a word that the clearinghouse doesn't list and never answered, and one more can be listed
+-- a node can start at a place with a word that the clearinghouse doesn't list and never answered,
+-- and one more can be listed
 pub record CanCome (w : WorldOf) (h : HouseOf) (a word : ℕ) : Type 0 where
   pub starts : can_start a word w ≡ true
   pub unlisted : item_in name_of_enlisted (word, 0) h.workers ≡ None
@@ -50,9 +52,10 @@ turns_by job (Some call) = serial_turns job.program (room []) call.thread call.n
 abbrev pub turns_of : JobOf → ℕ
 turns_of job = turns_by job (root job.program job.input)
 
--- the newcomer starts at place a; its Join and then the roster are delivered; it asks the clearinghouse, and its Steal and then the Grant
--- are delivered; it carries out the root's task by its whole value, in at most so many turns, and its Result is delivered. Packets are
--- numbered as they are sent
+-- the newcomer starts at place a; its Join and then the roster are delivered; it asks the
+-- clearinghouse, and its Steal and then the Grant are delivered; it carries out the root's task by
+-- its whole value, in at most so many turns, and its Result is delivered. Packets are numbered as
+-- they are sent
 abbrev pub newcomers : (a word most : ℕ) → HouseOf → WorldOf → List Event
 newcomers a word most h w =
     Start a word

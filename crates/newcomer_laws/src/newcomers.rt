@@ -16,8 +16,9 @@ ghost use Rattle.world_steps.specs.World.{WorldOf, first_over, open_house, recor
 ghost use Rattle.safe_runs.specs.Next.{IsSilent};
 ghost use Rattle.newcomer_laws.specs.Newcomers.{AllCarriedOut, CanCome, IsReady, newcomers, turns_of};
 
-/// In a world of a run whose clearinghouse is open, has no outcome and doesn't grant the root, where a start, a place on its list, a grant and
-/// a commit are left (clause `now`): once the eight events of a worker that is new there are carried out, one after another, the job's value is
+/// In a world of a run whose clearinghouse is open, has no outcome and doesn't grant the root,
+/// where a start, a place on its list, a grant and a commit are left (clause `now`): once the eight
+/// events of a worker that is new there are carried out, one after another, the job's value is
 /// recorded. So it is where one event of whatever kind led there (clause `later`). Does nothing.
 pub fn a_newcomer_alone_finishes()
     ensures now { (job : JobOf) (d : Device) (entries : List Entry) (worlds : List WorldOf) (w : WorldOf)
@@ -45,8 +46,9 @@ pub fn a_newcomer_alone_finishes()
         → recorded last ≡ Some (Value v) }
 {}
 
-/// Where a newcomer can do so: behind a moment at which the holder of the root's grant was silent for too long (clause `moment`), and where a
-/// clearinghouse that wasn't open was opened, and has no outcome (clause `opening`). Does nothing.
+/// Where a newcomer can do so: behind a moment at which the holder of the root's grant was silent
+/// for too long (clause `moment`), and where a clearinghouse that wasn't open was opened, and has
+/// no outcome (clause `opening`). Does nothing.
 pub fn a_newcomer_can_come()
     ensures moment { (job : JobOf) (d : Device) (entries : List Entry) (worlds : List WorldOf) (w : WorldOf)
         (h : HouseOf) (root : RootGrant) (now a word : ℕ) (o : StepResult)

@@ -20,6 +20,9 @@ use victim_records::Records;
 pub fn send_on(sent: &mut Listed<Datagram>, more: Listed<Datagram>) -> Result<(), AllocError>
     ensures { OnOk result (sent.new ≡ sent.old ++ more) }
 {
+    if more.is_empty() {
+        return Ok(());
+    }
     for packet in more.into_vec() {
         sent.push(packet)?;
     }

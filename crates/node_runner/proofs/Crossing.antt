@@ -91,7 +91,8 @@ shared s a G D k h y d = recorded_sync (Shared.the_field s a G D k h).row _ _ (S
   ),
 ))
 
--- what the closure captures that is each thread's body: the runtime, the allocator, and what actors share
+-- what the closure captures that is each thread's body: the runtime, the allocator, and what actors
+-- share
 pub captured : (l m n o p : NamedLft) (R G D : RattleType) (k : SteadyGhosts (param 2 D).Denot) (h : Ghosts (param 2 D).Denot) → IsSync (param 0 R) → IsSync (param 1 G) → IsSend (param 2 D)
     → IsSync (TupleAt [] ((shr_ref_field l (param 0 R) tt).row ∷ (shr_ref_field m Heap.the_row tt).row ∷ (shr_ref_field n (Shared.the_row o p (param 1 G) (param 2 D) k h) tt).row ∷ []))
 captured l m n o p R G D k h r g d =

@@ -16,7 +16,8 @@ pub record FatesOf : Type 0 where
 abbrev pub first : ℕ → ℕ → ℕ → ℕ → FatesOf
 first word place lose repeat = record { words = pcg32_of_seed (pcg32_seed 16 ((word + place) % 2 ^ 64)); lose = lose; repeat = repeat }
 
--- whether a word that is drawn is 0 modulo n, and the generator after it; where n is 0, none is drawn
+-- whether a word that is drawn is 0 modulo n, and the generator after it; where n is 0, none is
+-- drawn
 abbrev pub drawn : ℕ → Lcg → Bool × Lcg
 drawn n g = if n == 0 then (false, g) else ((pcg32 g).0 % n == 0, (pcg32 g).1)
 

@@ -17,10 +17,12 @@ use Rattle.node_runner.specs.Lines.{IsHomeOf, IsLineOf}
 use Rattle.node_runner.specs.declared.crew.ActorContext.{ActorContext}
 use Rattle.node_runner.specs.declared.crew.NodeContext.{NodeContext}
 use Rattle.node_runner.specs.declared.crew.WorkerContext.{WorkerContext}
+use Rattle.node_runner.specs.declared.node.NodeRun.{NodeRun}
 use Rattle.node_runner.specs.declared.run.Ran.{Ran}
 
--- where what is saved on the disk that was given agrees, the outcome is the job's meaning; the trace is a safe history of the job over this
--- disk, and tells this outcome first; and the disk that comes back keeps it, as it was found on the one that this history leaves
+-- where what is saved on the disk that was given agrees, the outcome is the job's meaning; the
+-- trace is a safe history of the job over this disk, and tells this outcome first; and the disk
+-- that comes back keeps it, as it was found on the one that this history leaves
 pub record IsRanOf {D : Type 0} (device : D → Device) (job : JobOf) (first : Device) (ran : Ran D) : Type 0 where
   pub meant : StoredAgree job first → ran.outcome ≡ meaning_of job
   pub out_of_memory : Bool
@@ -37,18 +39,23 @@ pub record KeepsOutcome (file : List Cell) (number : ℕ) (outcome : Outcome) : 
   pub own : found.job ≡ number
   pub told : found.outcome ≡ Some outcome
 
--- where what is saved on the disk with which a chronicle's history begins agrees, an outcome that it tells is the meaning of its job: so a
--- board takes it
+-- where what is saved on the disk with which a chronicle's history begins agrees, an outcome that
+-- it tells is the meaning of its job: so a board takes it
 abbrev pub TakesOutcomesOf : ChronicleOf → BoardOf → Type 0
 TakesOutcomesOf c b = (o : Outcome) → (StoredAgree c.job c.first → o ≡ meaning_of c.job) → IsMeant b.job b.saved o
 
--- what a node has besides its seat: a pen of a table of start words, and a desk for turns of the job's program
+-- what a node has besides its seat: a pen of a table of start words, and a desk for turns of the
+-- job's program
 abbrev pub IsNodeIn : JobOf → TableOf → NodeContext → Type 0
 IsNodeIn job words node = IsPenOf words node.pen × IsHomeOf job.program node.desk.home
 
 -- an actor's context, in a chronicle
 abbrev pub IsContextIn : {D : Type 0} → ChronicleOf → TableOf → ActorContext D → Type 0
 IsContextIn c words context = IsSeatIn c context.seat × IfSome context.node (IsNodeIn c.job words)
+
+-- what a node's thread has, in a chronicle and over a table of start words
+abbrev pub IsRunIn : {D : Type 0} → ChronicleOf → TableOf → NodeRun D → Type 0
+IsRunIn c words run = IsSeatIn c run.seat × (run.pen.table ≡ words.table) × IsHomeOf c.job.program run.desk.home
 
 -- a body worker's context, for turns of the job's program
 abbrev pub IsWorkerOf : JobOf → WorkerContext → Type 0

@@ -1,4 +1,5 @@
-//! Sleeping until there is something to do: the body workers of a node until it offers a ticket, and the node until a turn comes back.
+//! Sleeping until there is something to do: the body workers of a node until it offers a ticket,
+//! and the node until a turn comes back.
 
 use crossbeam_utils::CachePadded;
 use std::sync::Wait;
@@ -6,7 +7,8 @@ use std::sync::atomic::AtomicU64;
 use std::sync::atomic::Ordering::SeqCst;
 use std::time::Duration;
 
-/// How long a body worker sleeps at most, in microseconds. It is woken where there is something for it.
+/// How long a body worker sleeps at most, in microseconds. It is woken where there is something for
+/// it.
 const LONG: u64 = 10_000;
 
 /// By which threads sleep until another one has something for them.
@@ -35,12 +37,12 @@ impl Bell {
     }
 
     /// It is rung, and wakes nobody by itself.
-    fn rings(&self) {
+    fn ring(&self) {
         let _ = self.rung.fetch_add(1, SeqCst);
     }
 
     /// Sleeps for at most so many microseconds, unless it was rung since it had been rung so often.
-    fn sleeps<R: Wait>(&self, rt: &R, rung: u64, most: u64) {
+    fn sleep<R: Wait>(&self, rt: &R, rung: u64, most: u64) {
         let _ = self.asleep.fetch_add(1, SeqCst);
         let most = Duration::from_micros(most);
         self.rung
@@ -49,9 +51,10 @@ impl Bell {
     }
 }
 
-/// The bells of a node: one that it rings for each ticket that it offers, and one that its body workers ring for each that they took and
-/// are done with. Who looks for something reads how often the bell was rung, looks, and sleeps only where it wasn't rung since. So nobody
-/// sleeps beside what it waits for. The bells and the workers' count lie on cache lines of their own.
+/// The bells of a node: one that it rings for each ticket that it offers, and one that its body
+/// workers ring for each that they took and are done with. Who looks for something reads how often
+/// the bell was rung, looks, and sleeps only where it wasn't rung since. So nobody sleeps beside
+/// what it waits for. The bells and the workers' count lie on cache lines of their own.
 #[derive(Drop)]
 pub(crate) struct Bells {
     workers: u64,
@@ -76,20 +79,20 @@ impl Bells {
     }
 
     /// A ticket was offered. A body worker is woken where fewer look for tickets than wait.
-    pub(crate) fn offers(&self) {
-        self.offered.rings();
+    pub(crate) fn announce(&self) {
+        self.offered.ring();
         if self.offered.asleep() > 0 && self.looking() < self.queued() {
             self.offered.rung.wake_one();
         }
     }
 
     /// The node took a ticket back.
-    pub(crate) fn takes_back(&self) {
+    pub(crate) fn take_back(&self) {
         let _ = self.taken_back.fetch_add(1, SeqCst);
     }
 
     /// A body worker took a ticket.
-    pub(crate) fn takes(&self) {
+    pub(crate) fn take(&self) {
         let _ = self.taken.fetch_add(1, SeqCst);
     }
 
@@ -112,8 +115,8 @@ impl Bells {
     }
 
     /// The node has ended: all body workers are woken.
-    pub(crate) fn ends(&self) {
-        self.offered.rings();
+    pub(crate) fn end(&self) {
+        self.offered.ring();
         self.offered.rung.wake_all();
     }
 
@@ -128,25 +131,27 @@ impl Bells {
     }
 
     /// A body worker that found no ticket sleeps until one is offered.
-    pub(crate) fn worker_sleeps<R: Wait>(&self, rt: &R, offered: u64) {
-        self.offered.sleeps(rt, offered, LONG);
+    pub(crate) fn sleep_worker<R: Wait>(&self, rt: &R, offered: u64) {
+        self.offered.sleep(rt, offered, LONG);
     }
 
     /// A body worker gave its turn back: the node is woken, if it sleeps.
-    pub(crate) fn returns(&self) {
-        self.returned.rings();
+    pub(crate) fn give_back(&self) {
+        self.returned.ring();
         if self.returned.asleep() > 0 {
             self.returned.rung.wake_one();
         }
     }
 
-    /// How often body workers were done with a ticket, as the node reads it before it looks for a turn.
+    /// How often body workers were done with a ticket, as the node reads it before it looks for a
+    /// turn.
     pub(crate) fn returned(&self) -> u64 {
         self.returned.rung()
     }
 
-    /// The node, to which no turn came back, sleeps until one does, for at most so many microseconds.
-    pub(crate) fn node_sleeps<R: Wait>(&self, rt: &R, returned: u64, most: u64) {
-        self.returned.sleeps(rt, returned, most);
+    /// The node, to which no turn came back, sleeps until one does, for at most so many
+    /// microseconds.
+    pub(crate) fn sleep_node<R: Wait>(&self, rt: &R, returned: u64, most: u64) {
+        self.returned.sleep(rt, returned, most);
     }
 }

@@ -3,7 +3,8 @@ ghost use Rattle.node_runner.specs.Configs.{IsConfig};
 
 use std::marker::Model;
 
-/// The faults of a run. They are drawn from a word, so the same word draws the same ones at each place.
+/// The faults of a run. They are drawn from a word, so the same word draws the same ones at each
+/// place.
 #[derive(Clone, Copy, Debug, PartialEq, Eq)]
 pub struct Faults {
     /// The word from which all is drawn.
@@ -12,11 +13,13 @@ pub struct Faults {
     pub lose: u64,
     /// One packet in so many comes twice; none for 0.
     pub repeat: u64,
-    /// How many events are committed before those are counted after which crashes and departures come.
+    /// How many events are committed before those are counted after which crashes and departures
+    /// come.
     pub after: u64,
     /// How many crashes of nodes come, one after each 50 events.
     pub crashes: u64,
-    /// How many nodes leave, the first one 25 events after the first crash, and one after each 50 events.
+    /// How many nodes leave, the first one 25 events after the first crash, and one after each 50
+    /// events.
     pub departures: u64,
 }
 
@@ -34,7 +37,8 @@ impl Faults {
     }
 }
 
-/// How a run is made. Contracts see the counts of nodes and of body workers, the faults, and the greatest count of turns.
+/// How a run is made. Contracts see the counts of nodes and of body workers, the faults, and the
+/// greatest count of turns.
 #[derive(Drop)]
 pub struct RunConfig {
     nodes: u8,
@@ -55,8 +59,9 @@ impl Model for RunConfig {
 }
 
 impl RunConfig {
-    /// A run on so many nodes, 1 to 64, each with so many body workers, 1 to 8, in at most so many turns of all its threads. None for
-    /// other counts, and where as many nodes leave as there are or more.
+    /// A run on so many nodes, 1 to 64, each with so many body workers, 1 to 8, in at most so many
+    /// turns of all its threads. None for other counts, and where as many nodes leave as there are
+    /// or more.
     pub fn new(nodes: u64, bodies: u64, faults: Faults, turns: u64) -> Option<RunConfig>
         ensures some { IfSome result (λ c. c ≡ record {
           nodes = nodes;
@@ -83,15 +88,17 @@ impl RunConfig {
         })
     }
 
-    /// The same, where a ready frame's task may be evaluated whole, with all that comes of it, in at most so many turns, and fewer where those
-    /// before it took more than they might; where it isn't, or for 0, the frame takes its own turn.
+    /// The same, where a ready frame's task may be evaluated whole, with all that comes of it, in
+    /// at most so many turns, and fewer where those before it took more than they might; where it
+    /// isn't, or for 0, the frame takes its own turn.
     pub fn with_grain(self, grain: u64) -> RunConfig
         ensures { result ≡ self }
     {
         RunConfig { grain, ..self }
     }
 
-    /// In at most how many turns a task is evaluated whole; 0 where each frame takes its own turn. No clause speaks of it.
+    /// In at most how many turns a task is evaluated whole; 0 where each frame takes its own turn.
+    /// No clause speaks of it.
     pub fn grain(&self) -> u64 {
         self.grain
     }

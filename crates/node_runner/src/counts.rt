@@ -1,6 +1,8 @@
 use crossbeam_utils::CachePadded;
+use std::sync::Wait;
 use std::sync::atomic::AtomicU64;
 use std::sync::atomic::Ordering::SeqCst;
+use std::time::Duration;
 
 /// Why a run ends, as its actors tell each other.
 #[derive(Clone, Copy, Debug, PartialEq, Eq)]
@@ -18,17 +20,20 @@ pub(crate) enum End {
 /// How many turns a thread takes at once at most.
 const BATCH: u64 = 64;
 
-/// For so many turns that a run may take a thread takes one at once, and one more for each as many again.
+/// For so many turns that a run may take a thread takes one at once, and one more for each as many
+/// again.
 const SHARE: u64 = 65_536;
 
 /// Of the turns that are left a thread takes one in so many for an evaluation at most.
 const SPARED: u64 = 1_024;
 
-/// What is added to the count of threads where one gives up waiting for the others: more than there are.
+/// What is added to the count of threads where one gives up waiting for the others: more than there
+/// are.
 const GIVEN_UP: u64 = 1 << 32;
 
-/// What the actors of a run count together, each number by one step of an atomic word. The words lie on cache lines of their own: a thread
-/// that counts turns or bodies takes no line from one that counts events.
+/// What the actors of a run count together, each number by one step of an atomic word. The words
+/// lie on cache lines of their own: a thread that counts turns or bodies takes no line from one
+/// that counts events.
 #[derive(Drop)]
 pub(crate) struct Counts {
     limit: u64,
@@ -42,7 +47,8 @@ pub(crate) struct Counts {
     end: CachePadded<AtomicU64>,
 }
 
-/// The turns that a thread has taken and not begun. It takes some at once, so that threads seldom wait for each other's count.
+/// The turns that a thread has taken and not begun. It takes some at once, so that threads seldom
+/// wait for each other's count.
 #[derive(Drop)]
 pub(crate) struct Turns {
     left: u64,
@@ -65,7 +71,8 @@ const MISSING: u64 = 3;
 const DISK: u64 = 256;
 
 impl Counts {
-    /// Nothing is counted yet, so many turns may be taken, and a thread that waits for others sleeps so often before the first one.
+    /// Nothing is counted yet, so many turns may be taken, and a thread that waits for others
+    /// sleeps so often before the first one.
     pub(crate) fn new(limit: u64, patience: u64) -> Counts {
         Counts {
             limit,
@@ -85,9 +92,21 @@ impl Counts {
         self.patience
     }
 
-    /// One more thread is there.
-    pub(crate) fn appears(&self) {
-        let _ = self.threads.fetch_add(1, SeqCst);
+    /// One more thread is there, of so many; the last one wakes those that wait for it.
+    pub(crate) fn appear(&self, all: u64) {
+        if self.threads.fetch_add(1, SeqCst).wrapping_add(1) == all {
+            self.threads.wake_all();
+        }
+    }
+
+    /// Sleeps until all of so many threads are there, for at most so many microseconds.
+    pub(crate) fn await_threads<R: Wait>(&self, rt: &R, all: u64, most: u64) {
+        let there = self.threads.load(SeqCst);
+        if there != all {
+            let most = Duration::from_micros(most);
+            self.threads
+                .park_timeout(rt, (there & 0xffff_ffff) as u32, most);
+        }
     }
 
     /// Whether so many threads, which are all, are there, and none gave up before.
@@ -95,8 +114,9 @@ impl Counts {
         self.threads.load(SeqCst) == all
     }
 
-    /// A thread gives up waiting for all of so many, unless they are there by now. Whether it did: then they are never all there.
-    pub(crate) fn gives_up(&self, all: u64) -> bool {
+    /// A thread gives up waiting for all of so many, unless they are there by now. Whether it did:
+    /// then they are never all there.
+    pub(crate) fn give_up(&self, all: u64) -> bool {
         for _ in 0..u64::MAX {
             let there = self.threads.load(SeqCst);
             if there == all {
@@ -117,29 +137,30 @@ impl Counts {
         true
     }
 
-    /// A thread takes a turn, of those that it has, or else of those that are left to all. Whether there was one, and the run hasn't ended.
-    pub(crate) fn takes_turn(&self, own: &mut Turns) -> bool {
+    /// A thread takes a turn, of those that it has, or else of those that are left to all. Whether
+    /// there was one, and the run hasn't ended.
+    pub(crate) fn take_turn(&self, own: &mut Turns) -> bool {
         if own.left == 0 {
-            own.left = self.takes_turns();
+            own.left = self.take_batch();
         }
         own.left = own.left.saturating_sub(1);
         self.end.load(SeqCst) == 0
     }
 
     /// How many turns a thread gets that has none. The run ends where none is left.
-    fn takes_turns(&self) -> u64 {
+    fn take_batch(&self) -> u64 {
         let batch = (self.limit / SHARE).max(1).min(BATCH);
         let taken = self.turns.fetch_add(batch, SeqCst);
         let left = self.limit.saturating_sub(taken);
         if left == 0 {
-            self.ends(End::Turns);
+            self.end_by(End::Turns);
         }
         left.min(batch)
     }
 
-    /// How many turns of at most so many a thread gets for an evaluation, besides its own. They are few where few are left, so that all body
-    /// workers together leave others enough.
-    pub(crate) fn takes_for(&self, most: u64) -> u64 {
+    /// How many turns of at most so many a thread gets for an evaluation, besides its own. They are
+    /// few where few are left, so that all body workers together leave others enough.
+    pub(crate) fn take_for(&self, most: u64) -> u64 {
         let left = self.limit.saturating_sub(self.turns.load(SeqCst));
         let taken = most.min(left / SPARED);
         let _ = self.turns.fetch_add(taken, SeqCst);
@@ -147,17 +168,18 @@ impl Counts {
     }
 
     /// Turns that were taken for an evaluation aren't needed.
-    pub(crate) fn gives_back(&self, turns: u64) {
+    pub(crate) fn give_back(&self, turns: u64) {
         let _ = self.turns.fetch_sub(turns, SeqCst);
     }
 
-    /// So many turns were evaluated in vain, but for those of values that were kept, as long as none of these is used.
-    pub(crate) fn wastes(&self, turns: u64) {
+    /// So many turns were evaluated in vain, but for those of values that were kept, as long as
+    /// none of these is used.
+    pub(crate) fn waste(&self, turns: u64) {
         let _ = self.vain.fetch_add(turns, SeqCst);
     }
 
     /// A value was used that an evaluation kept: its turns weren't taken in vain.
-    pub(crate) fn uses(&self, turns: u64) {
+    pub(crate) fn use_kept(&self, turns: u64) {
         let _ = self.used.fetch_add(1, SeqCst);
         let _ = self.vain.fetch_sub(turns, SeqCst);
     }
@@ -173,7 +195,7 @@ impl Counts {
     }
 
     /// An event was committed.
-    pub(crate) fn commits(&self) {
+    pub(crate) fn count_event(&self) {
         let _ = self.events.fetch_add(1, SeqCst);
     }
 
@@ -188,7 +210,7 @@ impl Counts {
     }
 
     /// The run ends, if it hasn't yet.
-    pub(crate) fn ends(&self, end: End) {
+    pub(crate) fn end_by(&self, end: End) {
         let word = match end {
             End::Turns => TURNS,
             End::Memory => MEMORY,

@@ -43,8 +43,8 @@ pub(crate) struct WorkerContext {
     pub(crate) bells: Arc<Bells, Global>,
 }
 
-/// The actors' contexts, a seat each, and a pen and a desk for each node; and those of their body workers, so many a node. The desks know
-/// in how many turns a task is evaluated whole.
+/// The actors' contexts, a seat each, and a pen and a desk for each node; and those of their body
+/// workers, so many a node. The desks know in how many turns a task is evaluated whole.
 pub(crate) fn contexts<'a, R: Wait, D: SteadyDisk + Drop>(
     rt: &R,
     alloc: Global,

@@ -19,8 +19,9 @@ use std::sync::{Arc, Wait};
 /// How many tickets of a node are out at most for each of its body workers.
 const TICKETS: usize = 2;
 
-/// A ready frame of a node that waits for a body worker, with the number of the ticket, and in at most how many turns its task is to be
-/// evaluated whole; 0 where only its own turn is. On so many levels below it is kept what was finished and what was under way.
+/// A ready frame of a node that waits for a body worker, with the number of the ticket, and in at
+/// most how many turns its task is to be evaluated whole; 0 where only its own turn is. On so many
+/// levels below it is kept what was finished and what was under way.
 #[derive(Drop)]
 pub(crate) struct Ticket {
     pub(crate) number: u64,
@@ -29,7 +30,8 @@ pub(crate) struct Ticket {
     pub(crate) levels: u16,
 }
 
-/// What comes to a node of its job's program: turns that come back, and values that evaluations kept.
+/// What comes to a node of its job's program: turns that come back, and values that evaluations
+/// kept.
 #[derive(Drop)]
 pub(crate) struct Home {
     pub(crate) line: Line,
@@ -43,8 +45,8 @@ pub(crate) struct Returned {
     pub(crate) found: Found,
 }
 
-/// What a node's owner has of its body workers: it offers ready frames to them, and takes what they evaluated. It knows which of its
-/// tickets are out, neither come back nor forgotten.
+/// What a node's owner has of its body workers: it offers ready frames to them, and takes what they
+/// evaluated. It knows which of its tickets are out, neither come back nor forgotten.
 #[derive(Drop)]
 pub(crate) struct Desk {
     owner: Owner<Ticket>,
@@ -108,12 +110,13 @@ impl Desk {
         self.tickets.len() >= self.workers.saturating_mul(TICKETS)
     }
 
-    /// Offers a ready frame to the workers; whether it is out now. It isn't where there is no memory, and may be offered again.
+    /// Offers a ready frame to the workers; whether it is out now. It isn't where there is no
+    /// memory, and may be offered again.
     pub(crate) fn offer(&mut self, work: Work) -> bool
         ensures { self.new.home ≡ self.old.home }
     {
         let number = self.next;
-        if !self.notes(number, frame_of(&work)) {
+        if !self.note(number, frame_of(&work)) {
             return false;
         }
         let ticket = Ticket {
@@ -123,22 +126,24 @@ impl Desk {
             levels: self.sizes.levels(),
         };
         if self.owner.offer(ticket).is_err() {
-            self.removes(number);
+            self.remove(number);
             return false;
         }
         self.next = number.wrapping_add(1);
-        self.bells.offers();
+        self.bells.announce();
         true
     }
 
-    /// Whether a ready frame's task takes one turn, as its thread spawns nothing, and tasks are evaluated whole. No worker is asked then.
+    /// Whether a ready frame's task takes one turn, as its thread spawns nothing, and tasks are
+    /// evaluated whole. No worker is asked then.
     pub(crate) fn is_short(&self, checked: &Checked, work: &Work) -> bool
         requires { Takes checked.now work.now.thread (length work.now.numbers) }
     {
         self.sizes.is_short(checked, work)
     }
 
-    /// Whether a ready frame's task is known to be large, which it isn't any more then, or isn't tried, as its thread's tasks are.
+    /// Whether a ready frame's task is known to be large, which it isn't any more then, or isn't
+    /// tried, as its thread's tasks are.
     pub(crate) fn was_large(&mut self, work: &Work) -> bool
         ensures { self.new.home ≡ self.old.home }
     {
@@ -153,12 +158,12 @@ impl Desk {
     {
         let _ = checked;
         let whole = self.home.kept.take(work)?;
-        self.sizes.ends_kept(&whole);
+        self.sizes.use_kept(&whole);
         Some(whole)
     }
 
     /// A ticket is out. Whether there was memory.
-    fn notes(&mut self, ticket: u64, frame: FrameOf) -> bool
+    fn note(&mut self, ticket: u64, frame: FrameOf) -> bool
         ensures { self.new.home ≡ self.old.home }
     {
         if self.tickets.push(ticket).is_err() {
@@ -183,40 +188,40 @@ impl Desk {
             found,
             left,
         } = self.home.line.take(rt, checked)?;
-        self.removes(ticket);
+        self.remove(ticket);
         match &found {
-            Found::Whole(whole) => self.sizes.ends(whole),
-            Found::Turn(turn) => self.home.kept.add(self.sizes.fails(turn.thread(), left)),
+            Found::Whole(whole) => self.sizes.succeed(whole),
+            Found::Turn(turn) => self.home.kept.add(self.sizes.fail(turn.thread(), left)),
         }
         Some(Returned { frame, found })
     }
 
     /// Takes those tickets back that no worker has begun, and forgets them.
-    pub(crate) fn takes_back(&mut self)
+    pub(crate) fn take_back(&mut self)
         ensures { self.new.home ≡ self.old.home }
     {
         for _ in 0..self.tickets.len() {
             let Some(ticket) = self.owner.take_own() else {
                 break;
             };
-            self.bells.takes_back();
-            self.removes(ticket.number);
+            self.bells.take_back();
+            self.remove(ticket.number);
         }
     }
 
     /// Takes tickets back, and forgets all others too.
-    pub(crate) fn forgets(&mut self)
+    pub(crate) fn forget(&mut self)
         ensures { self.new.home ≡ self.old.home }
     {
-        self.takes_back();
+        self.take_back();
         self.tickets.clear();
         self.frames.clear();
-        self.sizes.forgets();
+        self.sizes.forget();
         self.home.kept.clear();
     }
 
     /// A ticket isn't out any more.
-    fn removes(&mut self, ticket: u64)
+    fn remove(&mut self, ticket: u64)
         ensures { self.new.home ≡ self.old.home }
     {
         let Some(index) = self.tickets.iter().position(|out| *out == ticket) else {

@@ -9,7 +9,8 @@ pub enum RunError {
     /// E96: there is no memory.
     #[error("E96")]
     Memory,
-    /// E97: the clearinghouse can't go on with its disk. The number of its refusal (62, or 70 to 73) is told in place of this one.
+    /// E97: the clearinghouse can't go on with its disk. The number of its refusal (62, or 70 to
+    /// 73) is told in place of this one.
     #[error("E{0}")]
     Disk(u8),
 }

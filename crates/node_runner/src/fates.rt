@@ -14,8 +14,8 @@ pub enum Fate {
     Twice,
 }
 
-/// The fates of the packets that come to one place, drawn by the PCG generator of 32 bits (XSH RR). Contracts see the generator, and how
-/// many packets are lost and repeated.
+/// The fates of the packets that come to one place, drawn by the PCG generator of 32 bits (XSH RR).
+/// Contracts see the generator, and how many packets are lost and repeated.
 #[derive(Drop)]
 pub struct Fates {
     words: Pcg32,
@@ -32,8 +32,8 @@ impl Model for Fates {
 }
 
 impl Fates {
-    /// The fates of a place, by a generator with the seed `word + place` (modulo 2^64), of which one packet in `lose` is lost, and of the
-    /// others one in `repeat` is repeated; 0 for none.
+    /// The fates of a place, by a generator with the seed `word + place` (modulo 2^64), of which
+    /// one packet in `lose` is lost, and of the others one in `repeat` is repeated; 0 for none.
     pub fn new(word: u64, place: u64, lose: u64, repeat: u64) -> Fates
         ensures { result ≡ first word place lose repeat }
     {
@@ -44,15 +44,16 @@ impl Fates {
         }
     }
 
-    /// The fate of the next packet. Where packets are lost, a word is drawn, and the packet is lost where it is 0 modulo `lose`. If it
-    /// isn't, and packets are repeated, another word is drawn, and it comes twice where that is 0 modulo `repeat`.
+    /// The fate of the next packet. Where packets are lost, a word is drawn, and the packet is lost
+    /// where it is 0 modulo `lose`. If it isn't, and packets are repeated, another word is drawn,
+    /// and it comes twice where that is 0 modulo `repeat`.
     pub fn next(&mut self) -> Fate
         ensures { (result, self.new) ≡ next_fate self.old }
     {
-        if falls(&mut self.words, self.lose) {
+        if draw_one_in(&mut self.words, self.lose) {
             return Fate::Lost;
         }
-        if falls(&mut self.words, self.repeat) {
+        if draw_one_in(&mut self.words, self.repeat) {
             return Fate::Twice;
         }
         Fate::Once
@@ -60,7 +61,7 @@ impl Fates {
 }
 
 /// Whether a word that is drawn is 0 modulo n; where n is 0, none is drawn.
-fn falls(words: &mut Pcg32, n: u64) -> bool
+fn draw_one_in(words: &mut Pcg32, n: u64) -> bool
     ensures { (result, words.new) ≡ drawn n words.old }
 {
     if n == 0 {

@@ -10,7 +10,7 @@ use crate::counts::{End, Turns};
 use crate::fates::Fates;
 use crate::gate::Gate;
 use crate::inbox::Inbox;
-use crate::resting::rest_idle;
+use crate::resting::{is_beginning, rest_idle};
 use crate::saves::Saves;
 use crate::shared::{Shared, commit};
 use board::Note;
@@ -20,17 +20,20 @@ use disk::SteadyDisk;
 use event_script::{Event, HouseEvent};
 use std::alloc::Global;
 use std::sync::Wait;
+use std::thread::yield_now;
 use std::time::Clock;
 use world_steps::EventAnswer;
 
-/// How many events are committed between two ticks of the clearinghouse, and how far the moment goes with each.
+/// How many events are committed between two ticks of the clearinghouse, and how far the moment
+/// goes with each.
 const TICK: u64 = 100;
 
-/// The place of the clearinghouse, from which its fates are drawn: behind those of nodes. Those of Saves are drawn from the next one.
+/// The place of the clearinghouse, from which its fates are drawn: behind those of nodes. Those of
+/// Saves are drawn from the next one.
 const PLACE: u64 = 64;
 
-/// The clearinghouse of a run: its packets, and the Saves among them, how many events were committed when it ticked last, how often it did,
-/// and in how many turns in a row it did nothing.
+/// The clearinghouse of a run: its packets, and the Saves among them, how many events were
+/// committed when it ticked last, how often it did, and in how many turns in a row it did nothing.
 #[derive(Drop)]
 struct House {
     inbox: Inbox,
@@ -63,11 +66,11 @@ pub(crate) fn run_house<'a, R: Wait + Clock, G: Gate + Sync, D: SteadyDisk + Dro
         idle: 0,
     };
     let mut turns = Turns::new();
-    if !goes_on(rt, shared, &mut seat, &mut note, HouseEvent::Restart) {
+    if !commit_event(rt, shared, &mut seat, &mut note, HouseEvent::Restart) {
         return seat;
     }
     for _ in rt.forever() {
-        if !shared.counts.takes_turn(&mut turns)
+        if !shared.counts.take_turn(&mut turns)
             || !turn(rt, alloc, shared, &mut seat, &mut note, &mut house)
         {
             break;
@@ -76,7 +79,8 @@ pub(crate) fn run_house<'a, R: Wait + Clock, G: Gate + Sync, D: SteadyDisk + Dro
     seat
 }
 
-/// A turn: the next packet is taken, and afterwards it ticks, if it is time. Whether the run goes on.
+/// A turn: the next packet is taken, and afterwards it ticks, if it is time. Whether the run goes
+/// on.
 fn turn<'a, R: Wait + Clock, G: Gate + Sync, D: SteadyDisk + Drop>(
     rt: &R,
     alloc: Global,
@@ -92,22 +96,22 @@ fn turn<'a, R: Wait + Clock, G: Gate + Sync, D: SteadyDisk + Drop>(
     ensures note { note.new.board ≡ note.old.board }
 {
     let came = house.inbox.take(rt, alloc, shared.chronicle, seat);
-    shared.pace.sees(house.inbox.seen());
+    shared.pace.see(house.inbox.seen());
     match came {
         Ok(Some(delivered)) => {
             house.idle = 0;
-            shared.counts.commits();
-            if !follows(shared, note, &delivered.committed) {
+            shared.counts.count_event();
+            if !follow_up(shared, note, &delivered.committed) {
                 return false;
             }
         }
         Ok(None) => {
-            if !saves(rt, shared, seat, note, house) {
+            if !save_next(rt, shared, seat, note, house) {
                 return false;
             }
         }
         Err(_) => {
-            shared.counts.ends(End::Memory);
+            shared.counts.end_by(End::Memory);
             return false;
         }
     }
@@ -119,11 +123,12 @@ fn turn<'a, R: Wait + Clock, G: Gate + Sync, D: SteadyDisk + Drop>(
     house.ticked = events;
     house.ticks = house.ticks.saturating_add(1);
     let moment = house.ticks.saturating_mul(TICK);
-    goes_on(rt, shared, seat, note, HouseEvent::Tick(moment))
+    commit_event(rt, shared, seat, note, HouseEvent::Tick(moment))
 }
 
-/// Where no other packet came, a value is saved, if it is time; else it rests. Whether the run goes on.
-fn saves<'a, R: Wait + Clock, G: Gate + Sync, D: SteadyDisk + Drop>(
+/// Where no other packet came, a value is saved, if it is time; else it rests. Whether the run goes
+/// on.
+fn save_next<'a, R: Wait + Clock, G: Gate + Sync, D: SteadyDisk + Drop>(
     rt: &R,
     shared: &Shared<'_, 'a, G, D>,
     seat: &mut ActorSeat<'a, D>,
@@ -139,23 +144,28 @@ fn saves<'a, R: Wait + Clock, G: Gate + Sync, D: SteadyDisk + Drop>(
     match house.saves.take(rt, shared.chronicle, seat) {
         Ok(Some(committed)) => {
             house.idle = 0;
-            shared.counts.commits();
-            follows(shared, note, &committed)
+            shared.counts.count_event();
+            follow_up(shared, note, &committed)
         }
         Ok(None) => {
             house.idle = house.idle.saturating_add(1);
-            rest_idle(rt, 1, house.idle);
+            if is_beginning(shared.counts.events(), shared.config.nodes(), house.idle) {
+                yield_now();
+            } else {
+                rest_idle(rt, 1, house.idle);
+            }
             true
         }
         Err(_) => {
-            shared.counts.ends(End::Memory);
+            shared.counts.end_by(End::Memory);
             false
         }
     }
 }
 
-/// An event of the clearinghouse is committed. Whether the run goes on: not where there is no memory, nor where `follows` ends it.
-fn goes_on<'a, R: Wait, G: Gate + Sync, D: SteadyDisk + Drop>(
+/// An event of the clearinghouse is committed. Whether the run goes on: not where there is no
+/// memory, nor where `follow_up` ends it.
+fn commit_event<'a, R: Wait, G: Gate + Sync, D: SteadyDisk + Drop>(
     rt: &R,
     shared: &Shared<'_, 'a, G, D>,
     seat: &mut ActorSeat<'a, D>,
@@ -172,12 +182,12 @@ fn goes_on<'a, R: Wait, G: Gate + Sync, D: SteadyDisk + Drop>(
     let Some(committed) = commit(rt, shared.chronicle, shared.counts, seat, event) else {
         return false;
     };
-    follows(shared, note, &committed)
+    follow_up(shared, note, &committed)
 }
 
-/// What follows from what was told of an event of the clearinghouse. The run goes on, unless an outcome is told, which is published, or the
-/// clearinghouse can't go on with its disk.
-fn follows<G: Gate + Sync, D: SteadyDisk + Drop>(
+/// What follows from what was told of an event of the clearinghouse. The run goes on, unless an
+/// outcome is told, which is published, or the clearinghouse can't go on with its disk.
+fn follow_up<G: Gate + Sync, D: SteadyDisk + Drop>(
     shared: &Shared<'_, '_, G, D>,
     note: &mut Note,
     committed: &Committed,
@@ -190,13 +200,13 @@ fn follows<G: Gate + Sync, D: SteadyDisk + Drop>(
 {
     if let Some(outcome) = committed.outcome() {
         if shared.board.publish(note, outcome).is_err() {
-            shared.counts.ends(End::Memory);
+            shared.counts.end_by(End::Memory);
         }
         return false;
     }
     match refused(committed.told) {
         Some(number) => {
-            shared.counts.ends(End::Disk(number));
+            shared.counts.end_by(End::Disk(number));
             false
         }
         None => true,

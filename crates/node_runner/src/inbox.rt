@@ -14,9 +14,9 @@ use std::alloc::Global;
 use std::sync::Wait;
 use world_steps::NoMemory;
 
-/// The packets that come to an actor: where it acts, the node's place or, where there is none, the clearinghouse; whose packets they are;
-/// what becomes of them, and of the next one, where that was drawn; from which one on they are still to be looked at; and the one that
-/// comes a second time.
+/// The packets that come to an actor: where it acts, the node's place or, where there is none, the
+/// clearinghouse; whose packets they are; what becomes of them, and of the next one, where that was
+/// drawn; from which one on they are still to be looked at; and the one that comes a second time.
 #[derive(Drop)]
 pub(crate) struct Inbox {
     place: Option<NodePlace>,
@@ -27,7 +27,8 @@ pub(crate) struct Inbox {
     again: Option<u64>,
 }
 
-/// A packet that came: its bytes where it is a roster that came for the first time, and what was told of it.
+/// A packet that came: its bytes where it is a roster that came for the first time, and what was
+/// told of it.
 #[derive(Drop)]
 pub(crate) struct Delivered {
     pub(crate) roster: Option<Vec<u8>>,
@@ -47,8 +48,9 @@ impl Inbox {
         }
     }
 
-    /// The packet that comes in this turn, if one does: one that comes a second time, or else the next one that is addressed to the
-    /// actor, if it isn't lost. Its delivery is committed. Refused only when out of memory.
+    /// The packet that comes in this turn, if one does: one that comes a second time, or else the
+    /// next one that is addressed to the actor, if it isn't lost. Its delivery is committed.
+    /// Refused only when out of memory.
     pub(crate) fn take<'a, R: Wait, D: SteadyDisk + Drop>(
         &mut self,
         rt: &R,
@@ -79,10 +81,10 @@ impl Inbox {
         }
         match self.next_fate() {
             Fate::Lost => {
-                self.loses(rt, chronicle, seat);
+                self.lose(rt, chronicle, seat);
                 Ok(None)
             }
-            fate => self.comes(rt, alloc, chronicle, seat, fate),
+            fate => self.receive(rt, alloc, chronicle, seat, fate),
         }
     }
 
@@ -106,7 +108,7 @@ impl Inbox {
     }
 
     /// The next packet is looked for, and passed over.
-    fn loses<'a, R: Wait, D: SteadyDisk + Drop>(
+    fn lose<'a, R: Wait, D: SteadyDisk + Drop>(
         &mut self,
         rt: &R,
         chronicle: &Chronicle<'a, D>,
@@ -116,13 +118,13 @@ impl Inbox {
         ensures { seat.new ≡ seat.old }
     {
         match chronicle.packet_for(rt, seat, self.next, self.receiver) {
-            Ok(index) => self.passes(index),
+            Ok(index) => self.pass_by(index),
             Err(seen) => self.next = seen,
         }
     }
 
     /// The next packet is looked for, and comes in the same turn of the lock.
-    fn comes<'a, R: Wait, D: SteadyDisk + Drop>(
+    fn receive<'a, R: Wait, D: SteadyDisk + Drop>(
         &mut self,
         rt: &R,
         alloc: Global,
@@ -139,7 +141,7 @@ impl Inbox {
         let place = self.place;
         match chronicle.commit_delivery(rt, alloc, seat, self.next, self.receiver, place)? {
             Delivery::Came(arrived, committed) => {
-                self.passes(arrived.index);
+                self.pass_by(arrived.index);
                 if fate == Fate::Twice {
                     self.again = Some(arrived.index);
                 }
@@ -156,7 +158,7 @@ impl Inbox {
     }
 
     /// A packet was found: the next one is looked for behind it.
-    fn passes(&mut self, index: u64) {
+    fn pass_by(&mut self, index: u64) {
         self.next = index.saturating_add(1);
         self.fate = None;
     }

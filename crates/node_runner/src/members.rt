@@ -10,12 +10,13 @@ use std::alloc::Global;
 /// How far behind a place's fates its victims are drawn.
 const VICTIMS: u64 = 128;
 
-/// Who is listed, by the last roster that a node took, whom it asked last, and the generator by which it draws whom it asks.
+/// Who is listed, by the last roster that a node took, whom it asked last, and the generator by
+/// which it draws whom it asks.
 #[derive(Drop)]
 pub(crate) struct Members {
     listed: Vec<Member>,
-    /// The start word of the worker that was asked last. One request is out at a time, and a node may leave only where none is: so that
-    /// worker has answered then, or isn't live.
+    /// The start word of the worker that was asked last. One request is out at a time, and a node
+    /// may leave only where none is: so that worker has answered then, or isn't live.
     asked: Option<u64>,
     victims: Pcg32,
 }
@@ -36,8 +37,9 @@ impl Members {
         self.asked = None;
     }
 
-    /// A node took a roster: its members are listed. Bytes that spell none are passed over. Whether there was memory to read them: a node that
-    /// has missed a roster may get no other one, and would ask nobody.
+    /// A node took a roster: its members are listed. Bytes that spell none are passed over. Whether
+    /// there was memory to read them: a node that has missed a roster may get no other one, and
+    /// would ask nobody.
     pub(crate) fn take(&mut self, alloc: Global, roster: &[u8]) -> bool {
         match decode(alloc, roster) {
             Ok(packet) => {
@@ -51,7 +53,8 @@ impl Members {
         }
     }
 
-    /// Whom a node of a start word asks next: drawn among the clearinghouse and the other live members. None where nobody is listed.
+    /// Whom a node of a start word asks next: drawn among the clearinghouse and the other live
+    /// members. None where nobody is listed.
     pub(crate) fn victim(&mut self, word: u64) -> Option<Asked> {
         if self.listed.is_empty() {
             return None;
@@ -70,18 +73,19 @@ impl Members {
     }
 
     /// The node asked somebody for work.
-    pub(crate) fn asks(&mut self, victim: Asked) {
+    pub(crate) fn ask(&mut self, victim: Asked) {
         if let Asked::Worker(word) = victim {
             self.asked = Some(word);
         }
     }
 
-    /// To whom a node of a start word may leave: of the other live members that don't leave themselves the one that it asked last, as that one
-    /// was there a while ago; else the one that started last, as those that crashed started before.
+    /// To whom a node of a start word may leave: of the other live members that don't leave
+    /// themselves the one that it asked last, as that one was there a while ago; else the one that
+    /// started last, as those that crashed started before.
     pub(crate) fn heir(&self, word: u64, leavers: &Leavers) -> Option<u64> {
         let mut heir = None;
         for member in &self.listed {
-            if is_other(member, word) && !leavers.leaves(member.incarnation.word()) {
+            if is_other(member, word) && !leavers.is_leaver(member.incarnation.word()) {
                 heir = Some(member.incarnation.word());
                 if heir == self.asked {
                     break;

@@ -7,9 +7,9 @@ const CRASH: u64 = 50;
 /// How many events after a crash a departure comes.
 const DEPARTURE: u64 = 25;
 
-/// The crashes and the departure that are planned for a place. Crash i of the run falls on the place i modulo the count of nodes, once 50 i
-/// events were committed beyond those that come before all faults; departure i on the place that many before the last one's end, once
-/// 50 i + 25 were.
+/// The crashes and the departure that are planned for a place. Crash i of the run falls on the
+/// place i modulo the count of nodes, once 50 i events were committed beyond those that come before
+/// all faults; departure i on the place that many before the last one's end, once 50 i + 25 were.
 #[derive(Clone, Copy)]
 pub(crate) struct Plans {
     nodes: u64,
@@ -46,7 +46,7 @@ impl Plans {
     }
 
     /// Whether the next crash is due, after so many events; it is over then.
-    pub(crate) fn crashes(&mut self, events: u64) -> bool {
+    pub(crate) fn take_crash(&mut self, events: u64) -> bool {
         let due = self.crash.saturating_mul(CRASH).saturating_add(self.after);
         if self.crash > self.crashes || events < due {
             return false;
@@ -55,9 +55,9 @@ impl Plans {
         true
     }
 
-    /// Whether the departure is due, after so many events. It is due again after as many more as there are between the two, should it be
-    /// refused.
-    pub(crate) fn departs(&mut self, events: u64) -> bool {
+    /// Whether the departure is due, after so many events. It is due again after as many more as
+    /// there are between the two, should it be refused.
+    pub(crate) fn take_departure(&mut self, events: u64) -> bool {
         match self.departure {
             Some(at) if at <= events => {
                 self.departure = Some(events.saturating_add(DEPARTURE));
@@ -68,8 +68,9 @@ impl Plans {
         }
     }
 
-    /// Whether the departure was due. A node that is to leave asks for no more work, since none may leave while it waits for an answer.
-    pub(crate) fn leaves(&self) -> bool {
+    /// Whether the departure was due. A node that is to leave asks for no more work, since none may
+    /// leave while it waits for an answer.
+    pub(crate) fn is_to_leave(&self) -> bool {
         self.leaves
     }
 }

@@ -1,11 +1,13 @@
-//! Whether the system makes the threads of a run, which is tried before any of them has something to do.
+//! Whether the system makes the threads of a run, which is tried before any of them has something
+//! to do.
 
 use std::sync::Wait;
 use std::sync::atomic::AtomicU64;
 use std::sync::atomic::Ordering::SeqCst;
 use std::thread::{Scope, Threads, scope, scope_env};
 
-/// Whether so many threads can be there beside this one, all at once. They are gone when it answers.
+/// Whether so many threads can be there beside this one, all at once. They are gone when it
+/// answers.
 pub(crate) fn can_make<R: Threads + Wait + Sync>(rt: &R, threads: u64) -> bool {
     let is_over = AtomicU64::new(0);
     let over = &is_over;
@@ -14,7 +16,8 @@ pub(crate) fn can_make<R: Threads + Wait + Sync>(rt: &R, threads: u64) -> bool {
     })
 }
 
-/// Whether so many threads of a scope are made, which wait until the last one is, or one is refused.
+/// Whether so many threads of a scope are made, which wait until the last one is, or one is
+/// refused.
 fn are_made<'s, 'e, R: Wait + Sync>(
     all: &'s Scope<'s, &'e ()>,
     rt: &'s R,
@@ -23,7 +26,7 @@ fn are_made<'s, 'e, R: Wait + Sync>(
 ) -> bool {
     let mut made = true;
     for _ in 0..threads {
-        if all.spawn(move || waits(rt, over)).is_err() {
+        if all.spawn(move || wait(rt, over)).is_err() {
             made = false;
             break;
         }
@@ -34,7 +37,7 @@ fn are_made<'s, 'e, R: Wait + Sync>(
 }
 
 /// A thread waits until the word isn't 0.
-fn waits<R: Wait>(rt: &R, over: &AtomicU64) {
+fn wait<R: Wait>(rt: &R, over: &AtomicU64) {
     for _ in rt.forever() {
         if over.load(SeqCst) != 0 {
             break;

@@ -11,7 +11,7 @@ use crate::error::RunError;
 use crate::gate::Gate;
 use crate::house::run_house;
 use crate::leavers::Leavers;
-use crate::muster::{MOST_PATIENCE, PATIENCE, musters, rests, threads_of};
+use crate::muster::{MOST_PATIENCE, PATIENCE, await_all, rest_long, threads_of};
 use crate::node::run_node;
 use crate::pace::Pace;
 use crate::probe::can_make;
@@ -39,21 +39,27 @@ pub struct Ran<D: Drop> {
     pub disk: D,
 }
 
-/// Runs a job over the disk with which its run begins, on as many nodes as the configuration says, each on a thread of its own and with as many
-/// body workers as it says, each on another, with a clearinghouse on one more, under the faults that it says. What was saved on the disk isn't
-/// done again. The outcome is the job's meaning, where what was saved there agrees, as it does on a disk that was formatted for the job, and
-/// then at each moment of a run over it. The trace is a safe history of the job over the very disk that is given, and tells this outcome first;
-/// and the disk that comes back is the one that this history leaves, read once more, and keeps the outcome, whatever a crash leaves of it.
+/// Runs a job over the disk with which its run begins, on as many nodes as the configuration says,
+/// each on a thread of its own and with as many body workers as it says, each on another, with a
+/// clearinghouse on one more, under the faults that it says. What was saved on the disk isn't done
+/// again. The outcome is the job's meaning, where what was saved there agrees, as it does on a disk
+/// that was formatted for the job, and then at each moment of a run over it. The trace is a safe
+/// history of the job over the very disk that is given, and tells this outcome first; and the disk
+/// that comes back is the one that this history leaves, read once more, and keeps the outcome,
+/// whatever a crash leaves of it.
 ///
-/// Refused as `TurnsSpent` (E95) where all turns were taken before there was an outcome, as `Memory` (E96) where there is no memory or the
-/// system refuses a thread, and as `Disk` (E97) where the clearinghouse can't go on, or the outcome isn't found on the disk: what that keeps is
+/// Refused as `TurnsSpent` (E95) where all turns were taken before there was an outcome, as
+/// `Memory` (E96) where there is no memory or the system refuses a thread, and as `Disk` (E97)
+/// where the clearinghouse can't go on, or the outcome isn't found on the disk: what that keeps is
 /// then for whoever opens it anew to find.
 ///
-/// Whether the system makes as many threads is tried before anything else, with threads that do nothing. Where one isn't there half a second
-/// later all end before anything is committed, it is tried again, and they are made anew and waited for twice as long, up to two minutes each
-/// time: threads that are slow are waited for. Each loop turn of an actor or a body worker counts as one, and so does each question to the gate. Where 131,072 turns and
-/// more may be taken a thread takes several at once, at most 64, and so fewer than one in a hundred may be left to threads that don't begin
-/// them.
+/// Whether the system makes as many threads is tried before anything else, with threads that do
+/// nothing. Where one isn't there half a second later all end before anything is committed, it is
+/// tried again, and they are made anew and waited for twice as long, up to two minutes each time:
+/// threads that are slow are waited for. Each loop turn of an actor or a body worker counts as one,
+/// and so does each question to the gate. Where 131,072 turns and more may be taken a thread takes
+/// several at once, at most 64, and so fewer than one in a hundred may be left to threads that
+/// don't begin them.
 pub fn run_job<'a, R: Threads + Wait + Clock + Sync, G: Gate + Sync, D: SteadyDisk + Drop + Send>(
     rt: &R,
     alloc: Global,
@@ -98,14 +104,15 @@ pub fn run_job<'a, R: Threads + Wait + Clock + Sync, G: Gate + Sync, D: SteadyDi
         if out_of_memory || !trace.entries().is_empty() {
             return Err(RunError::Memory);
         }
-        rests(rt);
+        rest_long(rt);
         first = FirstDisk::of(job, disk, saved.copied());
         patience = patience.saturating_mul(2).min(MOST_PATIENCE);
     }
     Err(RunError::Memory)
 }
 
-/// The disk of a run that ended with an outcome, where it keeps that, whatever a crash leaves of it: it is read once more.
+/// The disk of a run that ended with an outcome, where it keeps that, whatever a crash leaves of
+/// it: it is read once more.
 fn kept<D: SteadyDisk + Drop>(
     alloc: Global,
     job: &Job,
@@ -229,7 +236,7 @@ fn all_work<R: Threads + Wait + Clock + Sync, G: Gate + Sync, D: SteadyDisk + Dr
         { run_worker(rt, alloc, shared, context) },
     );
     if ended.is_err() {
-        shared.counts.ends(End::Memory);
+        shared.counts.end_by(End::Memory);
     }
 }
 
@@ -255,7 +262,7 @@ fn all_act<'a, R: Threads + Wait + Clock + Sync, G: Gate + Sync, D: SteadyDisk +
         { act(rt, alloc, shared, context) },
     );
     if seats.is_err() {
-        shared.counts.ends(End::Memory);
+        shared.counts.end_by(End::Memory);
     }
     seats
 }
@@ -272,7 +279,7 @@ fn act<'a, R: Wait + Clock, G: Gate + Sync, D: SteadyDisk + Drop>(
     ensures { IsSeatIn shared.entry.now.chronicle.now result }
 {
     let ActorContext { seat, node } = context;
-    if !musters(rt, shared) {
+    if !await_all(rt, shared) {
         return seat;
     }
     let number = seat.actor();

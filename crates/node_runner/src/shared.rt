@@ -2,23 +2,24 @@ ghost use Rattle.std.specs.Prelude.{◌≡◌, IfSome, Some};
 ghost use Rattle.ids.specs.declared.outcome.Outcome.{Outcome as OutcomeOf};
 ghost use Rattle.serial_meaning.specs.Job.{meaning_of};
 ghost use Rattle.world_steps.specs.Agrees.{StoredAgree};
-ghost use Rattle.chronicle.specs.History.{outcome_told};
+ghost use Rattle.chronicle.specs.History.{actor_number, outcome_told};
 ghost use Rattle.chronicle.specs.Seats.{IsSeatIn};
+ghost use Rattle.node_runner.specs.Turns.{IsFoundOf};
 
 use crate::config::RunConfig;
 use crate::counts::{Counts, End};
 use crate::gate::Gate;
 use crate::leavers::Leavers;
 use crate::pace::Pace;
+use crate::turn::Found;
 use board::Board;
-use body_eval::Done;
 use chronicle::{ActorSeat, Chronicle, Committed, Continued};
 use disk::SteadyDisk;
-use event_script::{Event, FrameOf, NodePlace};
-use serial_meaning::Whole;
+use event_script::{Event, FrameOf, NodeEvent, NodePlace};
 use start_words::WordTable;
 use std::alloc::Global;
 use std::sync::Wait;
+use world_steps::NoMemory;
 
 /// What the actors of a run share.
 #[derive(Drop)]
@@ -33,7 +34,8 @@ pub(crate) struct Shared<'s, 'a, G: Gate + Sync, D: SteadyDisk + Drop> {
     pub(crate) gate: &'s G,
 }
 
-/// An event of the seat's actor is committed. None where there is no memory, which ends the run, or the event isn't the actor's.
+/// An event of the seat's actor is committed. None where there is no memory, which ends the run, or
+/// the event isn't the actor's.
 pub(crate) fn commit<'a, R: Wait, D: SteadyDisk + Drop>(
     rt: &R,
     chronicle: &Chronicle<'a, D>,
@@ -50,65 +52,70 @@ pub(crate) fn commit<'a, R: Wait, D: SteadyDisk + Drop>(
         return None;
     }
     let Ok(committed) = chronicle.commit(rt, seat, event) else {
-        counts.ends(End::Memory);
+        counts.end_by(End::Memory);
         return None;
     };
-    counts.commits();
+    counts.count_event();
     Some(committed)
 }
 
-/// The same, with a turn that was evaluated before, and with a ready frame of the node of a place that isn't among these, if one is found
-/// right behind the event.
-pub(crate) fn commit_turn<'a, R: Wait, D: SteadyDisk + Drop>(
+/// A frame of the node of a place is carried out by what was found for it, with a ready frame of
+/// the node that isn't among these, if one is found right behind the event. None as for `commit`.
+pub(crate) fn commit_found<'a, R: Wait, D: SteadyDisk + Drop>(
     rt: &R,
     alloc: Global,
     chronicle: &Chronicle<'a, D>,
     counts: &Counts,
     seat: &mut ActorSeat<'a, D>,
-    event: Event,
-    turn: &Done,
     place: NodePlace,
+    frame: FrameOf,
+    found: &Found,
     besides: &[FrameOf],
 ) -> Option<Continued>
     requires seat { IsSeatIn chronicle.now seat.old }
-    requires turn { turn.now.program ≡ chronicle.now.job.program }
+    requires own { IsFoundOf chronicle.now.job.program found.now }
     ensures { IsSeatIn chronicle.entry.now seat.new }
 {
+    let event = event_of(place, frame, found);
     if !seat.owns(&event) {
         return None;
     }
-    let Ok(continued) = chronicle.commit_turn(rt, alloc, seat, event, turn, place, besides) else {
-        counts.ends(End::Memory);
+    let Ok(continued) = enter_found(rt, alloc, chronicle, seat, event, found, place, besides) else {
+        counts.end_by(End::Memory);
         return None;
     };
-    counts.commits();
+    counts.count_event();
     Some(continued)
 }
 
-/// The same, with a task that was evaluated whole before, and with a ready frame of the node of a place that isn't among these, if one is found
-/// right behind the event.
-pub(crate) fn commit_whole<'a, R: Wait, D: SteadyDisk + Drop>(
+/// The event by which a frame of the node of a place is carried out, by what was found for it.
+fn event_of(place: NodePlace, frame: FrameOf, found: &Found) -> Event {
+    match found {
+        Found::Turn(_) => Event::AtNode(place, NodeEvent::Exec(frame)),
+        Found::Whole(whole) => Event::AtNode(place, NodeEvent::Whole(frame, whole.turns())),
+    }
+}
+
+/// The event is committed, by what was found. Refused only when out of memory.
+fn enter_found<'a, R: Wait, D: SteadyDisk + Drop>(
     rt: &R,
     alloc: Global,
     chronicle: &Chronicle<'a, D>,
-    counts: &Counts,
     seat: &mut ActorSeat<'a, D>,
     event: Event,
-    whole: &Whole,
+    found: &Found,
     place: NodePlace,
     besides: &[FrameOf],
-) -> Option<Continued>
+) -> Result<Continued, NoMemory>
     requires seat { IsSeatIn chronicle.now seat.old }
-    requires whole { whole.now.program ≡ chronicle.now.job.program }
+    requires owns { actor_number event ≡ seat.old.actor }
+    requires own { IsFoundOf chronicle.now.job.program found.now }
     ensures { IsSeatIn chronicle.entry.now seat.new }
 {
-    if !seat.owns(&event) {
-        return None;
+    match found {
+        Found::Turn(turn) => chronicle.commit_turn(rt, alloc, seat, event, turn, place, besides),
+        Found::Whole(whole) => {
+            chronicle.commit_whole(rt, alloc, seat, event, whole, place, besides)
+        }
     }
-    let Ok(continued) = chronicle.commit_whole(rt, alloc, seat, event, whole, place, besides) else {
-        counts.ends(End::Memory);
-        return None;
-    };
-    counts.commits();
-    Some(continued)
 }

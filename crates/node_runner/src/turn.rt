@@ -11,15 +11,16 @@ use serial_meaning::Whole;
 use std::marker::Model;
 use std::snapshot::Snapshot;
 
-/// What a body worker found for a ready frame: its turn, or what its task gives with all that comes of it.
+/// What a body worker found for a ready frame: its turn, or what its task gives with all that comes
+/// of it.
 #[derive(Drop)]
 pub(crate) enum Found {
     Turn(Done),
     Whole(Whole),
 }
 
-/// What a body worker evaluated: the number of the ticket, its frame, and what was found; and what is left where its task wasn't evaluated to its
-/// end.
+/// What a body worker evaluated: the number of the ticket, its frame, and what was found; and what
+/// is left where its task wasn't evaluated to its end.
 #[derive(Drop)]
 pub(crate) struct Evaluated {
     pub(crate) ticket: u64,
@@ -28,7 +29,8 @@ pub(crate) struct Evaluated {
     pub(crate) left: Left,
 }
 
-/// What comes back from body workers, all of one program. The first one has nothing, and stands for the program. Contracts see both.
+/// What comes back from body workers, all of one program. The first one has nothing, and stands for
+/// the program. Contracts see both.
 #[derive(Drop)]
 pub(crate) struct Finished {
     // It has no bytes.

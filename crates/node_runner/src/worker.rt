@@ -9,7 +9,7 @@ use crate::crew::WorkerContext;
 use crate::desk::Ticket;
 use crate::gate::Gate;
 use crate::line::Line;
-use crate::muster::musters;
+use crate::muster::await_all;
 use crate::resting::{YIELDS, rest};
 use crate::shared::Shared;
 use crate::turn::{Evaluated, Finished, Found};
@@ -26,8 +26,8 @@ use std::sync::Wait;
 use std::thread::yield_now;
 use std::time::Clock;
 
-/// A body worker's turns, until the run ends: it steals a ticket of its node, evaluates the frame once the gate lets it, and gives
-/// back what it found.
+/// A body worker's turns, until the run ends: it steals a ticket of its node, evaluates the frame
+/// once the gate lets it, and gives back what it found.
 pub(crate) fn run_worker<R: Wait + Clock, G: Gate + Sync, D: SteadyDisk + Drop>(
     rt: &R,
     alloc: Global,
@@ -36,7 +36,7 @@ pub(crate) fn run_worker<R: Wait + Clock, G: Gate + Sync, D: SteadyDisk + Drop>(
 )
     requires { IsLineOf shared.now.chronicle.now.job.program context.line }
 {
-    if !musters(rt, shared) {
+    if !await_all(rt, shared) {
         return;
     }
     let WorkerContext {
@@ -45,44 +45,45 @@ pub(crate) fn run_worker<R: Wait + Clock, G: Gate + Sync, D: SteadyDisk + Drop>(
         bells,
     } = context;
     let Ok(flat) = Flat::of(alloc, shared.chronicle.job().checked()) else {
-        shared.counts.ends(End::Memory);
+        shared.counts.end_by(End::Memory);
         return;
     };
     let mut note = shared.board.note();
     let mut turns = Turns::new();
     let mut idle: u64 = 0;
     for _ in rt.forever() {
-        if !goes_on(shared, &mut turns, &mut note) {
+        if !take_turn(shared, &mut turns, &mut note) {
             break;
         }
         let offered = bells.offered();
         if let Some(ticket) = worker.steal() {
             idle = 0;
-            bells.takes();
-            if !works(
+            bells.take();
+            if !work(
                 rt, alloc, shared, &flat, &mut line, &mut turns, &mut note, ticket,
             ) {
                 break;
             }
-            bells.returns();
+            bells.give_back();
         } else {
             idle = idle.saturating_add(1);
-            waits(rt, &bells, offered, idle);
+            wait(rt, &bells, offered, idle);
         }
     }
 }
 
-/// A body worker waits that found no ticket in so many turns. It sleeps soon where others are awake for those that are out.
-fn waits<R: Wait>(rt: &R, bells: &Bells, offered: u64, idle: u64) {
+/// A body worker waits that found no ticket in so many turns. It sleeps soon where others are awake
+/// for those that are out.
+fn wait<R: Wait>(rt: &R, bells: &Bells, offered: u64, idle: u64) {
     if idle >= YIELDS || idle > 1 && bells.has_enough() {
-        bells.worker_sleeps(rt, offered);
+        bells.sleep_worker(rt, offered);
     } else {
         yield_now();
     }
 }
 
 /// Takes a turn. Whether there was one, and the run goes on.
-fn goes_on<G: Gate + Sync, D: SteadyDisk + Drop>(
+fn take_turn<G: Gate + Sync, D: SteadyDisk + Drop>(
     shared: &Shared<'_, '_, G, D>,
     turns: &mut Turns,
     note: &mut Note,
@@ -90,11 +91,12 @@ fn goes_on<G: Gate + Sync, D: SteadyDisk + Drop>(
     requires { note.old.board ≡ shared.now.board.now.board }
     ensures { note.new.board ≡ note.old.board }
 {
-    shared.counts.takes_turn(turns) && shared.board.read(note).is_none()
+    shared.counts.take_turn(turns) && shared.board.read(note).is_none()
 }
 
-/// A ticket's frame is evaluated, and what was found goes back. Whether the run goes on, and there was memory.
-fn works<R: Wait + Clock, G: Gate + Sync, D: SteadyDisk + Drop>(
+/// A ticket's frame is evaluated, and what was found goes back. Whether the run goes on, and there
+/// was memory.
+fn work<R: Wait + Clock, G: Gate + Sync, D: SteadyDisk + Drop>(
     rt: &R,
     alloc: Global,
     shared: &Shared<'_, '_, G, D>,
@@ -114,14 +116,14 @@ fn works<R: Wait + Clock, G: Gate + Sync, D: SteadyDisk + Drop>(
     if !takes_its_numbers(checked, &ticket.work) {
         return true;
     }
-    if !passes(rt, shared, turns, note) {
+    if !pass_gate(rt, shared, turns, note) {
         return false;
     }
-    let Some(evaluated) = evaluates(alloc, checked, flat, shared.counts, ticket) else {
-        shared.counts.ends(End::Memory);
+    let Some(evaluated) = evaluate_ticket(alloc, checked, flat, shared.counts, ticket) else {
+        shared.counts.end_by(End::Memory);
         return false;
     };
-    returns(
+    give_back(
         rt,
         shared,
         line,
@@ -131,9 +133,9 @@ fn works<R: Wait + Clock, G: Gate + Sync, D: SteadyDisk + Drop>(
     )
 }
 
-/// Evaluates a ticket's task whole, in as many turns as it says or are left; where that isn't done, its frame's turn, with what was kept on
-/// the way. None where there is no memory for that.
-fn evaluates(
+/// Evaluates a ticket's task whole, in as many turns as it says or are left; where that isn't done,
+/// its frame's turn, with what was kept on the way. None where there is no memory for that.
+fn evaluate_ticket(
     alloc: Global,
     checked: &Checked,
     flat: &Flat,
@@ -151,7 +153,7 @@ fn evaluates(
         room,
         ..
     } = ticket.work;
-    let most = counts.takes_for(ticket.most_turns);
+    let most = counts.take_for(ticket.most_turns);
     match evaluate(
         alloc,
         checked,
@@ -163,7 +165,7 @@ fn evaluates(
         ticket.levels,
     ) {
         Ok(whole) => {
-            counts.gives_back(most - whole.turns());
+            counts.give_back(most - whole.turns());
             Some(Evaluated {
                 ticket: ticket.number,
                 frame,
@@ -172,7 +174,7 @@ fn evaluates(
             })
         }
         Err((numbers, left)) => {
-            counts.wastes(most);
+            counts.waste(most);
             let turn = Done::on(alloc, checked, thread, numbers).ok()?;
             Some(Evaluated {
                 ticket: ticket.number,
@@ -184,8 +186,9 @@ fn evaluates(
     }
 }
 
-/// Numbers a body, and asks the gate, each time in a turn, until it lets it be evaluated. Whether it did before the run ended.
-fn passes<R: Wait + Clock, G: Gate + Sync, D: SteadyDisk + Drop>(
+/// Numbers a body, and asks the gate, each time in a turn, until it lets it be evaluated. Whether
+/// it did before the run ended.
+fn pass_gate<R: Wait + Clock, G: Gate + Sync, D: SteadyDisk + Drop>(
     rt: &R,
     shared: &Shared<'_, '_, G, D>,
     turns: &mut Turns,
@@ -198,7 +201,7 @@ fn passes<R: Wait + Clock, G: Gate + Sync, D: SteadyDisk + Drop>(
     shared.gate.begun(body);
     let mut waited: u64 = 0;
     for _ in rt.forever() {
-        if !goes_on(shared, turns, note) {
+        if !take_turn(shared, turns, note) {
             return false;
         }
         if shared.gate.may_go(body) {
@@ -211,7 +214,7 @@ fn passes<R: Wait + Clock, G: Gate + Sync, D: SteadyDisk + Drop>(
 }
 
 /// A turn goes back, as soon as there is room for it. Whether it did before the run ended.
-fn returns<R: Wait + Clock, G: Gate + Sync, D: SteadyDisk + Drop>(
+fn give_back<R: Wait + Clock, G: Gate + Sync, D: SteadyDisk + Drop>(
     rt: &R,
     shared: &Shared<'_, '_, G, D>,
     line: &mut Line,
@@ -233,7 +236,7 @@ fn returns<R: Wait + Clock, G: Gate + Sync, D: SteadyDisk + Drop>(
             Ok(()) => return true,
             Err(back) => finished = back,
         }
-        if !goes_on(shared, turns, note) {
+        if !take_turn(shared, turns, note) {
             return false;
         }
         waited = waited.saturating_add(1);

@@ -25,8 +25,8 @@ pub enum SimFault {
 }
 
 impl SimFault {
-    /// The status that the program ends with: 1 for a text, an input or a script that is refused, 2 for the words, 3 when out
-    /// of memory, 4 for a file.
+    /// The status that the program ends with: 1 for a text, an input or a script that is refused, 2
+    /// for the words, 3 when out of memory, 4 for a file.
     pub fn status(self) -> u8
         ensures { result ≡ status_of self }
     {
@@ -73,9 +73,10 @@ fn write_help<O: Write>(out: &mut O, help: &clap::Error) -> io::Result<()> {
     out.flush()
 }
 
-/// Carries out a command line, the program's own name its first word: what a run came to goes to `out`, and a fault goes to
-/// `err` as one line, behind which it is explained where the words ask for that. Where `err` is a terminal it is told there how far a long
-/// replay has come. The status to end with is 0 where all was done, and else that of the fault.
+/// Carries out a command line, the program's own name its first word: what a run came to goes to
+/// `out`, and a fault goes to `err` as one line, behind which it is explained where the words ask
+/// for that. Where `err` is a terminal it is told there how far a long replay has come. The status
+/// to end with is 0 where all was done, and else that of the fault.
 pub fn command<R: Files + AllocGlobal + Threads + Clock + Sync, S: AsStr, O: Write>(
     rt: &R,
     words: &[S],

@@ -1,4 +1,5 @@
-//! The program `nowsim`: replays a script of events on a task program, and tells what the run came to.
+//! The program `nowsim`: replays a script of events on a task program, and tells what the run came
+//! to.
 #![tactic(auto)]
 
 mod command;

@@ -38,8 +38,9 @@ pub struct Words<'a> {
     pub explain: bool,
 }
 
-/// What the words ask for, the program's own name first; none where they ask for nothing that is there. The `Err` is a
-/// fault of usage, being out of memory, or the text of the help or the version where they ask for that.
+/// What the words ask for, the program's own name first; none where they ask for nothing that is
+/// there. The `Err` is a fault of usage, being out of memory, or the text of the help or the
+/// version where they ask for that.
 pub fn read_words<'a, S: AsStr>(alloc: Global, words: &'a [S]) -> Result<Option<Words<'a>>, Error> {
     let matches = all_words(alloc)?.try_get_matches_from(words)?;
     let explain = matches.get_flag("explain");

@@ -1,12 +1,13 @@
-//! Plays a transcript: reads it from the standard input and prints it again, each command with what the libraries answer to it
-//! now. A right transcript is printed as itself.
+//! Plays a transcript: reads it from the standard input and prints it again, each command with what
+//! the libraries answer to it now. A right transcript is printed as itself.
 //!
-//! Empty lines and lines that begin with `#` are comments, and are printed as they are. A line that begins with `> `, or is `>`,
-//! is an answer, and is skipped. Any other line is a command: it is printed, and below it what it answers, each line with `> `
-//! in front; `> ?` where no library knows it, and `> malformed` where one knows it but can't carry it out.
+//! Empty lines and lines that begin with `#` are comments, and are printed as they are. A line that
+//! begins with `> `, or is `>`, is an answer, and is skipped. Any other line is a command: it is
+//! printed, and below it what it answers, each line with `> ` in front; `> ?` where no library
+//! knows it, and `> malformed` where one knows it but can't carry it out.
 //!
-//! Status: 0 where the transcript was played to its end, 1 where it can't be read or printed, and 3, with `E9` on the standard
-//! error, where there is no memory for its lines.
+//! Status: 0 where the transcript was played to its end, 1 where it can't be read or printed, and
+//! 3, with `E9` on the standard error, where there is no memory for its lines.
 #![tactic(auto)]
 
 use play_houses::Houses;
@@ -60,7 +61,8 @@ impl Libraries {
     }
 }
 
-/// Plays a line of a transcript: skips an answer, and writes a comment, or a command and what it answers.
+/// Plays a line of a transcript: skips an answer, and writes a comment, or a command and what it
+/// answers.
 fn play_line(libraries: &mut Libraries, rt: &HostRuntime, text: &str, out: &mut Answers) {
     if text == ">" || text.starts_with("> ") {
         return;

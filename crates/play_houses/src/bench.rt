@@ -59,7 +59,8 @@ impl<D: Disk + Drop> Bench<D> {
     }
 }
 
-/// Goes on behind a call of the device that failed, if the transcript planned that one fails; else there was no memory.
+/// Goes on behind a call of the device that failed, if the transcript planned that one fails; else
+/// there was no memory.
 pub fn go_on(is_planned: bool, out: &mut Answers) {
     if !is_planned {
         out.lacks();

@@ -122,7 +122,8 @@ pub fn play_file<R: Env + Files<File = File> + AllocGlobal>(
     }
 }
 
-/// A file that takes all bytes and gives none. Of its calls one fails, the one after so many others.
+/// A file that takes all bytes and gives none. Of its calls one fails, the one after so many
+/// others.
 pub struct FailingFile {
     calls: Cell<u64>,
 }

@@ -13,8 +13,8 @@ use play_words::{Answers, CommandLine};
 use serial_meaning::Job;
 use std::alloc::Global;
 
-/// What a command on a clearinghouse needs beside it: the job that is set, all packets that were sent, and whether those that
-/// are sent are left out.
+/// What a command on a clearinghouse needs beside it: the job that is set, all packets that were
+/// sent, and whether those that are sent are left out.
 #[derive(Drop)]
 pub struct Desk {
     pub alloc: Global,

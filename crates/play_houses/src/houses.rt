@@ -31,7 +31,8 @@ enum Place {
     Failing(Bench<FileDisk<FailingFile>>),
 }
 
-/// A disk and what is over it, the transcript's file, the job that is set, and all packets that clearinghouses sent.
+/// A disk and what is over it, the transcript's file, the job that is set, and all packets that
+/// clearinghouses sent.
 #[derive(Drop)]
 pub struct Houses {
     place: Place,
@@ -94,7 +95,8 @@ fn write_packet_bytes(mail: &Mail, line: &CommandLine<'_>, out: &mut Answers) ->
     Some(())
 }
 
-/// A disk of which a call is chosen, which is to fail: the disk in memory, where it was bare, and else what had it.
+/// A disk of which a call is chosen, which is to fail: the disk in memory, where it was bare, and
+/// else what had it.
 fn chosen(held: Held<MemDisk>, calls: u64, bytes: Vec<u8>) -> Result<FailOnce, Held<MemDisk>> {
     match held {
         Held::Bare(disk) => Ok(FailOnce::new(disk, calls, bytes)),
@@ -206,7 +208,8 @@ impl Houses {
         }
     }
 
-    /// The disk in memory, or what has it, stands in its place again, chosen to fail where it is bare.
+    /// The disk in memory, or what has it, stands in its place again, chosen to fail where it is
+    /// bare.
     fn chooses(&mut self, held: Held<MemDisk>, calls: u64, bytes: Vec<u8>) -> Option<()> {
         match chosen(held, calls, bytes) {
             Ok(disk) => {

@@ -1,7 +1,9 @@
-//! Commands of transcripts on a disk, on the store of a checkpoint over it, and on a clearinghouse over that.
+//! Commands of transcripts on a disk, on the store of a checkpoint over it, and on a clearinghouse
+//! over that.
 //!
-//! There is one disk at a time, bare, in a store or in a clearinghouse. CALLS is how many calls of the device pass before one
-//! fails. HEX is bytes, as pairs of hexadecimal digits, `-` for none, or `HEX times COUNT`.
+//! There is one disk at a time, bare, in a store or in a clearinghouse. CALLS is how many calls of
+//! the device pass before one fails. HEX is bytes, as pairs of hexadecimal digits, `-` for none, or
+//! `HEX times COUNT`.
 //!
 //! - `disk new` makes an empty disk in memory, in place of what was there. `disk fails CALLS HEX` makes it, while it is bare, one
 //!   of which that call fails, by which HEX settle the file, and no other.
@@ -24,12 +26,14 @@
 //!   takes the time of calls doesn't take that of words.
 //! - `house same #N #M` tells whether two packets have the same bytes, and `house hex #N` what these are.
 //!
-//! A call answers `ok`, what it gives, or the number of its refusal. What a clearinghouse sends is shown packet by packet, in
-//! words behind its number; `ignored`, for a packet that was ignored; `nothing`, where it sends nothing. Of more than 1,000
-//! bytes the count is shown, and of a packet the kind. Behind an opening that is refused the disk is bare.
+//! A call answers `ok`, what it gives, or the number of its refusal. What a clearinghouse sends is
+//! shown packet by packet, in words behind its number; `ignored`, for a packet that was ignored;
+//! `nothing`, where it sends nothing. Of more than 1,000 bytes the count is shown, and of a packet
+//! the kind. Behind an opening that is refused the disk is bare.
 //!
-//! Being out of memory is a failure of the device (E72), or stops the clearinghouse (E9), and leaves what these leave. So no call is
-//! made again: where the transcript planned no failure, it ends with it.
+//! Being out of memory is a failure of the device (E72), or stops the clearinghouse (E9), and
+//! leaves what these leave. So no call is made again: where the transcript planned no failure, it
+//! ends with it.
 #![tactic(auto)]
 
 mod bench;

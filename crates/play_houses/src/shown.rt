@@ -18,7 +18,8 @@ fn repeated(alloc: Global, part: &[u8], times: u64, out: &mut Answers) -> Vec<u8
     bytes
 }
 
-/// The bytes that the words from an index on spell: pairs of hexadecimal digits, or `HEX times COUNT`.
+/// The bytes that the words from an index on spell: pairs of hexadecimal digits, or `HEX times
+/// COUNT`.
 pub fn bytes_in(
     alloc: Global,
     line: &CommandLine<'_>,

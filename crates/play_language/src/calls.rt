@@ -2,11 +2,11 @@
 
 use body_eval::Done;
 use ids::Listed;
-use kind_check::{Checked, KindError, check};
+use kind_check::Checked;
 use play_words::Answers;
 use serial_meaning::{Job, Outcome, SerialError, serial};
 use std::alloc::{AllocError, Global};
-use task_syntax::{ParseError, PrintError, Program, parse, print};
+use task_syntax::{PrintError, Program, print};
 use task_tokens::{Token, tokenize};
 
 /// The longest text whose tokens are shown, in bytes.
@@ -26,22 +26,6 @@ pub fn tokens(alloc: Global, text: &[u8], out: &mut Answers) -> Option<Listed<To
     None
 }
 
-/// The program of a text; none where it is refused.
-pub fn program(alloc: Global, text: &[u8], out: &mut Answers) -> Option<Program> {
-    for _ in 0..2 {
-        match parse(alloc, text) {
-            Ok(program) => return Some(program),
-            Err(refused) => {
-                out.refusal(&refused);
-                if refused != ParseError::Memory {
-                    return None;
-                }
-            }
-        }
-    }
-    None
-}
-
 /// A printed program; none where it is refused.
 pub fn printed(alloc: Global, program: &Program, out: &mut Answers) -> Option<Vec<u8>> {
     for _ in 0..2 {
@@ -50,22 +34,6 @@ pub fn printed(alloc: Global, program: &Program, out: &mut Answers) -> Option<Ve
             Err(refused) => {
                 out.refusal(&refused);
                 if refused != PrintError::Memory {
-                    return None;
-                }
-            }
-        }
-    }
-    None
-}
-
-/// The accepted program of a text; none where it is refused.
-pub fn accepted(alloc: Global, text: &[u8], out: &mut Answers) -> Option<Checked> {
-    for _ in 0..2 {
-        match check(alloc, program(alloc, text, out)?) {
-            Ok(checked) => return Some(checked),
-            Err(refused) => {
-                out.refusal(&refused);
-                if refused != KindError::Memory {
                     return None;
                 }
             }

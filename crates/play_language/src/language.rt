@@ -1,6 +1,6 @@
 //! The text of a transcript.
 
-use crate::calls::{accepted, done, meaning, printed, program, tokens};
+use crate::calls::{done, meaning, printed, tokens};
 use crate::copies::play_copy;
 use crate::lists::play_list;
 use crate::names::{play_before, play_name, play_place};
@@ -9,6 +9,7 @@ use crate::stores::Stores;
 use crate::tree::write_program;
 use crate::written::bytes_of;
 use kind_check::Checked;
+use play_programs::{accepted_in, program_in};
 use play_words::{Answers, CommandLine, Played, byte, keep, numbers_of};
 use serial_meaning::{Job, Outcome};
 use std::alloc::Global;
@@ -63,7 +64,7 @@ fn write_read(alloc: Global, name: &str, text: &[u8], program: &Program, out: &m
 
 /// Reads a text, and writes what a command shows of its program.
 fn play_read(alloc: Global, name: &str, text: &[u8], out: &mut Answers) {
-    if let Some(program) = program(alloc, text, out) {
+    if let Some(program) = program_in(alloc, text, out) {
         write_read(alloc, name, text, &program, out);
         keep(program);
     }
@@ -121,7 +122,7 @@ fn play_accepted(
     line: &CommandLine<'_>,
     out: &mut Answers,
 ) -> Option<()> {
-    match accepted(alloc, text, out) {
+    match accepted_in(alloc, text, out) {
         Some(checked) => {
             let done = play_checked(alloc, name, &checked, line, out);
             keep(checked);
@@ -210,7 +211,7 @@ impl Language {
     fn evaluate(&self, alloc: Global, line: &CommandLine<'_>, out: &mut Answers) -> Option<()> {
         let turns = line.number(1)?;
         let input = numbers_of(alloc, line.rest(2), true, out)?;
-        if let Some(checked) = accepted(alloc, &self.text, out) {
+        if let Some(checked) = accepted_in(alloc, &self.text, out) {
             meaning_of(alloc, checked, input, turns, out);
         }
         Some(())

@@ -1,8 +1,9 @@
-//! Commands of transcripts on texts of the task language: how they are read, printed, checked and evaluated; and on the names,
-//! places, lists and stores that all layers share.
+//! Commands of transcripts on texts of the task language: how they are read, printed, checked and
+//! evaluated; and on the names, places, lists and stores that all layers share.
 //!
-//! TEXT goes to the end of the line. In it `\n` is the end of a line, `\xHH` the byte of two hexadecimal digits, and `⟦(*65⟧` is
-//! `(` 65 times. The text of a command is kept, and a command without one takes the text that was kept last.
+//! TEXT goes to the end of the line. In it `\n` is the end of a line, `\xHH` the byte of two
+//! hexadecimal digits, and `⟦(*65⟧` is `(` 65 times. The text of a command is kept, and a command
+//! without one takes the text that was kept last.
 //!
 //! - `text TEXT` keeps a text, and answers nothing.
 //! - `tokens TEXT` shows its tokens, each with its offset, and `tree TEXT` its tree, names and closing braces with their offsets.
@@ -38,8 +39,8 @@
 //! - `saved put PLACE VALUE`, where the place is one whose value is saved, `saved kid PLACE HOLE`, the value of a kid, `saved task
 //!   PLACE`, where the value of a task is saved, `saved below PLACE`, `saved all`, in a copy, and `saved clear`.
 //!
-//! A refusal is answered by its number and offset. Behind E9, when out of memory, the same call is made once more;
-//! but the copies of `copy` end the transcript there.
+//! A refusal is answered by its number and offset. Behind E9, when out of memory, the same call is
+//! made once more; but the copies of `copy` end the transcript there.
 #![tactic(auto)]
 
 mod calls;

@@ -24,7 +24,8 @@ fn write_item(out: &mut Answers, item: Option<&i64>) {
     }
 }
 
-/// Writes a list after an item was put into it, this item, the one behind the last, and the list once it is cleared.
+/// Writes a list after an item was put into it, this item, the one behind the last, and the list
+/// once it is cleared.
 fn write_list(out: &mut Answers, list: &mut Listed<i64>, at: usize, item: i64) {
     if at < list.len() {
         list.put(at, item);

@@ -44,7 +44,8 @@ fn of_member(incarnation: Incarnation) -> (u64, Option<u64>) {
     (first, Some(second))
 }
 
-/// What the name of a kind tells that numbers make: a number, and for some kinds a second one; none where there is no such name.
+/// What the name of a kind tells that numbers make: a number, and for some kinds a second one; none
+/// where there is no such name.
 fn told(line: &CommandLine<'_>) -> Option<(u64, Option<u64>)> {
     let number = line.number(2)?;
     match line.word(1)? {

@@ -1,5 +1,5 @@
-//! What a node is made of, each by itself: its frames, the posts of its ready frames, its records, the heirs of a roster, its
-//! requests and its answers; and values that were saved.
+//! What a node is made of, each by itself: its frames, the posts of its ready frames, its records,
+//! the heirs of a roster, its requests and its answers; and values that were saved.
 
 mod asker;
 mod bearers;

@@ -1,5 +1,5 @@
-//! The tree of a program in words: names with their offsets, operations by their names, blocks with the offsets of their
-//! closing braces.
+//! The tree of a program in words: names with their offsets, operations by their names, blocks with
+//! the offsets of their closing braces.
 
 use ids::Listed;
 use play_words::Answers;

@@ -23,7 +23,8 @@ fn digit(byte: u8) -> Option<u8> {
     }
 }
 
-/// What stands before the next byte, and the byte that ends here, if one does; none where the byte can't stand here.
+/// What stands before the next byte, and the byte that ends here, if one does; none where the byte
+/// can't stand here.
 fn behind(before: Before, byte: u8) -> Option<(Before, Option<u8>)> {
     match before {
         Before::Plain if byte == b'\\' => Some((Before::Escape, None)),

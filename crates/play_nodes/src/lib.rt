@@ -1,8 +1,9 @@
-//! Commands of transcripts on nodes: workers by their start words, the packets that they sent, and what each call of a node
-//! answers.
+//! Commands of transcripts on nodes: workers by their start words, the packets that they sent, and
+//! what each call of a node answers.
 //!
-//! A job is set before the first start: `program TEXT`, `input NUMBERS..` and `job NUMBER` answer nothing, but for the refusal of
-//! a text that is no program. Another `program` begins another job, of the nodes that start behind it. Then
+//! A job is set before the first start: `program TEXT`, `input NUMBERS..` and `job NUMBER` answer
+//! nothing, but for the refusal of a text that is no program. Another `program` begins another job,
+//! of the nodes that start behind it. Then
 //!
 //! - `start W` and `crash W` begin and end worker W; `crash` answers nothing.
 //! - `ask W V` and `ask W house`, `run W` (the first frame that it shows as ready), `exec W GRANT FRAME` (that frame, by its own
@@ -19,9 +20,10 @@
 //! - `brief` and `full` answer nothing. Between them a call shows nothing of what it sends and fills, and what it sends gets no
 //!   number: so who takes the time of calls doesn't take that of words.
 //!
-//! A call answers each packet that it sends, in words behind its number, and then each value that came to a slot; `ignored`,
-//! for a packet that was ignored; `nothing`, where it neither sends nor fills; `nothing ready`, where `run` finds no frame; or the
-//! number of its refusal. Behind E63 or E9, when out of memory, the same call is made once more.
+//! A call answers each packet that it sends, in words behind its number, and then each value that
+//! came to a slot; `ignored`, for a packet that was ignored; `nothing`, where it neither sends nor
+//! fills; `nothing ready`, where `run` finds no frame; or the number of its refusal. Behind E63 or
+//! E9, when out of memory, the same call is made once more.
 #![tactic(auto)]
 
 mod job;

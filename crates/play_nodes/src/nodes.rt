@@ -12,7 +12,8 @@ use play_words::{Answers, CommandLine, Played, bytes_of_hex, keep, word64};
 use serial_meaning::Job;
 use std::alloc::Global;
 
-/// The nodes that are up, all packets that were sent, and whether those that a call sends are left out.
+/// The nodes that are up, all packets that were sent, and whether those that a call sends are left
+/// out.
 #[derive(Drop)]
 pub struct Nodes {
     setting: Setting,

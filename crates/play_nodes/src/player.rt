@@ -124,7 +124,8 @@ fn runs_given(
     node.exec_turn_named(alloc, name.minter, name.number, name.frame, done)
 }
 
-/// A frame is carried out by what its task gives with all that comes of it, in at most so many turns.
+/// A frame is carried out by what its task gives with all that comes of it, in at most so many
+/// turns.
 fn runs_whole(
     alloc: Global,
     node: &mut Node<'_>,
@@ -145,7 +146,8 @@ fn departs(alloc: Global, node: &mut Node<'_>, heir: u64) -> Result<Step, NodeEr
     node.depart_named(alloc, heir)
 }
 
-/// A turn of a job's program; none where it has no such thread, or that takes another count of numbers.
+/// A turn of a job's program; none where it has no such thread, or that takes another count of
+/// numbers.
 fn evaluated(
     alloc: Global,
     job: &Job,

@@ -23,7 +23,8 @@ fn spelled(alloc: Global, packet: &Packet, out: &mut Answers) -> Option<Datagram
     None
 }
 
-/// The bytes of a packet in words; none where they are no packet's, or are too many, which is written.
+/// The bytes of a packet in words; none where they are no packet's, or are too many, which is
+/// written.
 pub fn in_words(
     alloc: Global,
     line: &CommandLine<'_>,
@@ -82,7 +83,8 @@ fn write_sent(alloc: Global, mail: &mut Mail, from: u64, datagram: Datagram, out
     }
 }
 
-/// Writes what a step of a worker did; where calls are shown briefly, only that something is ignored.
+/// Writes what a step of a worker did; where calls are shown briefly, only that something is
+/// ignored.
 pub fn write_step(
     alloc: Global,
     mail: &mut Mail,
@@ -140,7 +142,8 @@ fn change(bytes: &mut Vec<u8>, (at, byte): (usize, u8)) -> bool {
     }
 }
 
-/// A copy of bytes, where no other words stand from an index on, or `with AT HEX`: then the byte at AT is another.
+/// A copy of bytes, where no other words stand from an index on, or `with AT HEX`: then the byte at
+/// AT is another.
 fn changed(
     alloc: Global,
     bytes: &[u8],

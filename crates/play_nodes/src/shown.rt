@@ -80,8 +80,8 @@ fn write_grants(out: &mut Answers, grants: &[GrantId]) {
     }
 }
 
-/// Writes a subcomputation: its grant, its hop, its state, the frames that are ready and those that wait, and the grants of its
-/// open records.
+/// Writes a subcomputation: its grant, its hop, its state, the frames that are ready and those that
+/// wait, and the grants of its open records.
 pub fn write_sub(out: &mut Answers, view: &SubView) {
     out.text("> sub ");
     write_grant(out, view.grant);

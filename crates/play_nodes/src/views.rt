@@ -6,7 +6,8 @@ use node_core::SubView;
 use play_words::{Answers, keep};
 use std::alloc::Global;
 
-/// The work behind so many others; once more behind a refusal, which is when out of memory. Whether there is any.
+/// The work behind so many others; once more behind a refusal, which is when out of memory. Whether
+/// there is any.
 fn write_ready_at(alloc: Global, player: &Player, index: usize, out: &mut Answers) -> bool {
     for _ in 0..2 {
         match player.ready_at(alloc, index) {

@@ -13,8 +13,8 @@ use Rattle.replaying.specs.declared.fault.ReplayFault.{ReplayFault}
 use Rattle.replaying.specs.declared.fault.ReplayFault.TheVariants as fault
 use Rattle.replaying.specs.declared.replayed.Replayed.{Replayed}
 
--- all events of the script were carried out from a first world of the job on, and led to a world with so many packets and fills,
--- and with this outcome
+-- all events of the script were carried out from a first world of the job on, and led to a world
+-- with so many packets and fills, and with this outcome
 pub record IsReplayOf (job : JobOf) (text : List ℕ) (r : Replayed) : Type 0 where
   pub events : List Event
   pub read : script text ≡ Ok events
@@ -34,14 +34,15 @@ pub record AreNamed (names : List (List ℕ)) (net : List PacketOf) : Type 0 whe
   pub count : length names ≡ length net
   pub each : (number : ℕ) → IsNamedAt names net number
 
--- all events of the script were carried out, and the packets that were sent have the names that it tells, in their order
+-- all events of the script were carried out, and the packets that were sent have the names that it
+-- tells, in their order
 
 pub record IsNamedReplay (job : JobOf) (text : List ℕ) (r : Replayed) : Type 0 where
   pub replay : IsReplayOf job text r
   pub named : AreNamed (names_in text) replay.on.world.net
 
--- what a refusal of a script says: its first line that isn't an event's; or all lines are events', and one or the first world found
--- no memory
+-- what a refusal of a script says: its first line that isn't an event's; or all lines are events',
+-- and one or the first world found no memory
 abbrev pub IsScriptRefusal : List ℕ → ReplayFault → Type 0
 IsScriptRefusal text (fault.Line l) = script text ≡ Err l
 IsScriptRefusal text fault.Memory = (events : List Event) × (script text ≡ Ok events)
@@ -73,8 +74,8 @@ pub record IsNamedFiles (input : List ℤ) (number : ℕ) (r : Replayed) : Type 
   pub is : IsJobOf text input number job
   pub replay : IsNamedReplay job script_text r
 
--- what a refusal of files says: some text is no job on the input, some script has a line that isn't an event's, or one whose lines
--- all are has a packet of another name
+-- what a refusal of files says: some text is no job on the input, some script has a line that isn't
+-- an event's, or one whose lines all are has a packet of another name
 abbrev pub IsFilesRefusal : List ℤ → ReplayFault → Type 0
 IsFilesRefusal input (fault.Job e) = (text : List ℕ) × IsRefusal text input e
 IsFilesRefusal input (fault.Line l) = (text : List ℕ) × (script text ≡ Err l)

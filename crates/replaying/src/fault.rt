@@ -20,7 +20,8 @@ pub enum ReplayFault {
     /// A line of the script isn't an event's.
     #[error(transparent)]
     Line(Line),
-    /// The packet of this number, from 0, isn't one of the name that the script tells; or one of the two is missing.
+    /// The packet of this number, from 0, isn't one of the name that the script tells; or one of
+    /// the two is missing.
     #[error("packet {0}")]
     Packet(u64),
     /// E9: there is no memory.
@@ -29,8 +30,8 @@ pub enum ReplayFault {
 }
 
 impl ReplayFault {
-    /// The status that a program ends with: 1 for a text, an input or a script that is refused, 3 when out of memory, 4 for a
-    /// file.
+    /// The status that a program ends with: 1 for a text, an input or a script that is refused, 3
+    /// when out of memory, 4 for a file.
     pub fn status(self) -> u8
         ensures { result ≡ status_of self }
     {

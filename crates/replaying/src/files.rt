@@ -14,10 +14,11 @@ use std::thread::Threads;
 use std::time::Clock;
 use world::Watch;
 
-/// Replays the script of a file, which may have any length, on a job, while somebody looks on: the program whose text a file holds, its
-/// input and the job's number. The faults come in this order: the text's file, the text (E2 to E6), its kinds (E10 to E18), the count of
-/// inputs (E21), the script's file, the first line of it that isn't an event's, and a run that finds no memory (E9). E9 may come
-/// in the place of any of these.
+/// Replays the script of a file, which may have any length, on a job, while somebody looks on: the
+/// program whose text a file holds, its input and the job's number. The faults come in this order:
+/// the text's file, the text (E2 to E6), its kinds (E10 to E18), the count of inputs (E21), the
+/// script's file, the first line of it that isn't an event's, and a run that finds no memory (E9).
+/// E9 may come in the place of any of these.
 pub fn replay_files<R: Files + AllocGlobal, W: Watch>(
     rt: &R,
     file: &str,
@@ -35,11 +36,13 @@ pub fn replay_files<R: Files + AllocGlobal, W: Watch>(
     replay_script(rt.alloc(), &job, script.as_slice(), watch)
 }
 
-/// Replays the files that words name. Where the words ask for that, each event is told on `out`, a line each (`event_words`); else how far the
-/// replay has come is told on `err`, if that is a terminal and the replay takes long. What comes of the replay is the same. Where they ask for
-/// that, the packets that are sent have the names that the script tells, all of them and in their order. The faults are those of `replay_files`,
-/// behind them the first packet of another name, and then a line that can't be written on `out`, or for which there is no memory (E9); the
-/// lines before it stay. Nothing is written on `out` where the script isn't read to its end.
+/// Replays the files that words name. Where the words ask for that, each event is told on `out`, a
+/// line each (`event_words`); else how far the replay has come is told on `err`, if that is a
+/// terminal and the replay takes long. What comes of the replay is the same. Where they ask for
+/// that, the packets that are sent have the names that the script tells, all of them and in their
+/// order. The faults are those of `replay_files`, behind them the first packet of another name, and
+/// then a line that can't be written on `out`, or for which there is no memory (E9); the lines
+/// before it stay. Nothing is written on `out` where the script isn't read to its end.
 pub fn replay_words<R: Files + AllocGlobal + Threads + Clock + Sync, O: Write>(
     rt: &R,
     words: ReplayWords<'_>,
@@ -65,7 +68,8 @@ pub fn replay_words<R: Files + AllocGlobal + Threads + Clock + Sync, O: Write>(
     }
 }
 
-/// Replays the script of a file on a job, as `replay_files` does, and tells each event; names are compared where that is asked for.
+/// Replays the script of a file on a job, as `replay_files` does, and tells each event; names are
+/// compared where that is asked for.
 fn replay_files_told<R: Files + AllocGlobal, O: Write>(
     rt: &R,
     file: &str,

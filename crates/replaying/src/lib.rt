@@ -1,4 +1,5 @@
-//! Replaying files: a program's text and a script of events, from the files that hold them to what the run came to.
+//! Replaying files: a program's text and a script of events, from the files that hold them to what
+//! the run came to.
 #![tactic(auto)]
 
 mod fault;

@@ -9,8 +9,9 @@ use std::alloc::Global;
 use traces::{PacketName, names_in};
 use world::{RunEnd, Watch, World, replay_watched};
 
-/// Replays a script on a job as `replay_script` does, and compares the names of the packets that are sent with those that the script tells in
-/// its comments: they are the same, all of them and in their order. Refused also by the first packet that has another name, or none.
+/// Replays a script on a job as `replay_script` does, and compares the names of the packets that
+/// are sent with those that the script tells in its comments: they are the same, all of them and in
+/// their order. Refused also by the first packet that has another name, or none.
 pub fn replay_named<W: Watch>(
     alloc: Global,
     job: &Job,
@@ -43,7 +44,8 @@ pub fn replay_named<W: Watch>(
     })
 }
 
-/// Replays a script on a job as `replay_script` does, or as `replay_named` does where names are to be compared.
+/// Replays a script on a job as `replay_script` does, or as `replay_named` does where names are to
+/// be compared.
 pub(crate) fn replay_asked<W: Watch>(
     alloc: Global,
     job: &Job,
@@ -62,8 +64,8 @@ pub(crate) fn replay_asked<W: Watch>(
     }
 }
 
-/// The number of the first packet of a world that isn't one of the name that comes after so many others, or that has none; or of the first name
-/// that has no packet.
+/// The number of the first packet of a world that isn't one of the name that comes after so many
+/// others, or that has none; or of the first name that has no packet.
 fn misnamed(world: &World<'_>, names: &[PacketName]) -> Option<u64>
     ensures { result ≡ None → AreNamed names.now world.now.world.net }
 {
@@ -79,7 +81,8 @@ fn misnamed(world: &World<'_>, names: &[PacketName]) -> Option<u64>
     }
 }
 
-/// Whether there is a packet of this number, and it is one of the name that comes after so many others.
+/// Whether there is a packet of this number, and it is one of the name that comes after so many
+/// others.
 fn is_named_at(world: &World<'_>, names: &[PacketName], number: usize) -> bool
     ensures { result ≡ true → IsNamedAt names.now world.now.world.net number }
 {

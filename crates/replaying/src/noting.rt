@@ -30,7 +30,8 @@ impl<'p> Watch for Noting<'p> {
     }
 }
 
-/// Replays a script on a job, and notes how far that has come, to its end; names are compared where that is asked for.
+/// Replays a script on a job, and notes how far that has come, to its end; names are compared where
+/// that is asked for.
 fn replay_noted(
     alloc: Global,
     job: &Job,
@@ -51,7 +52,8 @@ fn replay_noted(
     replayed
 }
 
-/// Replays a script on a job; names are compared where that is asked for. Where standard error is a terminal and the replay takes long, how far it has come is told there.
+/// Replays a script on a job; names are compared where that is asked for. Where standard error is a
+/// terminal and the replay takes long, how far it has come is told there.
 fn replay_shown<R: Threads + Clock + Sync>(
     rt: &R,
     alloc: Global,
@@ -69,7 +71,8 @@ fn replay_shown<R: Threads + Clock + Sync>(
     }
     let progress = RunProgress::new();
     let shared = &progress;
-    // (where no second thread can be made, the first closure is called last: then the replay has ended, and nothing is told)
+    // (where no second thread can be made, the first closure is called last: then the replay has
+    // ended, and nothing is told)
     let (_, replayed) = join(
         rt,
         || tell(rt, err, shared),
@@ -82,8 +85,9 @@ fn replay_shown<R: Threads + Clock + Sync>(
     replayed
 }
 
-/// Replays the script of a file on a job, as `replay_files` does; names are compared where that is asked for. Where standard error is a terminal
-/// and the replay takes long, how far it has come is told there.
+/// Replays the script of a file on a job, as `replay_files` does; names are compared where that is
+/// asked for. Where standard error is a terminal and the replay takes long, how far it has come is
+/// told there.
 pub(crate) fn replay_files_shown<R: Files + AllocGlobal + Threads + Clock + Sync>(
     rt: &R,
     file: &str,

@@ -7,8 +7,9 @@ use std::alloc::Global;
 use std::io::{self, Write};
 use world::{RunCounts, RunEnd, Watch, replay_watched};
 
-/// What a run came to: how many events were carried out, how many packets were sent, how many values were put into slots, the
-/// outcome that an open clearinghouse has recorded, and what was counted.
+/// What a run came to: how many events were carried out, how many packets were sent, how many
+/// values were put into slots, the outcome that an open clearinghouse has recorded, and what was
+/// counted.
 #[derive(Clone, Copy)]
 pub struct Replayed {
     pub events: usize,
@@ -18,8 +19,9 @@ pub struct Replayed {
     pub counts: RunCounts,
 }
 
-/// Replays a script on a job, from its first world on, while somebody looks on. Refused by the first line that isn't an event's, before
-/// any event, and where an event or the first world finds no memory (E9). What comes of it is the same, whoever looks on.
+/// Replays a script on a job, from its first world on, while somebody looks on. Refused by the
+/// first line that isn't an event's, before any event, and where an event or the first world finds
+/// no memory (E9). What comes of it is the same, whoever looks on.
 pub fn replay_script<W: Watch>(
     alloc: Global,
     job: &Job,

@@ -7,8 +7,9 @@ use std::rt::Env;
 use std::{env, io};
 use thiserror::Error as ErrorText;
 
-/// What the words of a replay ask for: the files of the program's text and of the script, the job's number and its input, whether each event is
-/// to be told, and whether the packets have to have the names that the script tells.
+/// What the words of a replay ask for: the files of the program's text and of the script, the job's
+/// number and its input, whether each event is to be told, and whether the packets have to have the
+/// names that the script tells.
 #[derive(Drop)]
 pub struct ReplayWords<'a> {
     pub file: &'a str,
@@ -132,8 +133,8 @@ pub fn with_replay_words<'a>(
         .arg(input_word(alloc))
 }
 
-/// The words of a replay, in which each event may be to be told, and names may have to be compared; none where they don't have what
-/// `with_replay_words` asks for.
+/// The words of a replay, in which each event may be to be told, and names may have to be compared;
+/// none where they don't have what `with_replay_words` asks for.
 pub fn replay_words_of<'a>(
     alloc: Global,
     matches: &ArgMatches<'a>,

@@ -31,7 +31,8 @@ pub(crate) fn write_arrows<O: Write>(
     Ok(())
 }
 
-/// Writes the arrow of a delivery: from the event at which the packet was sent, to that at which it comes.
+/// Writes the arrow of a delivery: from the event at which the packet was sent, to that at which it
+/// comes.
 fn write_arrow<O: Write>(
     out: &mut O,
     layout: &Layout,
@@ -82,7 +83,8 @@ fn write_way<O: Write>(
     }
 }
 
-/// Writes the stub of a packet that never came: towards whom it was sent to, with a bar across its end.
+/// Writes the stub of a packet that never came: towards whom it was sent to, with a bar across its
+/// end.
 fn write_stub<O: Write>(
     out: &mut O,
     layout: &Layout,

@@ -62,7 +62,8 @@ fn gap(layout: &Layout) -> Px {
     layout.track().over(5)
 }
 
-/// Writes a stroke into a bar for each thread body that ran, and a broad one with a title for each task that was evaluated whole.
+/// Writes a stroke into a bar for each thread body that ran, and a broad one with a title for each
+/// task that was evaluated whole.
 pub(crate) fn write_turns<O: Write>(
     out: &mut O,
     layout: &Layout,

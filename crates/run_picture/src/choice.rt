@@ -7,14 +7,16 @@ use crate::shown::{Delivery, Sent};
 /// How many arrows and stubs there are at most.
 const MOST: usize = 400;
 
-/// What is asked for: all packets, or none of those that are only about who takes part and is there, Joins, Rosters and Beats.
+/// What is asked for: all packets, or none of those that are only about who takes part and is
+/// there, Joins, Rosters and Beats.
 #[derive(Clone, Copy, PartialEq, Eq, Debug)]
 pub enum Shows {
     All,
     Work,
 }
 
-/// Which packets have arrows: all; all but Joins, Rosters and Beats; those that take a task or an outcome to another one; or none.
+/// Which packets have arrows: all; all but Joins, Rosters and Beats; those that take a task or an
+/// outcome to another one; or none.
 #[derive(Clone, Copy)]
 pub(crate) enum Arrows {
     All,

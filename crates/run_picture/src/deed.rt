@@ -15,7 +15,8 @@ pub(crate) enum Deed {
     Start(u64),
     Deliver(u64),
     Exec(FrameOf),
-    /// A frame is carried out by its whole value, in so many turns: in at most so many, where it isn't done.
+    /// A frame is carried out by its whole value, in so many turns: in at most so many, where it
+    /// isn't done.
     Whole(FrameOf, u64),
     Ask(Asked),
     Resend,
@@ -41,7 +42,8 @@ pub(crate) enum Effect {
     Nothing,
 }
 
-/// An event, what came of it, and the thread whose body ran, or whose task was evaluated whole, if one was.
+/// An event, what came of it, and the thread whose body ran, or whose task was evaluated whole, if
+/// one was.
 #[derive(Clone, Copy)]
 pub(crate) struct Step {
     pub(crate) site: Site,

@@ -1,4 +1,5 @@
-//! Stretches of a run in which no body runs, and nothing else that is shown but packets. They are folded.
+//! Stretches of a run in which no body runs, and nothing else that is shown but packets. They are
+//! folded.
 
 use crate::shown::{Lost, keep};
 use std::alloc::Global;
@@ -6,7 +7,8 @@ use std::alloc::Global;
 /// So many events in a row are folded at least.
 const FEWEST: usize = 40;
 
-/// Events in a row that are folded: the first one, how many they are, and how many are folded before them.
+/// Events in a row that are folded: the first one, how many they are, and how many are folded
+/// before them.
 #[derive(Clone, Copy)]
 pub(crate) struct Fold {
     pub(crate) first: usize,
@@ -14,8 +16,8 @@ pub(crate) struct Fold {
     before: usize,
 }
 
-/// Where an event stands: behind so many folds and so many folded events, and whether it is folded itself: then its own fold, and those
-/// of its events that stand before it, are among these.
+/// Where an event stands: behind so many folds and so many folded events, and whether it is folded
+/// itself: then its own fold, and those of its events that stand before it, are among these.
 #[derive(Clone, Copy)]
 pub(crate) struct Spot {
     pub(crate) folds: usize,

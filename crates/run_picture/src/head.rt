@@ -33,7 +33,8 @@ pub(crate) fn write_heading<O: Write>(out: &mut O, run: &Recorder) -> io::Result
     }
 }
 
-/// Writes which event is where: by its words where there is room, else by numbers of some of them; and the words of folds.
+/// Writes which event is where: by its words where there is room, else by numbers of some of them;
+/// and the words of folds.
 pub(crate) fn write_axis<O: Write>(out: &mut O, layout: &Layout, run: &Recorder) -> io::Result<()> {
     if layout.has_words() {
         write_events(out, layout, run)?;
@@ -68,7 +69,8 @@ fn write_numbers<O: Write>(out: &mut O, layout: &Layout, run: &Recorder) -> io::
     Ok(())
 }
 
-/// Writes the words of folds, aslant and so far above the axis, where they aren't too close to one another.
+/// Writes the words of folds, aslant and so far above the axis, where they aren't too close to one
+/// another.
 fn write_folds<O: Write>(out: &mut O, layout: &Layout, above: Px) -> io::Result<()> {
     let (y, mut free) = (layout.axis().minus(above), Px::ZERO);
     for fold in layout.folds.as_slice() {

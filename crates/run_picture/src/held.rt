@@ -85,8 +85,8 @@ impl Lane {
         None
     }
 
-    /// From an event on the node holds these, by rising grant: what ends, or goes on in another state, becomes a bar. Whether something
-    /// changes.
+    /// From an event on the node holds these, by rising grant: what ends, or goes on in another
+    /// state, becomes a bar. Whether something changes.
     pub(crate) fn hold(
         &mut self,
         alloc: Global,
@@ -121,7 +121,8 @@ impl Lane {
                 && held.state == sub.state)
     }
 
-    /// How a subcomputation of these goes on: as it was; in another state; or, if it is new, on a track that is free.
+    /// How a subcomputation of these goes on: as it was; in another state; or, if it is new, on a
+    /// track that is free.
     fn next(&self, at: usize, subs: &[SubView], now: &[Held], sub: &SubView) -> Held {
         let (grant, state) = (sub.grant, sub.state);
         for held in &self.held {

@@ -63,7 +63,8 @@ fn write_name<O: Write>(
     writeln!(out, "</g>")
 }
 
-/// Writes the names of all lanes again, a screen's width from one another, in a picture that is wide.
+/// Writes the names of all lanes again, a screen's width from one another, in a picture that is
+/// wide.
 pub(crate) fn write_again<O: Write>(
     out: &mut O,
     layout: &Layout,
@@ -81,7 +82,8 @@ pub(crate) fn write_again<O: Write>(
     Ok(())
 }
 
-/// Writes the names of all lanes again, from here on, those of places with the worker that started there last.
+/// Writes the names of all lanes again, from here on, those of places with the worker that started
+/// there last.
 fn write_again_at<O: Write>(out: &mut O, layout: &Layout, run: &Recorder, x: Px) -> io::Result<()> {
     write_again_name(out, layout, &Site::House, x, None)?;
     for (index, lane) in run.lanes.iter().enumerate() {

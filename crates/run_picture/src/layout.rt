@@ -22,7 +22,8 @@ const ALL_FOLDS: Px = Px(17_500);
 /// Names of lanes and the legend stand again so far from one another: about a screen's width.
 pub(crate) const SCREEN: Px = Px(12_000);
 
-/// How wide an event has to be for its words, for a dot, and for the names of the packets that it sends.
+/// How wide an event has to be for its words, for a dot, and for the names of the packets that it
+/// sends.
 const FOR_WORDS: Px = Px(140);
 
 const FOR_DOTS: Px = Px(40);
@@ -37,15 +38,16 @@ const LEGEND_HEIGHT: Px = Px(1300);
 /// There is at least so much behind the last event.
 const RIGHT: Px = Px(600);
 
-/// The width of a character of a lane's name; the height and the width that one of an event's words takes, aslant.
+/// The width of a character of a lane's name; the height and the width that one of an event's words
+/// takes, aslant.
 const NAME_CHAR: Px = Px(67);
 
 const WORD_RISE: Px = Px(53);
 
 const WORD_RUN: Px = Px(31);
 
-/// The heights of the heading, of the axis, and of what stands above the line of a lane: its name once more, the words of a mark, and
-/// those of packets.
+/// The heights of the heading, of the axis, and of what stands above the line of a lane: its name
+/// once more, the words of a mark, and those of packets.
 const HEADING: Px = Px(400);
 
 const AXIS: Px = Px(220);
@@ -67,8 +69,9 @@ pub(crate) struct Band {
     pub(crate) end: Px,
 }
 
-/// How wide everything is: the names of the lanes, all columns of events that aren't folded, which are of one width, one of these, and a
-/// fold; and how many events aren't folded, and how many folds there are.
+/// How wide everything is: the names of the lanes, all columns of events that aren't folded, which
+/// are of one width, one of these, and a fold; and how many events aren't folded, and how many
+/// folds there are.
 #[derive(Clone, Copy)]
 struct Widths {
     left: Px,
@@ -115,8 +118,8 @@ struct Heights {
     track: Px,
 }
 
-/// Where everything stands. Events have columns of one width, from left to right, and folds have theirs among them; lanes lie below one
-/// another, that of the clearinghouse first.
+/// Where everything stands. Events have columns of one width, from left to right, and folds have
+/// theirs among them; lanes lie below one another, that of the clearinghouse first.
 #[derive(Drop)]
 pub(crate) struct Layout<'r> {
     pub(crate) folds: &'r Folds,
@@ -271,7 +274,8 @@ fn name_chars(run: &Recorder) -> usize {
     most
 }
 
-/// How much the words above the lanes take, of events or of folds: their height, and their width behind the last column.
+/// How much the words above the lanes take, of events or of folds: their height, and their width
+/// behind the last column.
 fn words_of(run: &Recorder, widths: &Widths) -> (Px, Px) {
     let has_words = widths.has_words();
     let chars = longest_words(run, has_words);
@@ -284,7 +288,8 @@ fn words_of(run: &Recorder, widths: &Widths) -> (Px, Px) {
     (height, WORD_RUN.times(chars).at_least(RIGHT))
 }
 
-/// How many characters the words of a fold have at most, or those of an event with its number and a blank, where events have words.
+/// How many characters the words of a fold have at most, or those of an event with its number and a
+/// blank, where events have words.
 fn longest_words(run: &Recorder, has_words: bool) -> usize {
     let mut most = 0usize;
     for fold in run.folds.as_slice() {
@@ -326,7 +331,8 @@ fn line_below(top: Px, heights: Heights) -> Px {
         .plus(Px(60))
 }
 
-/// The lane of the clearinghouse, below words of a height. It has a band for the outcome above the others.
+/// The lane of the clearinghouse, below words of a height. It has a band for the outcome above the
+/// others.
 fn house_band(words: Px, heights: Heights) -> Band {
     let top = HEADING.plus(words);
     let line = line_below(top.plus(MARK_BAND), heights);
@@ -337,7 +343,8 @@ fn house_band(words: Px, heights: Heights) -> Band {
     }
 }
 
-/// The lanes of all places, below the clearinghouse's, and where the last one ends. One that isn't used has no height.
+/// The lanes of all places, below the clearinghouse's, and where the last one ends. One that isn't
+/// used has no height.
 fn place_bands(run: &Recorder, heights: Heights, top: Px) -> ([Band; 64], Px) {
     let empty = Band {
         top: Px::ZERO,

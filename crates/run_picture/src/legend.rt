@@ -6,7 +6,8 @@ use crate::px::Px;
 use crate::record::Recorder;
 use std::io::{self, Write};
 
-/// The rows of the legend, from the middle of the first one on: bars, marks, the families of packets, and what becomes of a packet.
+/// The rows of the legend, from the middle of the first one on: bars, marks, the families of
+/// packets, and what becomes of a packet.
 const ROWS: &str = "<rect class=\"live\" x=\"14\" y=\"-6\" width=\"30\" height=\"12\"/>
 <text x=\"52\" y=\"4\">subcomputation, live</text>
 <rect class=\"frozen\" x=\"206\" y=\"-6\" width=\"30\" height=\"12\"/>
@@ -50,7 +51,8 @@ const WHOLE: &str = "<path class=\"whole\" d=\"M678.6 20v8\"/>
 <text x=\"690.6\" y=\"28\">task that was evaluated whole</text>
 ";
 
-/// Writes the legend, in a wide picture a screen's width on once more, as often as there is room for it.
+/// Writes the legend, in a wide picture a screen's width on once more, as often as there is room
+/// for it.
 pub(crate) fn write_legend<O: Write>(
     out: &mut O,
     layout: &Layout,

@@ -1,8 +1,10 @@
-//! A picture of a run, as SVG: who held which work, what was sent, and what became of the nodes and the clearinghouse.
+//! A picture of a run, as SVG: who held which work, what was sent, and what became of the nodes and
+//! the clearinghouse.
 //!
-//! `Recorder` looks on while a script is replayed, and keeps what the picture needs; `write_picture` writes it. All that is written is
-//! numbers, fixed words and the names of threads, which are letters, digits and `_`: so nothing has to be escaped. The same job and script
-//! give the same picture.
+//! `Recorder` looks on while a script is replayed, and keeps what the picture needs;
+//! `write_picture` writes it. All that is written is numbers, fixed words and the names of threads,
+//! which are letters, digits and `_`: so nothing has to be escaped. The same job and script give
+//! the same picture.
 #![tactic(auto)]
 
 mod arrows;

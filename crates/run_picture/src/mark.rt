@@ -60,7 +60,8 @@ impl fmt::Display for Words {
     }
 }
 
-/// The mark of an event, if it has one: only what is carried out, and a cut whatever comes of it, has.
+/// The mark of an event, if it has one: only what is carried out, and a cut whatever comes of it,
+/// has.
 pub(crate) fn mark_of(step: &Step) -> Option<(Shape, Words)> {
     match (step.deed, step.effect) {
         (_, Effect::Nothing) => None,

@@ -92,9 +92,10 @@ fn write_dot<O: Write>(
     )
 }
 
-/// Writes the words of a mark where there is room at it, and then for the next start's at that one. Those of a start are written in any
-/// case: where there is no room at the mark, farther off, with the event's number; and where there is none up to the picture's right end, at
-/// the mark, over other words.
+/// Writes the words of a mark where there is room at it, and then for the next start's at that one.
+/// Those of a start are written in any case: where there is no room at the mark, farther off, with
+/// the event's number; and where there is none up to the picture's right end, at the mark, over
+/// other words.
 fn write_words<O: Write>(
     out: &mut O,
     layout: &Layout,

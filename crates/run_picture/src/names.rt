@@ -43,7 +43,8 @@ impl fmt::Display for Kinds {
     }
 }
 
-/// The packets that one event sent and that are shown: the first one, and the numbers of the first and the last one.
+/// The packets that one event sent and that are shown: the first one, and the numbers of the first
+/// and the last one.
 #[derive(Clone, Copy)]
 struct Group {
     sent: Sent,
@@ -51,7 +52,8 @@ struct Group {
     last: usize,
 }
 
-/// Writes the threads whose bodies ran, and the numbers and kinds of the packets that events sent, where there is room.
+/// Writes the threads whose bodies ran, and the numbers and kinds of the packets that events sent,
+/// where there is room.
 pub(crate) fn write_names<O: Write>(
     out: &mut O,
     layout: &Layout,

@@ -13,10 +13,11 @@ use crate::record::Recorder;
 use crate::style::write_beginning;
 use std::io::{self, Write};
 
-/// Writes the picture of a run as SVG: a lane for the clearinghouse and one for each place that an event names, events from left to
-/// right, a bar for each subcomputation that a node held, arrows for packets, marks for what became of nodes, and a legend. Packets are
-/// shown as is asked for, or fewer kinds of them where there would be more than 400 arrows. Forty or more events in a row in which no body
-/// runs, and nothing else changes that is shown but packets, are folded.
+/// Writes the picture of a run as SVG: a lane for the clearinghouse and one for each place that an
+/// event names, events from left to right, a bar for each subcomputation that a node held, arrows
+/// for packets, marks for what became of nodes, and a legend. Packets are shown as is asked for, or
+/// fewer kinds of them where there would be more than 400 arrows. Forty or more events in a row in
+/// which no body runs, and nothing else changes that is shown but packets, are folded.
 pub fn write_picture<O: Write>(out: &mut O, run: &Recorder, shows: Shows) -> io::Result<()> {
     let layout = Layout::of(run, shows);
     write_beginning(out, &layout, run)?;

@@ -39,8 +39,9 @@ struct Tally {
     has_outcome: bool,
 }
 
-/// The record of a run, made while it goes: what each event was and what came of it, which bodies ran, what the nodes held, what was sent
-/// and came, and what rosters said. It takes memory with each event.
+/// The record of a run, made while it goes: what each event was and what came of it, which bodies
+/// ran, what the nodes held, what was sent and came, and what rosters said. It takes memory with
+/// each event.
 #[derive(Drop)]
 pub struct Recorder {
     is_whole: bool,
@@ -58,7 +59,8 @@ pub struct Recorder {
     pub(crate) deliveries: Vec<Delivery>,
     pub(crate) deaths: Vec<Death>,
     pub(crate) house: Stand,
-    /// Whether the clearinghouse was open at some time, and how often what a node holds has changed.
+    /// Whether the clearinghouse was open at some time, and how often what a node holds has
+    /// changed.
     was_open: bool,
     moves: usize,
     /// The epoch and the version of the newest roster that was sent.
@@ -133,7 +135,8 @@ impl Recorder {
         self.turns.iter().any(|turn| turn.is_of_whole)
     }
 
-    /// Keeps the words of the turn that an event took, if it took one, and if one of the first ones.
+    /// Keeps the words of the turn that an event took, if it took one, and if one of the first
+    /// ones.
     fn say_turn(
         &mut self,
         alloc: Global,
@@ -463,7 +466,8 @@ fn turn_of(lane: &Lane, at: usize, place: &NodePlace, deed: &Deed) -> Option<Tur
     })
 }
 
-/// What happens, with the turns that it took where a task was evaluated whole, in the world after it.
+/// What happens, with the turns that it took where a task was evaluated whole, in the world after
+/// it.
 fn counted(site: &Site, deed: Deed, effect: Effect, world: &World<'_>) -> Deed {
     let (Site::At(place), Deed::Whole(frame, most), Effect::Done) = (site, deed, effect) else {
         return deed;

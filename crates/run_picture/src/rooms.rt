@@ -24,8 +24,9 @@ impl Rooms {
         }
     }
 
-    /// Takes the room for words of a width, from a place on or a little behind it; none where there isn't any, or where the words that
-    /// are to stand from the next place on would stand more than a little behind that. Words are written from left to right.
+    /// Takes the room for words of a width, from a place on or a little behind it; none where there
+    /// isn't any, or where the words that are to stand from the next place on would stand more than
+    /// a little behind that. Words are written from left to right.
     pub(crate) fn take(&mut self, site: &Site, from: Px, width: Px, next: Px) -> Option<Px> {
         let at = self.free_from(site, from);
         let end = at.plus(width).plus(GAP);
@@ -36,7 +37,8 @@ impl Rooms {
         Some(at)
     }
 
-    /// Takes the room for words of a width, from a place on or as far behind it as it has to be; none where they would go on up to an end.
+    /// Takes the room for words of a width, from a place on or as far behind it as it has to be;
+    /// none where they would go on up to an end.
     pub(crate) fn take_far(&mut self, site: &Site, from: Px, width: Px, end: Px) -> Option<Px> {
         let at = self.free_from(site, from);
         if at.plus(width) > end {

@@ -11,7 +11,8 @@ use world::World;
 /// So many turns are told in words. A picture with a dot for each event has fewer.
 const MOST: usize = 1000;
 
-/// A frame that is ready, and the words of its thread and numbers. Once it is carried out it is gone.
+/// A frame that is ready, and the words of its thread and numbers. Once it is carried out it is
+/// gone.
 #[derive(Drop)]
 pub(crate) struct Task {
     pub(crate) frame: FrameOf,

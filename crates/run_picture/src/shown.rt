@@ -33,7 +33,8 @@ pub(crate) struct Worker {
     pub(crate) place: NodePlace,
 }
 
-/// A thread body that ran, or all those of a task that was evaluated whole, in the subcomputation on a track.
+/// A thread body that ran, or all those of a task that was evaluated whole, in the subcomputation
+/// on a track.
 #[derive(Clone, Copy)]
 pub(crate) struct Turn {
     pub(crate) at: usize,

@@ -49,8 +49,9 @@ const LOOKS: &str =
 const LOOK_OF_WHOLE: &str = ".whole{stroke:#0b3a66;stroke-width:5;fill:none}
 ";
 
-/// What is referred to: the hatching, and for each family of packets the heads of its arrows, a full one, and an open one for packets that
-/// are ignored; and those of arrows that stand for any family, in the legend. The shape of its heads tells a family apart without colours.
+/// What is referred to: the hatching, and for each family of packets the heads of its arrows, a
+/// full one, and an open one for packets that are ignored; and those of arrows that stand for any
+/// family, in the legend. The shape of its heads tells a family apart without colours.
 const PARTS: &str =
     "<pattern id=\"hatch\" width=\"5\" height=\"5\" patternUnits=\"userSpaceOnUse\" patternTransform=\"rotate(45)\"><rect width=\"5\" height=\"5\" fill=\"#fff\"/><rect width=\"2\" height=\"5\" fill=\"#e09a3e\"/></pattern>
 <marker id=\"work\" markerWidth=\"14\" markerHeight=\"10\" refX=\"12\" refY=\"5\" orient=\"auto\" markerUnits=\"userSpaceOnUse\"><path d=\"M0.5 0.5L10 5L0.5 9.5z\" fill=\"#c2410c\"/></marker>

@@ -9,7 +9,8 @@ use ids::{GrantId, Outcome, Progress};
 use node_core::SubState;
 use std::fmt::{self, Write};
 
-/// Who acts or is addressed: a worker by its start word, the clearinghouse of an epoch as H and the epoch, and that of any epoch as `house`.
+/// Who acts or is addressed: a worker by its start word, the clearinghouse of an epoch as H and the
+/// epoch, and that of any epoch as `house`.
 #[derive(Clone, Copy)]
 pub(crate) struct Who(pub(crate) u64);
 
@@ -111,8 +112,8 @@ impl fmt::Display for AgainName {
     }
 }
 
-/// An event by the words of its line, in which a grant has its short name and the bytes of a cut are left out, and the name of the thread
-/// whose body it ran, if it did.
+/// An event by the words of its line, in which a grant has its short name and the bytes of a cut
+/// are left out, and the name of the thread whose body it ran, if it did.
 #[derive(Clone, Copy)]
 pub(crate) struct EventWords<'r> {
     pub(crate) step: Step,

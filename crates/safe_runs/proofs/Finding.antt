@@ -62,7 +62,8 @@ module _ (job : JobOf) (v : View) (w : WorldOf) (disk : DiskShown job v w.disk w
   halted_finds : (k : ℕ) (bytes : List ℕ) (o : StepResult) → RestartHalts job k bytes w o → FindsItsStore o.answer
   halted_finds k bytes o (calls, why, within, is) = rw is refl
 
-  -- an opening that ends, wherever the clearinghouse stands, and one in which a call of the disk fails
+  -- an opening that ends, wherever the clearinghouse stands, and one in which a call of the disk
+  -- fails
   ends_find : (x : HouseAt) (o : StepResult) → HouseEnds job Restart x w o → FindsItsStore o.answer
   ends_find Down o ended = restart_finds o ended
   ends_find (IsUp (Stopped s)) o ended = restart_finds o ended

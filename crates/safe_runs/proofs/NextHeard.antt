@@ -1,4 +1,5 @@
--- A Result that comes closes the record of its grant, and that of the root's grant is recorded; and who asks again is told again.
+-- A Result that comes closes the record of its grant, and that of the root's grant is recorded; and
+-- who asks again is told again.
 use Rattle.std.proofs.Common.{◌≡◌, ◌+◌, ◌<◌, ◌^◌, ℕ, Bool, true, false, cond, not, nat_eq, nat_lt, List, [], ◌∷◌, inl, inr, ⊎_elim, Option, None, Some, slice_get, refl, sym, ap, subst, ◌∙◌, Equal}
 use Rattle.std.specs.Cmp.{nat_cmp_is}
 use Rattle.std.specs.Ordering.{eq_by_cmp, is_eq, nat_cmp}

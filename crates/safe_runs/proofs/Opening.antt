@@ -1,4 +1,5 @@
--- The clearinghouse opens over its disk: in the epoch after the last one that was committed, with nobody listed.
+-- The clearinghouse opens over its disk: in the epoch after the last one that was committed, with
+-- nobody listed.
 use Rattle.std.proofs.Common.{◌≡◌, ◌+◌, ◌<◌, ◌≤◌, ℕ, Bool, true, false, cond, List, [], ◌∷◌, ◌++◌, length, inl, inr, ⊎_elim, None, refl, subst, sym, ap, ◌∙◌, arith}
 use Rattle.disk.specs.Device.{Device}
 use Rattle.checkpoint.specs.Store.{KeepsRecord}

@@ -1,4 +1,5 @@
--- A Result tells the outcome of the task that was granted under its name: so the tables of the whole run say.
+-- A Result tells the outcome of the task that was granted under its name: so the tables of the
+-- whole run say.
 use Rattle.std.proofs.Common.{◌≡◌, ◌+◌, ℕ, ℤ, List, Option, None, Some, refl, sym, ap, ◌∙◌}
 use Rattle.ids.specs.Names.{Grant}
 use Rattle.ids.specs.declared.outcome.Outcome.{Outcome}

@@ -1,4 +1,5 @@
--- Each world of a run is cut from one that is tied to tables and right by value, and so all that is promised holds of it.
+-- Each world of a run is cut from one that is tied to tables and right by value, and so all that is
+-- promised holds of it.
 use Rattle.std.proofs.Common.{List, ◌∷◌, inl, inr, sym, subst}
 use Rattle.disk.specs.Device.{Device}
 use Rattle.serial_meaning.specs.Job.{JobOf, IsJob}

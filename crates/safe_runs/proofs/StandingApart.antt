@@ -1,4 +1,5 @@
--- No two subcomputations of a node have a record of one grant, also where it takes an Offer: so the tables say.
+-- No two subcomputations of a node have a record of one grant, also where it takes an Offer: so the
+-- tables say.
 use Rattle.std.proofs.Common.{◌≡◌, ℕ, Bool, true, false, cond, List, nat_eq, ◌&&◌, inl, inr, ⊎_elim, None, Some, Ok, refl, sym, ap, ◌∙◌}
 use Rattle.std.specs.Ordering.{eq_by_cmp}
 use Rattle.ids.specs.Names.{Grant, grant_cmp}

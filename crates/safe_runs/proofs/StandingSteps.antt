@@ -1,4 +1,5 @@
--- Each step leads from a world in which nobody waits for somebody who is gone to one: at a node, or the clearinghouse.
+-- Each step leads from a world in which nobody waits for somebody who is gone to one: at a node, or
+-- the clearinghouse.
 use Rattle.std.proofs.Common.{◌≡◌, ℕ, Bool, true, false, cond, ◌&&◌, List, [], ◌++◌, ◌⊎◌, inl, inr, ⊎_elim, Option, None, Some, slice_get, nat_eq, refl, subst, arith}
 use Rattle.codec.specs.Pieces.{cut_all}
 use Rattle.codec.specs.Table.{PacketOf}

@@ -1,4 +1,5 @@
--- Once an outcome is recorded, it is recorded in each later world of a run whose clearinghouse is open.
+-- Once an outcome is recorded, it is recorded in each later world of a run whose clearinghouse is
+-- open.
 use Rattle.std.proofs.Common.{◌≡◌, suc, zero, IsTrue, true, false, List, [], ◌∷◌, Option, None, Some, is_some, sym, ap, ◌∙◌, arith}
 use Rattle.ids.specs.declared.outcome.Outcome.{Outcome}
 use Rattle.disk.specs.Device.{Device}

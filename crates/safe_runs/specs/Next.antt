@@ -40,7 +40,8 @@ use Rattle.world_steps.specs.Steps.{CarriedOut, Step}
 use Rattle.world_steps.specs.World.{Holder, WorldOf, node_in, open_house, recorded}
 use Rattle.actor_laws.specs.next.Taking.{NoFrame, NoRecord, TakesOffer}
 
--- packet i is delivered to the node at place a; or the node carries out a frame of a grant, or sends again what isn't answered
+-- packet i is delivered to the node at place a; or the node carries out a frame of a grant, or
+-- sends again what isn't answered
 abbrev pub delivery : ℕ → ℕ → Event
 delivery a i = AtNode a (Deliver i)
 
@@ -58,7 +59,8 @@ sent_in (Refused e) = []
 sent_in (Did sent fills) = sent
 sent_in (House e sent outcome) = sent
 
--- a frame is gone from what the node at a place holds of a grant; or the numbers of frames are spent
+-- a frame is gone from what the node at a place holds of a grant; or the numbers of frames are
+-- spent
 abbrev pub IsGoneAt : StepResult → ℕ → Grant → ℕ → Type 0
 IsGoneAt o a g f = (o.answer ≡ Refused error.Spent) ⊎ ((n : NodeOf) → node_in a o.world.nodes ≡ Some n → NoFrame g f n.subs)
 
@@ -85,15 +87,16 @@ HasRoster (Member q) r = q ≡ r
 HasRoster (Leaving q heir) r = q ≡ r
 HasRoster Ended r = ⊥
 
--- there is a packet such that, wherever it is delivered to the node at place a, that node holds the grant then
+-- there is a packet such that, wherever it is delivered to the node at place a, that node holds the
+-- grant then
 pub record BringsWork (job : JobOf) (w : WorldOf) (a : ℕ) (g : Grant) : Type 0 where
   pub number : ℕ
   pub packet : PacketOf
   pub sent : slice_get w.net number ≡ Some packet
   pub taken : (o : StepResult) → Step job (delivery a number) w o → Holder o.world a g
 
--- what a node holds that leaves was offered to its heir, as one packet or in all its pieces; and the heir, where it is a member and hasn't taken
--- that hop yet, takes the Offer if it comes now
+-- what a node holds that leaves was offered to its heir, as one packet or in all its pieces; and
+-- the heir, where it is a member and hasn't taken that hop yet, takes the Offer if it comes now
 pub record IsOffered (job : JobOf) (w : WorldOf) (n : NodeOf) (heir : ℕ) (s : SubOf) : Type 0 where
   pub sent : (p : PacketOf) → p ∈ cut (offer job.number n.incarnation heir s) → p ∈ w.net
   pub taken : (b : ℕ) (m : NodeOf) (r : Roster) → node_in b w.nodes ≡ Some m → m.incarnation ≡ heir → m.state ≡ Member r → is_above (s.hop + 1) (hop_in s.grant m.seen) ≡ true → TakesOffer job r (offer_of n.incarnation s) m
@@ -107,7 +110,8 @@ pub record MemberTells (job : JobOf) (n : NodeOf) (sent : List PacketOf) : Type 
 abbrev pub LeaverTells : JobOf → NodeOf → ℕ → List PacketOf → Type 0
 LeaverTells job n heir sent = (g : Grant) (s : SubOf) (p : PacketOf) → sub_in g n.subs ≡ Some s → p ∈ cut (offer job.number n.incarnation heir s) → p ∈ sent
 
--- a worker is on a clearinghouse's list, and at this moment it was silent for longer than a member may be
+-- a worker is on a clearinghouse's list, and at this moment it was silent for longer than a member
+-- may be
 pub record IsSilent (h : HouseOf) (i now : ℕ) : Type 0 where
   pub enlisted : Enlisted
   pub listed : item_in name_of_enlisted (i, 0) h.workers ≡ Some enlisted
@@ -140,17 +144,20 @@ pub record NextSteps (job : JobOf) (w : WorldOf) : Type 0 where
   pub grants : (g : Grant) → (x : IsAwaited w g) → BringsWork job w x.at g
   -- what a leaver holds was offered, and a member heir takes it if it comes now
   pub offers : (a : ℕ) (n : NodeOf) (r : Roster) (heir : ℕ) (g : Grant) (s : SubOf) → node_in a w.nodes ≡ Some n → n.state ≡ Leaving r heir → sub_in g n.subs ≡ Some s → IsOffered job w n heir s
-  -- a Result that comes now to a member closes the record of its grant, if it has one; and that of the root's grant, to the
-  -- clearinghouse, is recorded where a commit is left and no call of the disk fails
+  -- a Result that comes now to a member closes the record of its grant, if it has one; and that of
+  -- the root's grant, to the clearinghouse, is recorded where a commit is left and no call of the
+  -- disk fails
   pub results : (a i : ℕ) (n : NodeOf) (r : Roster) (b : TaskResult) → node_in a w.nodes ≡ Some n → n.state ≡ Member r → IsPacket job w i n.incarnation (body.Result b) → (o : StepResult) → Step job (delivery a i) w o → NoRecordAt o.world a b.grant
   pub outcome : (i : ℕ) (h : HouseOf) (root : RootGrant) (b : TaskResult) → open_house w.house ≡ Some h → h.root ≡ Some root → IsPacket job w i (name_of h) (body.Result b) → b.grant ≡ root.grant → h.sequence + 1 < 2 ^ 64 → (o : StepResult) → CarriedOut job (AtHouse (at_house.Deliver i)) w o → recorded o.world ≡ Some b.outcome
-  -- each Resend tells again what isn't answered: a member its request and what it has finished, a leaver all that it holds
+  -- each Resend tells again what isn't answered: a member its request and what it has finished, a
+  -- leaver all that it holds
   pub told : (a : ℕ) (n : NodeOf) (r : Roster) → node_in a w.nodes ≡ Some n → n.state ≡ Member r → (o : StepResult) → Step job (resend a) w o → MemberTells job n (sent_in o.answer)
   pub offered : (a : ℕ) (n : NodeOf) (r : Roster) (heir : ℕ) → node_in a w.nodes ≡ Some n → n.state ≡ Leaving r heir → (o : StepResult) → Step job (resend a) w o → LeaverTells job n heir (sent_in o.answer)
-  -- and a thief that asks again is told the last answer again: by a node, and by the clearinghouse, where it is shown live there
+  -- and a thief that asks again is told the last answer again: by a node, and by the clearinghouse,
+  -- where it is shown live there
   pub answered : (a i : ℕ) (n : NodeOf) (r : Roster) (b : Steal) (reply : Reply) → node_in a w.nodes ≡ Some n → HasRoster n.state r → is_live b.from r.members ≡ true → reply_in b.from n.replies ≡ Some reply → b.seq ≡ reply.seq → IsPacket job w i n.incarnation (body.Steal b) → (o : StepResult) → Step job (delivery a i) w o → reply.packet ∈ sent_in o.answer
   pub house_answered : (i : ℕ) (h : HouseOf) (b : Steal) (reply : Reply) → open_house w.house ≡ Some h → is_live b.from (members_of h) ≡ true → reply_in b.from h.replies ≡ Some reply → b.seq ≡ reply.seq → IsPacket job w i (name_of h) (body.Steal b) → (o : StepResult) → CarriedOut job (AtHouse (at_house.Deliver i)) w o → reply.packet ∈ sent_in o.answer
-  -- a moment at which the holder of the root's grant was silent for too long frees the root; and where it is free, and there is no outcome,
-  -- it is granted to a live thief that asks anew
+  -- a moment at which the holder of the root's grant was silent for too long frees the root; and
+  -- where it is free, and there is no outcome, it is granted to a live thief that asks anew
   pub freed : (h : HouseOf) (root : RootGrant) (now : ℕ) → open_house w.house ≡ Some h → h.root ≡ Some root → IsSilent h root.holder now → h.moment < now → (o : StepResult) → CarriedOut job (AtHouse (at_house.Tick now)) w o → IsRootFree h.outcome o.world
   pub granted : (i : ℕ) (h : HouseOf) (b : Steal) → open_house w.house ≡ Some h → h.root ≡ None → h.outcome ≡ None → is_live b.from (members_of h) ≡ true → IsNewer b h → h.minted + 1 < 2 ^ 64 → IsPacket job w i (name_of h) (body.Steal b) → (o : StepResult) → CarriedOut job (AtHouse (at_house.Deliver i)) w o → IsRootGranted job b o

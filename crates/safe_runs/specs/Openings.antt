@@ -8,7 +8,8 @@ use Rattle.event_script.specs.declared.event.HouseEvent.{HouseEvent}
 use Rattle.event_script.specs.declared.event.HouseEvent.TheVariants.{Deliver, Tick, Restart}
 use Rattle.world_steps.specs.Answers.{WorldAnswer, Unfit, Ignored, Refused, Did, House}
 
--- whether a refusal says that the disk keeps no store of the job: another job's (E70), none (E71), or one of another version (E73)
+-- whether a refusal says that the disk keeps no store of the job: another job's (E70), none (E71),
+-- or one of another version (E73)
 abbrev pub finds_none : Option HouseError → Bool
 finds_none None = false
 finds_none (Some (error.Bytes f)) = false

@@ -9,8 +9,9 @@ use Rattle.world_steps.specs.World.{WorldOf}
 use Rattle.safe_runs.specs.Next.{NextSteps}
 use Rattle.safe_runs.specs.Standing.{WorldStands}
 
--- these worlds, one after another, are safe; and each agrees with the serial meaning and has lost nothing, in each nobody waits for
--- somebody who is gone, and work and outcomes that come now are taken
+-- these worlds, one after another, are safe; and each agrees with the serial meaning and has lost
+-- nothing, in each nobody waits for somebody who is gone, and work and outcomes that come now are
+-- taken
 pub record AllSafe (job : JobOf) (worlds : List WorldOf) : Type 0 where
   pub safe : Safe job worlds
   pub agree : (w : WorldOf) → w ∈ worlds → Agrees job w

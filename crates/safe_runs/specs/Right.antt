@@ -20,7 +20,8 @@ abbrev pub HouseIsRight : JobOf → HouseAt → Type 0
 HouseIsRight job Down = Unit {0}
 HouseIsRight job (IsUp state) = StateIsRight job state
 
--- each node that is up agrees, the clearinghouse does, what every packet gives away, and each value that was put into a slot
+-- each node that is up agrees, the clearinghouse does, what every packet gives away, and each value
+-- that was put into a slot
 pub record WorldIsRight (job : JobOf) (w : WorldOf) : Type 0 where
   pub nodes : (a : ℕ) (n : NodeOf) → node_in a w.nodes ≡ Some n → NodeIsRight job n
   pub house : HouseIsRight job w.house

@@ -53,8 +53,9 @@ abbrev pub IsHeldBy : JobOf → ℕ → CheckpointRecord → HouseAt → Type 0
 IsHeldBy job sequence r Down = Unit {0}
 IsHeldBy job sequence r (IsUp state) = IsCommitted job sequence r state
 
--- whatever a crash leaves of the disk is a checkpoint with one record of the job: its outcome is that of the tables, its epoch is
--- theirs, or a later one that began and was never open, and the values that are saved there agree
+-- whatever a crash leaves of the disk is a checkpoint with one record of the job: its outcome is
+-- that of the tables, its epoch is theirs, or a later one that began and was never open, and the
+-- values that are saved there agree
 pub record DiskShown (job : JobOf) (v : View) (d : Device) (house : HouseAt) : Type 0 where
   pub sequence : ℕ
   pub found : CheckpointRecord

@@ -1,4 +1,5 @@
--- What is kept from world to world of a run: it is cut from a world of whole packets, which is tied to tables and right by value.
+-- What is kept from world to world of a run: it is cut from a world of whole packets, which is tied
+-- to tables and right by value.
 use Rattle.std.specs.Prelude.{◌≡◌, ℕ, Some}
 use Rattle.codec.specs.Pieces.{cut_all}
 use Rattle.serial_meaning.specs.Job.{JobOf}

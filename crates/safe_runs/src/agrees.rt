@@ -7,8 +7,9 @@ ghost use Rattle.world_steps.specs.Safe.{filling_of};
 ghost use Rattle.world_steps.specs.World.{WorldOf};
 ghost use Rattle.safe_runs.specs.Sound.{IsSound};
 
-/// A sound world agrees with the serial meaning: its packets, Results and Pieces among them, what is held and not frozen, and the parts
-/// of Offers that nodes keep; and each value that was put into a slot is the one that the slot receives. Does nothing.
+/// A sound world agrees with the serial meaning: its packets, Results and Pieces among them, what
+/// is held and not frozen, and the parts of Offers that nodes keep; and each value that was put
+/// into a slot is the one that the slot receives. Does nothing.
 pub fn worlds_agree()
     ensures agrees { (job : JobOf) (w : WorldOf) → IsSound job w → Agrees job w }
     ensures values { (job : JobOf) (w : WorldOf) (i : ℕ) (f : Fill)

@@ -12,9 +12,10 @@ ghost use Rattle.world_steps.specs.Steps.{Step};
 ghost use Rattle.world_steps.specs.World.{Holder, WorldOf, first_over, recorded};
 ghost use Rattle.safe_runs.specs.Sound.{IsSound, SoundSince};
 
-/// The first world over a disk on which a run of a job can begin is sound: it is cut from a world of whole packets that tables show.
-/// Each step, of whatever event, leads from such a world to such a world: the tables after it come of those before by moves that may
-/// be made. So each world of a run is one. Does nothing.
+/// The first world over a disk on which a run of a job can begin is sound: it is cut from a world
+/// of whole packets that tables show. Each step, of whatever event, leads from such a world to such
+/// a world: the tables after it come of those before by moves that may be made. So each world of a
+/// run is one. Does nothing.
 pub fn steps_are_moves()
     ensures first { (job : JobOf) (d : Device) → CanBegin job d → IsSound job (first_over d) }
     ensures step { (job : JobOf) (w : WorldOf) (e : Event) (o : StepResult) → (sound : IsSound job w)
@@ -29,8 +30,8 @@ pub fn steps_are_moves()
         → IsSound job v }
 {}
 
-/// In a sound world no grant has two live holders, no slot was filled twice, and a recorded outcome is the job's meaning. Does
-/// nothing.
+/// In a sound world no grant has two live holders, no slot was filled twice, and a recorded outcome
+/// is the job's meaning. Does nothing.
 pub fn sound_worlds_are_safe()
     ensures holder { (job : JobOf) (w : WorldOf) (g : Grant) (a b : ℕ) → IsSound job w → Holder w a g
         → Holder w b g → a ≡ b }
@@ -39,9 +40,10 @@ pub fn sound_worlds_are_safe()
         → o ≡ meaning_of job }
 {}
 
-/// The same of each world of a run, whatever its events: packets that are lost, late, doubled or out of order, nodes that start,
-/// leave and crash, a clearinghouse that is down, and Cuts of its disk. And once an outcome is recorded, it is so in each later world
-/// whose clearinghouse is open. Does nothing.
+/// The same of each world of a run, whatever its events: packets that are lost, late, doubled or
+/// out of order, nodes that start, leave and crash, a clearinghouse that is down, and Cuts of its
+/// disk. And once an outcome is recorded, it is so in each later world whose clearinghouse is open.
+/// Does nothing.
 pub fn worlds_of_runs_are_safe()
     ensures holder { (job : JobOf) (d : Device) (entries : List Entry) (worlds : List WorldOf) (v : WorldOf)
         (g : Grant) (a b : ℕ)

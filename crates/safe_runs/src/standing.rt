@@ -7,8 +7,8 @@ ghost use Rattle.world_steps.specs.World.{WorldOf, first_over};
 ghost use Rattle.safe_runs.specs.Sound.{IsSound};
 ghost use Rattle.safe_runs.specs.Standing.{WorldStands};
 
-/// By its own roster nobody waits for somebody who is gone: so it is in a first world, and behind each step from a sound world in which it
-/// is. Does nothing.
+/// By its own roster nobody waits for somebody who is gone: so it is in a first world, and behind
+/// each step from a sound world in which it is. Does nothing.
 pub fn worlds_stand()
     ensures first { (d : Device) → WorldStands (first_over d) }
     ensures step { (job : JobOf) (w : WorldOf) (e : Event) (o : StepResult)

@@ -22,7 +22,8 @@ const HELD: u64 = 2;
 /// How many turns may be taken.
 const TURNS: u64 = 200_000_000;
 
-/// What is run under the gate: which Fibonacci number, under which faults, and which body has to begin before the one that is held goes on.
+/// What is run under the gate: which Fibonacci number, under which faults, and which body has to
+/// begin before the one that is held goes on.
 #[derive(Drop)]
 pub struct Held {
     input: i64,
@@ -40,8 +41,8 @@ impl Held {
         }
     }
 
-    /// The twelfth number, on so many nodes, each of which crashes once or leaves, and one leaves where there are more. The body that has
-    /// to begin does so after all that.
+    /// The twelfth number, on so many nodes, each of which crashes once or leaves, and one leaves
+    /// where there are more. The body that has to begin does so after all that.
     pub fn faulty(nodes: u64) -> Held {
         Held {
             input: 12,
@@ -76,8 +77,8 @@ impl Gate for Holding {
     }
 }
 
-/// Runs a Fibonacci number on so many nodes with so many body workers each, under the gate. The script of the run, and behind it how many
-/// bodies began, and the value.
+/// Runs a Fibonacci number on so many nodes with so many body workers each, under the gate. The
+/// script of the run, and behind it how many bodies began, and the value.
 pub fn run_held<R: Threads + Wait + Clock + Sync>(
     rt: &R,
     alloc: Global,

@@ -1,6 +1,7 @@
 //! What threads share without waiting, again and again, for `bench/shared`, which takes the time:
-//! `shared_times draws|adds|tickets|reads|loads THREADS ROUNDS` prints how often it was done in all. At most 64 threads do it.
-//! `shared_times held|faulty NODES BODIES` runs a job under a gate that holds a body, for `tests/run_nodes.py`.
+//! `shared_times draws|adds|tickets|reads|loads THREADS ROUNDS` prints how often it was done in
+//! all. At most 64 threads do it. `shared_times held|faulty NODES BODIES` runs a job under a gate
+//! that holds a body, for `tests/run_nodes.py`.
 #![tactic(auto)]
 
 mod held;

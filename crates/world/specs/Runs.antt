@@ -15,12 +15,14 @@ use Rattle.world_steps.specs.Safe.{SafeWorld}
 use Rattle.safe_runs.specs.Openings.{OpeningFinds}
 use Rattle.safe_runs.specs.Promises.{AllSafe}
 
--- an event of a run finds no memory: the world is as it was, but a clearinghouse that was to answer is stopped. An event that takes
--- none by itself does so only for what was sent and put into slots before, and then not all of that has its place in the end
+-- an event of a run finds no memory: the world is as it was, but a clearinghouse that was to answer
+-- is stopped. An event that takes none by itself does so only for what was sent and put into slots
+-- before, and then not all of that has its place in the end
 abbrev pub StopsIn : JobOf → Event → (last : WorldOf) → (on : WorldOn) → Type 0
 StopsIn job e last on = (o : StepResult) × (LacksMemory job e last o ⊎ ((on.is_placed ≡ false) × LacksMemoryBehind e last o)) × (on.world ≡ o.world)
 
--- in a replay a Cut may find none too, before the Cut is an event of the world: then nothing changes
+-- in a replay a Cut may find none too, before the Cut is an event of the world: then nothing
+-- changes
 abbrev pub StopsReading : JobOf → Event → (last : WorldOf) → (on : WorldOn) → Type 0
 StopsReading job e last on = StopsIn job e last on ⊎ (IsTrue (is_cut e) × (on.world ≡ last))
 
@@ -29,7 +31,8 @@ abbrev pub EndsIn : (Event → (last : WorldOf) → (on : WorldOn) → Type 0) �
 EndsIn Stops events done None last on = (done ≡ length events) × (on.world ≡ last)
 EndsIn Stops events done (Some lacks) last on = (e : Event) × (slice_get events done ≡ Some e) × Stops e last on
 
--- so many of the events, the first ones, were carried out from a first world on, over a formatted disk, and led to this one
+-- so many of the events, the first ones, were carried out from a first world on, over a formatted
+-- disk, and led to this one
 pub record IsRunTo (Stops : Event → (last : WorldOf) → (on : WorldOn) → Type 0) (job : JobOf) (events : List Event) (done : ℕ) (stopped : Option NoMemory) (on : WorldOn) : Type 0 where
   pub disk : Device
   pub formatted : IsFormattedFor job disk

@@ -19,7 +19,8 @@ use std::alloc::Global;
 use thiserror::Error;
 use world_steps::{NoMemory, World};
 
-/// Where a run ended: the world to which it led, how many events were carried out, and E9 where the next one found no memory.
+/// Where a run ended: the world to which it led, how many events were carried out, and E9 where the
+/// next one found no memory.
 #[derive(Drop)]
 pub struct RunEnd<'a> {
     pub world: World<'a>,
@@ -38,11 +39,13 @@ pub enum ReplayError {
     Memory,
 }
 
-/// Events are carried out one after another, from the first world of a job on. It stops (E9) only at an event that applies and finds
-/// no memory; where that was the clearinghouse's, the clearinghouse is stopped. Refused where there is no memory for the first world
-/// alone (E9). In each world of it, from the first one on, no slot was filled twice and each value in one is the serial program's, no
-/// grant has two live holders, a recorded outcome is the job's meaning and stays, what was sent and what is held agrees with the
-/// serial meaning, the work of each wanted grant is somewhere, or is cut off, no member waits for somebody who is gone by its own roster,
+/// Events are carried out one after another, from the first world of a job on. It stops (E9) only
+/// at an event that applies and finds no memory; where that was the clearinghouse's, the
+/// clearinghouse is stopped. Refused where there is no memory for the first world alone (E9). In
+/// each world of it, from the first one on, no slot was filled twice and each value in one is the
+/// serial program's, no grant has two live holders, a recorded outcome is the job's meaning and
+/// stays, what was sent and what is held agrees with the serial meaning, the work of each wanted
+/// grant is somewhere, or is cut off, no member waits for somebody who is gone by its own roster,
 /// and work and outcomes that come now are taken.
 pub fn run<'a>(alloc: Global, job: &'a Job, events: &[Event]) -> Result<RunEnd<'a>, NoMemory>
     ensures job { IfOk result (λ r. r.world.job ≡ job.now) }
@@ -52,9 +55,10 @@ pub fn run<'a>(alloc: Global, job: &'a Job, events: &[Event]) -> Result<RunEnd<'
     carried_out(alloc, job, events)
 }
 
-/// The events of a script are carried out one after another, as `run` does. Refused by the first line that isn't of the form of
-/// `Script::new`, and no event is carried out then; and, of a script whose lines are all events', where there is no memory for the first
-/// world (E9). E9 may stop it at a Cut too, for which there is no memory; then nothing changes.
+/// The events of a script are carried out one after another, as `run` does. Refused by the first
+/// line that isn't of the form of `Script::new`, and no event is carried out then; and, of a script
+/// whose lines are all events', where there is no memory for the first world (E9). E9 may stop it
+/// at a Cut too, for which there is no memory; then nothing changes.
 pub fn replay<'a>(alloc: Global, job: &'a Job, text: &[u8]) -> Result<RunEnd<'a>, ReplayError>
     ensures job { IfOk result (λ r. r.world.job ≡ job.now) }
     ensures run { IfOk result (λ r. (events : List EventOf) × (script text.now ≡ Ok events)
@@ -65,7 +69,8 @@ pub fn replay<'a>(alloc: Global, job: &'a Job, text: &[u8]) -> Result<RunEnd<'a>
     replay_watched(alloc, job, text, &mut Unwatched)
 }
 
-/// Replays a script as `replay` does, while somebody looks on. What comes of it is the same, whoever that is.
+/// Replays a script as `replay` does, while somebody looks on. What comes of it is the same,
+/// whoever that is.
 pub fn replay_watched<'a, W: Watch>(
     alloc: Global,
     job: &'a Job,

@@ -4,7 +4,8 @@ use event_script::Event;
 use std::alloc::Global;
 use world_steps::{EventAnswer, World};
 
-/// Who looks on while a run goes: to tell it, to count, or to draw it. Nothing of the run hangs on it.
+/// Who looks on while a run goes: to tell it, to count, or to draw it. Nothing of the run hangs on
+/// it.
 pub trait Watch {
     /// An event was carried out. It sees what was told of the event, and the world after it.
     fn sees(&mut self, alloc: Global, event: &Event, told: EventAnswer, world: &World<'_>);

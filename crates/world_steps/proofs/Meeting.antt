@@ -177,7 +177,8 @@ formatted_agree job d is = kept_agree job d 0 (fresh job.number) (record { slot 
 agree_kept : (job : JobOf) (d : Device) (n : ℕ) (r : CheckpointRecord) → KeepsRecord d.file n r → StoredAgree job d → AllSavedAgree job r.saved
 agree_kept job d n r keeps agree = agree (bytes_of d.file) (crash-leaves-bytes_of d.file) n r (keeps.slot, keeps.each (bytes_of d.file) (crash-leaves-bytes_of d.file))
 
--- where the values agree that are saved on a disk over which a run begins, all that a crash leaves of it does
+-- where the values agree that are saved on a disk over which a run begins, all that a crash leaves
+-- of it does
 pub first_agree : (job : JobOf) (d : Device) (saved : List SavedValue) → IsFirstWith job d saved → AllSavedAgree job saved → StoredAgree job d
 first_agree job d saved is agree = kept_agree job d is.0.sequence is.0.found is.0.kept (subst (AllSavedAgree job) (sym is.1) agree)
 

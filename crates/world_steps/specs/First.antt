@@ -7,7 +7,8 @@ use Rattle.saved_values.specs.declared.value.SavedValue.{SavedValue}
 use Rattle.serial_meaning.specs.Job.{JobOf}
 use Rattle.world_steps.specs.Seats.{IsStill}
 
--- it isn't armed, all of it is there for good, and it is the job's checkpoint, without an outcome; values may be saved there
+-- it isn't armed, all of it is there for good, and it is the job's checkpoint, without an outcome;
+-- values may be saved there
 pub record IsFirst (job : JobOf) (d : Device) : Type 0 where
   pub still : IsStill d
   pub sequence : ℕ

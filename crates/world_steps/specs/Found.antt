@@ -13,8 +13,9 @@ use Rattle.world_steps.specs.Agrees.{StoredAgree}
 use Rattle.world_steps.specs.declared.first_disk.Found.{Found}
 use Rattle.world_steps.specs.declared.first_disk.Found.TheVariants.{Kept, Begins}
 
--- a file keeps the record that was read of one that a crash may leave of a disk, of whatever sequence, or that of a job that has just
--- begun where that one was empty; it is the job's, with this outcome or none
+-- a file keeps the record that was read of one that a crash may leave of a disk, of whatever
+-- sequence, or that of a job that has just begun where that one was empty; it is the job's, with
+-- this outcome or none
 pub record IsKeptOf (old : Device) (number : ℕ) (outcome : Option Outcome) (file : List Cell) : Type 0 where
   pub content : List ℕ
   pub left : CrashLeaves old.file content

@@ -20,9 +20,10 @@ use serial_meaning::Job;
 use std::alloc::Global;
 use std::marker::Model;
 
-/// A disk over which a run of a job can begin: it isn't armed, all of it is there for good, and it is the job's checkpoint, without
-/// an outcome. The values that are saved there are those that an earlier run of the job saved: no test tells that they are the job's.
-/// Contracts see the job, the disk and these values.
+/// A disk over which a run of a job can begin: it isn't armed, all of it is there for good, and it
+/// is the job's checkpoint, without an outcome. The values that are saved there are those that an
+/// earlier run of the job saved: no test tells that they are the job's. Contracts see the job, the
+/// disk and these values.
 #[derive(Drop)]
 pub struct FirstDisk<'a, D: SteadyDisk + Drop = MemDisk> {
     job: &'a Job,
@@ -54,7 +55,8 @@ pub enum Found<'a, D: SteadyDisk + Drop> {
 }
 
 impl<'a> FirstDisk<'a, MemDisk> {
-    /// A disk in memory, formatted for a job; nothing is saved there. Refused only when out of memory (E9).
+    /// A disk in memory, formatted for a job; nothing is saved there. Refused only when out of
+    /// memory (E9).
     pub fn formatted(alloc: Global, job: &'a Job) -> Result<FirstDisk<'a, MemDisk>, NoMemory>
         ensures formatted { IfOk result (λ f. (f.job ≡ job.now) × IsFormattedFor job.now (⟦<MemDisk as Disk>⟧.device f.disk)) }
         ensures agree { IfOk result (λ f. StoredAgree job.now (⟦<MemDisk as Disk>⟧.device f.disk)) }
@@ -72,10 +74,12 @@ impl<'a> FirstDisk<'a, MemDisk> {
 }
 
 impl<'a, D: SteadyDisk + Drop> FirstDisk<'a, D> {
-    /// What a disk holds of a job. What is armed is disarmed, as by a crash, and what isn't there for good is synced; where it is empty
-    /// then, the job's checkpoint is made. Refused, it gives the disk back, in this order: E72; E71 for a file that doesn't begin as a
-    /// checkpoint; E73 for another version; E71 for one that is none; E70 for another job; E62 where the sequence of one of the older form
-    /// is spent. Where a byte is there, nothing is written but what makes a checkpoint of the older form one of the newer form.
+    /// What a disk holds of a job. What is armed is disarmed, as by a crash, and what isn't there
+    /// for good is synced; where it is empty then, the job's checkpoint is made. Refused, it gives
+    /// the disk back, in this order: E72; E71 for a file that doesn't begin as a checkpoint; E73
+    /// for another version; E71 for one that is none; E70 for another job; E62 where the sequence
+    /// of one of the older form is spent. Where a byte is there, nothing is written but what makes
+    /// a checkpoint of the older form one of the newer form.
     pub fn found(alloc: Global, job: &'a Job, disk: D) -> Result<Found<'a, D>, (StoreError, D)>
         ensures found { IfOk result (IsFoundOn D.device job.now (D.device disk)) }
         ensures agree { IfOk result (StillAgrees D.device job.now (D.device disk)) }
@@ -122,7 +126,8 @@ impl<'a, D: SteadyDisk + Drop> FirstDisk<'a, D> {
         &self.disk
     }
 
-    /// The values that are saved there: those with which a run goes on. Where they agree, all that a crash leaves of the disk does.
+    /// The values that are saved there: those with which a run goes on. Where they agree, all that
+    /// a crash leaves of the disk does.
     pub fn saved(&self) -> &SavedTable
         ensures same { result.now ≡ self.now.saved }
         ensures first { IsFirstWith self.now.job (D.device self.now.disk) self.now.saved }

@@ -40,7 +40,8 @@ enum HouseState<'a, D: SteadyDisk + Drop> {
     Away,
 }
 
-/// The clearinghouse of a job, wherever it stands, and its disk. Contracts see the job, where it stands, and the device.
+/// The clearinghouse of a job, wherever it stands, and its disk. Contracts see the job, where it
+/// stands, and the device.
 #[derive(Drop)]
 pub struct HouseSlot<'a, D: SteadyDisk + Drop> {
     job: &'a Job,
@@ -63,7 +64,8 @@ impl<'a, D: SteadyDisk + Drop> Model for HouseSlot<'a, D> {
     ghost invariant = { λ s. IsSeat D.device s.job.now s.stand };
 }
 
-/// What the clearinghouse replies to an event: why it refuses, if it does, and the packets that it sends.
+/// What the clearinghouse replies to an event: why it refuses, if it does, and the packets that it
+/// sends.
 #[derive(Drop)]
 pub struct HouseReply {
     pub refused: Option<HouseError>,
@@ -131,8 +133,8 @@ impl<'a, D: SteadyDisk + Drop> HouseSlot<'a, D> {
         }
     }
 
-    /// An event comes, with the packet that it delivers; one that doesn't apply changes nothing. Refused only when out of memory:
-    /// then the event applies, and the clearinghouse is stopped.
+    /// An event comes, with the packet that it delivers; one that doesn't apply changes nothing.
+    /// Refused only when out of memory: then the event applies, and the clearinghouse is stopped.
     pub fn meet(
         &mut self,
         alloc: Global,
@@ -151,9 +153,9 @@ impl<'a, D: SteadyDisk + Drop> HouseSlot<'a, D> {
         come(alloc, self.job, &mut self.stand, event, packet)
     }
 
-    /// An event is cut off: after so many device calls the clearinghouse is stopped, and what isn't on the disk becomes these bytes.
-    /// One that doesn't apply changes nothing. Refused only when out of memory: then the event applies, and the clearinghouse is
-    /// stopped.
+    /// An event is cut off: after so many device calls the clearinghouse is stopped, and what isn't
+    /// on the disk becomes these bytes. One that doesn't apply changes nothing. Refused only when
+    /// out of memory: then the event applies, and the clearinghouse is stopped.
     pub fn cut(
         &mut self,
         alloc: Global,
@@ -183,7 +185,8 @@ impl<'a, D: SteadyDisk + Drop> HouseSlot<'a, D> {
         reply
     }
 
-    /// It loses its memory, if it is up. What it wrote is on the disk for good, so a crash changes nothing there.
+    /// It loses its memory, if it is up. What it wrote is on the disk for good, so a crash changes
+    /// nothing there.
     pub fn fall(&mut self)
         ensures { self.new ≡ fallen self.old }
     {
@@ -438,6 +441,24 @@ fn come_up<'a, D: SteadyDisk + Drop>(
     }
 }
 
+/// One that isn't open is opened over its disk, where it stands. What is large here is paid for at
+/// its entry, so it is no part of `come`.
+fn reopen<'a, D: SteadyDisk + Drop>(
+    alloc: Global,
+    job: &'a Job,
+    stand: &mut HouseState<'a, D>,
+) -> HouseReply
+    requires own { IsOf job.now stand.old }
+    requires closed { is_open_at (house_at stand.old) ≡ false }
+    ensures comes { RestartComes result (seat_of D.device job.now stand.old) (seat_of D.device job.now stand.new) }
+    ensures own { IsOf job.now stand.new }
+{
+    let closed = mem::replace(stand, HouseState::Away);
+    let (opened, reply) = restart(alloc, job, closed);
+    *stand = opened;
+    reply
+}
+
 /// An event comes to where it stands, with the packet that is delivered.
 fn come<'a, D: SteadyDisk + Drop>(
     alloc: Global,
@@ -453,12 +474,7 @@ fn come<'a, D: SteadyDisk + Drop>(
         return come_up(alloc, job, stand, event, packet);
     }
     match event {
-        HouseEvent::Restart => {
-            let closed = mem::replace(stand, HouseState::Away);
-            let (opened, reply) = restart(alloc, job, closed);
-            *stand = opened;
-            Ok(reply)
-        }
+        HouseEvent::Restart => Ok(reopen(alloc, job, stand)),
         HouseEvent::Deliver(_) | HouseEvent::Tick(_) => Ok(silent(alloc)),
     }
 }

@@ -35,9 +35,9 @@ use std::mem;
 /// How many places of nodes there are.
 const PLACES: usize = 64;
 
-/// The world of a job: the nodes that are up, the clearinghouse and its disk, the packets that were sent, the values that were put
-/// into slots, and the start words that were used. Contracts see the job, these, and whether all that was sent and put into slots
-/// has its place.
+/// The world of a job: the nodes that are up, the clearinghouse and its disk, the packets that were
+/// sent, the values that were put into slots, and the start words that were used. Contracts see the
+/// job, these, and whether all that was sent and put into slots has its place.
 #[derive(Drop)]
 pub struct World<'a, D: SteadyDisk + Drop = MemDisk> {
     job: &'a Job,
@@ -69,9 +69,9 @@ impl<'a, D: SteadyDisk + Drop> Model for World<'a, D> {
 }
 
 impl<'a> World<'a, MemDisk> {
-    /// The first world of a job: no node is up, the clearinghouse is down over a disk that was formatted for the job, which can be cut
-    /// and isn't armed, and nothing was sent.
-    /// Refused only when out of memory (E9).
+    /// The first world of a job: no node is up, the clearinghouse is down over a disk that was
+    /// formatted for the job, which can be cut and isn't armed, and nothing was sent. Refused only
+    /// when out of memory (E9).
     pub fn new(alloc: Global, job: &'a Job) -> Result<World<'a, MemDisk>, NoMemory>
         ensures { IfOk result (λ w. (d : Device) × IsFormattedFor job.now d
             × (w ≡ record { job = job.now; world = first_over d; is_placed = true })) }
@@ -81,8 +81,9 @@ impl<'a> World<'a, MemDisk> {
 }
 
 impl<'a, D: SteadyDisk + Drop> World<'a, D> {
-    /// The first world of a job over a disk with which a run of it begins: no node is up, the clearinghouse is down over that disk, and
-    /// nothing was sent. Refused only when out of memory (E9).
+    /// The first world of a job over a disk with which a run of it begins: no node is up, the
+    /// clearinghouse is down over that disk, and nothing was sent. Refused only when out of memory
+    /// (E9).
     pub fn over(alloc: Global, first: FirstDisk<'a, D>) -> Result<World<'a, D>, NoMemory>
         ensures { IfOk result (λ w. IsFirst first.entry.job (D.device first.entry.disk)
             × (w ≡ record { job = first.entry.job; world = first_over (D.device first.entry.disk); is_placed = true })) }
@@ -147,9 +148,11 @@ impl<'a, D: SteadyDisk + Drop> World<'a, D> {
         self.fills.get(index)
     }
 
-    /// The ready frame of the node of a place that comes after so many others, from the deepest level on and in a level the newest
-    /// first; none where fewer are ready, or no node is up there. It tells whoever acts for the node what to do next, and no clause
-    /// speaks of it: an event that names the frame is carried out by what the world holds. Refused only when out of memory (E9).
+    /// The ready frame of the node of a place that comes after so many others, from the deepest
+    /// level on and in a level the newest first; none where fewer are ready, or no node is up
+    /// there. It tells whoever acts for the node what to do next, and no clause speaks of it: an
+    /// event that names the frame is carried out by what the world holds. Refused only when out of
+    /// memory (E9).
     pub fn ready(
         &self,
         alloc: Global,
@@ -179,10 +182,12 @@ impl<'a, D: SteadyDisk + Drop> World<'a, D> {
         self.seat.outcome()
     }
 
-    /// An event is carried out. For an Exec a turn may be at hand, of the job's program: one that is the ready frame's own, of its
-    /// thread on its numbers, is used, and another one is put aside. What doesn't apply, or is refused, changes nothing. A device call
-    /// that fails stops the clearinghouse; by itself only one of an opening does, when out of memory. E9 where the event finds no memory:
-    /// the world is as it was, but a clearinghouse that was to answer is stopped.
+    /// An event is carried out. For an Exec a turn may be at hand, of the job's program: one that
+    /// is the ready frame's own, of its thread on its numbers, is used, and another one is put
+    /// aside. What doesn't apply, or is refused, changes nothing. A device call that fails stops
+    /// the clearinghouse; by itself only one of an opening does, when out of memory. E9 where the
+    /// event finds no memory: the world is as it was, but a clearinghouse that was to answer is
+    /// stopped.
     pub fn step(
         &mut self,
         alloc: Global,
@@ -197,8 +202,9 @@ impl<'a, D: SteadyDisk + Drop> World<'a, D> {
         self.step_with(alloc, event, turn, None)
     }
 
-    /// The same, where also for a Whole a task of the job's program may be at hand that was evaluated whole: one of the ready frame's
-    /// thread on its numbers, in the room below its place and in no more turns, is used, and another one is put aside.
+    /// The same, where also for a Whole a task of the job's program may be at hand that was
+    /// evaluated whole: one of the ready frame's thread on its numbers, in the room below its place
+    /// and in no more turns, is used, and another one is put aside.
     pub fn step_with(
         &mut self,
         alloc: Global,
@@ -265,7 +271,8 @@ impl<'a, D: SteadyDisk + Drop> World<'a, D> {
         EventAnswer::House(None, 0, self.seat.outcome())
     }
 
-    /// All that was sent and put into slots gets its place. Refused only when out of memory, and only where something has none.
+    /// All that was sent and put into slots gets its place. Refused only when out of memory, and
+    /// only where something has none.
     fn place(&mut self) -> Result<(), NoMemory>
         ensures job { self.new.job ≡ self.old.job }
         ensures same { self.new.world ≡ self.old.world }
@@ -310,7 +317,8 @@ impl<'a, D: SteadyDisk + Drop> World<'a, D> {
         mem::replace(&mut self.nodes[usize::from(place.index())], None).is_some()
     }
 
-    /// Whether a node can start at a place with a start word: no node is up there, and the word is a worker's and wasn't used before.
+    /// Whether a node can start at a place with a start word: no node is up there, and the word is
+    /// a worker's and wasn't used before.
     fn starts(&self, place: NodePlace, word: u64) -> Option<Incarnation>
         ensures { result ≡ (if can_start place word self.now.world then Some word else None) }
     {

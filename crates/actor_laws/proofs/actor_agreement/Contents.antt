@@ -54,7 +54,8 @@ granted_right job c n g thief r right is new = record {
   kept = grant_kept c g thief n r right.kept is new;
 }
 
--- a change after which a content is right; the value that it puts into a slot is the one that the slot receives
+-- a change after which a content is right; the value that it puts into a slot is the one that the
+-- slot receives
 pub record ChangeIsRight (job : JobOf) (change : ContentChange) : Type 0 where
   pub after : IsRight job change.after
   pub fill : FillAgrees job change.fill

@@ -1,4 +1,5 @@
--- A Steal comes: a ready frame is granted to the thief, or it is refused, or gets the last answer again.
+-- A Steal comes: a ready frame is granted to the thief, or it is refused, or gets the last answer
+-- again.
 use Rattle.std.proofs.Common.{◌≡◌, ◌+◌, ◌^◌, ℕ, nat_lt, [], ◌∷◌, Option, None, Some, refl}
 use Rattle.std.specs.Ordering.{nat_cmp}
 use Rattle.ids.specs.Members.{is_live}

@@ -1,5 +1,5 @@
--- A node leaves: it offers what it holds, hears that it was taken, and says so when it is done; and it sends again what isn't
--- answered yet.
+-- A node leaves: it offers what it holds, hears that it was taken, and says so when it is done; and
+-- it sends again what isn't answered yet.
 use Rattle.std.proofs.Common.{ℕ, Bool, true, false, cond, nat_eq, ◌&&◌, List, [], ◌∷◌, ◌++◌, ◌⊎◌, inl, inr, ⊎_elim, Option, None, Some, is_some, refl}
 use Rattle.std.specs.List.{flat_map, list_any}
 use Rattle.ids.specs.Names.{Grant}

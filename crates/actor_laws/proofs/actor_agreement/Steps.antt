@@ -1,4 +1,5 @@
--- What a node holds agrees after a change of it; steps after which all agrees, and answers that lead to them.
+-- What a node holds agrees after a change of it; steps after which all agrees, and answers that
+-- lead to them.
 use Rattle.std.proofs.Common.{◌≡◌, ℕ, Bool, true, false, cond, List, [], ◌∷◌, Option, None, Some, ⊎_elim, refl, Ordering, Less, Equal, Greater}
 use Rattle.ids.specs.Names.{Grant}
 use Rattle.ids.specs.declared.member.Status.{Status}
@@ -52,7 +53,8 @@ module _ (job : JobOf) where
     fills = λ x m. ⊎_elim (λ k. a.fills x k) (λ k. b.fills x k) (either s.fills (f s.after).fills x m);
   }
 
-  -- answers by a test, by what is there, by where the node stands, by what a roster says, and by the order of two numbers
+  -- answers by a test, by what is there, by where the node stands, by what a roster says, and by
+  -- the order of two numbers
   pub by_test : (b : Bool) (x y : Answer) → AnswerIsRight job x → AnswerIsRight job y → AnswerIsRight job (cond b x y)
   by_test true x y a c = a
   by_test false x y a c = c

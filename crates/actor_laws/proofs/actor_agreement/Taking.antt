@@ -1,4 +1,5 @@
--- A Grant or an Offer comes, which is taken or acknowledged again; and a packet that ends something here.
+-- A Grant or an Offer comes, which is taken or acknowledged again; and a packet that ends something
+-- here.
 use Rattle.std.proofs.Common.{ℕ, [], ◌∷◌, is_some, not, ◌&&◌}
 use Rattle.ids.specs.Names.{Grant, is_worker}
 use Rattle.codec.specs.declared.body.Body.TheVariants as body

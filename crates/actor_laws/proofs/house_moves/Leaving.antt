@@ -1,4 +1,5 @@
--- A Leave comes: the member has left to whoever has its heir's work, or is dead; and the root's grant is settled.
+-- A Leave comes: the member has left to whoever has its heir's work, or is dead; and the root's
+-- grant is settled.
 use Rattle.std.proofs.Common.{◌≡◌, ◌+◌, ◌≤◌, ℕ, Bool, true, false, cond, not, nat_eq, ◌&&◌, List, [], ◌∷◌, map, ⊎_elim, Option, None, Some, refl, sym, ap, ◌∙◌, arith}
 use Rattle.std.specs.Ordering.{is_eq}
 use Rattle.std.specs.Option.{option_map}

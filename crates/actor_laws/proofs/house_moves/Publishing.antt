@@ -52,8 +52,8 @@ left_of (Some member.Live) h e = cc
 left_of (Some member.Dead) h e = cc
 left_of (Some (member.Left x)) h e = let same : x ≡ h = cc in ap (λ k. Some (member.Left k)) same
 
--- one that the next list shows left to another said so, to this clearinghouse; whoever has the work of its heir lives then, and one
--- more is counted
+-- one that the next list shows left to another said so, to this clearinghouse; whoever has the work
+-- of its heir lives then, and one more is counted
 pub record NewlyLeft (v : View) (h : HouseOf) (ws : List Enlisted) (more i heir : ℕ) : Type 0 where
   pub listed : status_in i (members_of h) ≡ None → ⊥
   pub leave : Leave
@@ -64,7 +64,8 @@ pub record NewlyLeft (v : View) (h : HouseOf) (ws : List Enlisted) (more i heir 
   pub lives : status_in heir (map member_of ws) ≡ Some member.Live
   pub counted : 0 < more
 
--- a next list: nobody is taken off, who was dead or left stays so, and who is new or newly left may be
+-- a next list: nobody is taken off, who was dead or left stays so, and who is new or newly left may
+-- be
 pub record IsNext (v : View) (h : HouseOf) (ws : List Enlisted) (more : ℕ) : Type 0 where
   pub unlisted : (i : ℕ) → status_in i (map member_of ws) ≡ None → status_in i (members_of h) ≡ None
   pub dead : (i : ℕ) → status_in i (members_of h) ≡ Some member.Dead → status_in i (map member_of ws) ≡ Some member.Dead

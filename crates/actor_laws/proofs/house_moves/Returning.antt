@@ -1,4 +1,5 @@
--- A Result comes to the clearinghouse: that of the root's grant is recorded, any other is acknowledged.
+-- A Result comes to the clearinghouse: that of the root's grant is recorded, any other is
+-- acknowledged.
 use Rattle.std.proofs.Common.{◌≡◌, ◌+◌, ◌^◌, Bool, true, false, cond, not, nat_lt, [], ◌∷◌, inl, Option, None, Some, refl, sym, ap, ◌∙◌}
 use Rattle.std.specs.Ordering.{eq_by_cmp, is_eq}
 use Rattle.ids.specs.Names.{Grant, grant_cmp}

@@ -1,4 +1,5 @@
--- A content that agrees with the serial meaning and is new to a node fits there, so its Offer is taken.
+-- A content that agrees with the serial meaning and is new to a node fits there, so its Offer is
+-- taken.
 use Rattle.std.proofs.Common.{◌≡◌, ℕ, ◌&&◌, Bool, true, false, not, nat_eq, List, [], ◌∷◌, length, Option, None, Some, is_some, inl, inr, refl, sym, ap, ◌∙◌}
 use Rattle.std.specs.List.{list_all}
 use Rattle.std.proofs.lemmas.Bool.{and_from, eq-eqb}

@@ -1,4 +1,5 @@
--- The content of a subcomputation changes: the node tells its outcome, if it has one, and tells holders to stop.
+-- The content of a subcomputation changes: the node tells its outcome, if it has one, and tells
+-- holders to stop.
 use Rattle.std.proofs.Common.{◌≡◌, if◌then◌else◌, ℤ, ℕ, List, [], ◌∷◌, ◌++◌, inl, inr, Option, None, Some, Result, Ok, Err, refl}
 use Rattle.ids.specs.Names.{Grant}
 use Rattle.ids.specs.Options.{◌>>=◌}

@@ -1,4 +1,5 @@
--- A node that leaves and is done says Leave: thieves that needn't be waited for turn out to be lost first.
+-- A node that leaves and is done says Leave: thieves that needn't be waited for turn out to be lost
+-- first.
 use Rattle.std.proofs.Common.{◌≡◌, ℕ, Bool, true, false, cond, not, ◌&&◌, List, [], ◌∷◌, ◌++◌, map, ◌⊎◌, inl, inr, ⊎_elim, Option, None, Some, refl, sym, subst, ap, ◌∙◌}
 use Rattle.std.specs.List.{filter}
 use Rattle.std.proofs.lemmas.Bool.{not-false}

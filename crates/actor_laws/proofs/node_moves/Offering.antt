@@ -1,5 +1,5 @@
--- An Offer comes to a member, which takes it, or to any node that is up, which says again that it has taken it; and a roster
--- comes to one that joins.
+-- An Offer comes to a member, which takes it, or to any node that is up, which says again that it
+-- has taken it; and a roster comes to one that joins.
 use Rattle.std.proofs.Common.{◌≡◌, ℕ, Bool, true, false, cond, not, ◌&&◌, [], ◌∷◌, inl, inr, ⊎_elim, Option, None, Some, is_some, refl, sym, ap, ◌∙◌, arith}
 use Rattle.ids.specs.Names.{Grant}
 use Rattle.ids.specs.Members.{status_in}

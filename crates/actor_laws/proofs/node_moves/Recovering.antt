@@ -1,4 +1,5 @@
--- Recovery by a newer roster is a list of moves: for each subcomputation, and then for each record, one or two.
+-- Recovery by a newer roster is a list of moves: for each subcomputation, and then for each record,
+-- one or two.
 use Rattle.std.proofs.Common.{◌≡◌, ℕ, List, [], ◌∷◌, ◌++◌, inl, Option, None, Some, refl, sym, ap, ◌∙◌}
 use Rattle.ids.specs.Names.{Grant}
 use Rattle.ids.specs.Naming.{name_of_grant}

@@ -1,4 +1,5 @@
--- A roster comes to a member: it is kept, what is held is recovered by it, and a request is forgotten; or the node ends.
+-- A roster comes to a member: it is kept, what is held is recovered by it, and a request is
+-- forgotten; or the node ends.
 use Rattle.std.proofs.Common.{◌≡◌, ◌<◌, ℕ, Bool, true, false, cond, nat_lt, List, [], ◌∷◌, ◌⊎◌, inl, inr, ⊎_elim, Option, None, Some, refl, sym, ap, ◌∙◌, Ordering, Less, Equal, Greater, arith}
 use Rattle.std.specs.Ordering.{nat_cmp}
 use Rattle.ids.specs.Members.{status_in}

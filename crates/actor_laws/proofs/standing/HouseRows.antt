@@ -1,4 +1,5 @@
--- By the clearinghouse's members the holder of the root's grant is live: each packet, each moment, and an opening.
+-- By the clearinghouse's members the holder of the root's grant is live: each packet, each moment,
+-- and an opening.
 use Rattle.std.proofs.Common.{◌≡◌, ◌+◌, ◌^◌, ℕ, Bool, true, false, cond, not, nat_eq, nat_lt, ◌||◌, ◌&&◌, suc, List, [], ◌∷◌, map, ◌⊎◌, inl, inr, Option, None, Some, is_some, length, refl, sym, ap, subst, ◌∙◌, Ordering, Less, Equal, Greater}
 use Rattle.std.specs.List.{list_any}
 use Rattle.std.proofs.lemmas.Bool.{eq-eqb}

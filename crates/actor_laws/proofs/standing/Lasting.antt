@@ -1,4 +1,5 @@
--- Who goes on is live by its own roster, and a leaver's heir too where it holds something: each packet, and each call.
+-- Who goes on is live by its own roster, and a leaver's heir too where it holds something: each
+-- packet, and each call.
 use Rattle.std.proofs.Common.{◌≡◌, ◌+◌, ◌^◌, ℕ, Bool, true, false, cond, not, nat_eq, nat_lt, ◌&&◌, List, [], ◌∷◌, ◌⊎◌, inl, inr, Option, None, Some, Result, Ok, Err, is_some, refl, sym, ◌||◌, Ordering, Less, Equal, Greater}
 use Rattle.std.specs.List.{list_any}
 use Rattle.std.specs.Ordering.{nat_cmp}

@@ -1,4 +1,5 @@
--- Where an Offer comes, whole or with the last of its pieces, or a newer roster, a member stands: it is recovered.
+-- Where an Offer comes, whole or with the last of its pieces, or a newer roster, a member stands:
+-- it is recovered.
 use Rattle.std.proofs.Common.{◌≡◌, not, nat_lt, ◌&&◌, List, [], ◌∷◌, ◌⊎◌, inl, inr, Option, None, Some, is_some, refl}
 use Rattle.std.specs.Ordering.{nat_cmp}
 use Rattle.ids.specs.Members.{status_in}

@@ -1,4 +1,5 @@
--- Answers after which a node stands: by a test, by what is there, by a state, by what a roster says, and by an order.
+-- Answers after which a node stands: by a test, by what is there, by a state, by what a roster
+-- says, and by an order.
 use Rattle.std.proofs.Common.{◌≡◌, ℕ, Bool, true, false, cond, ◌&&◌, List, Option, None, Some, inl, inr, refl, sym, Ordering, Less, Equal, Greater}
 use Rattle.ids.specs.Members.{is_live, says_live, status_in}
 use Rattle.ids.specs.Names.{Grant}

@@ -1,4 +1,5 @@
--- A node's own calls: turns and requests send no Offer; a departure offers all that is held, and a leaving node sends just that again.
+-- A node's own calls: turns and requests send no Offer; a departure offers all that is held, and a
+-- leaving node sends just that again.
 use Rattle.std.proofs.Common.{◌≡◌, ◌+◌, ◌^◌, ℕ, not, nat_lt, List, [], ◌∷◌, ◌++◌, map, ◌⊎◌, inl, inr, ⊎_elim, Option, None, Some, is_some, Result, Ok, Err, refl, ap}
 use Rattle.std.specs.List.{flat_map}
 use Rattle.ids.specs.Names.{Grant}

@@ -1,4 +1,5 @@
--- What goes over the wire comes of whole packets, and what is whole goes; and parts that came, when all are there, are an offer that was sent.
+-- What goes over the wire comes of whole packets, and what is whole goes; and parts that came, when
+-- all are there, are an offer that was sent.
 use Rattle.std.proofs.Common.{◌≡◌, ℕ, zero, suc, ◌+◌, ◌<◌, ◌≤◌, Bool, true, false, cond, ltb, List, [], ◌∷◌, ◌++◌, length, map, Ordering, Less, Equal, Greater, ◌⊎◌, inl, inr, ⊎_elim, Ok, refl, sym, ap, subst, ◌∙◌, arith}
 use Rattle.std.specs.Prelude.{◌&&◌, not}
 use Rattle.std.specs.List.{AllByRecursion}

@@ -1,4 +1,5 @@
--- The parts that a node keeps came in pieces that were sent, with each that comes; and all of one Offer are read as it.
+-- The parts that a node keeps came in pieces that were sent, with each that comes; and all of one
+-- Offer are read as it.
 use Rattle.std.proofs.Common.{◌≡◌, ℕ, Bool, true, false, cond, not, nat_eq, nat_lt, ◌&&◌, ◌⊎◌, inl, inr, ⊎_elim, List, [], ◌∷◌, length, is_some, Option, None, Some, refl, sym, ap, subst, ◌∙◌, arith}
 use Rattle.std.proofs.lemmas.Bool.{and_parts, eqb-true}
 use Rattle.ids.specs.Names.{Grant}

@@ -1,4 +1,5 @@
--- What a member holds was never offered at the next hop: who offers has stopped, and was sent the hop before, as the member was.
+-- What a member holds was never offered at the next hop: who offers has stopped, and was sent the
+-- hop before, as the member was.
 use Rattle.std.proofs.Common.{◌≡◌, ◌+◌, ℕ, suc, Some, sym, ap, ◌∙◌, arith}
 use Rattle.codec.specs.declared.body.Offer.{Offer}
 use Rattle.codec.specs.declared.body.Roster.{Roster}

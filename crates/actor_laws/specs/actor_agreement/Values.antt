@@ -32,8 +32,9 @@ pub record IsRight (job : JobOf) (c : Content) : Type 0 where
   pub agrees : ContentAgrees job c
   pub kept : IsKept c
 
--- what a packet gives away agrees: the task of a Grant and its saved values, which are of places below it; what an Offer hands on; and
--- the value of a Save. Of a Result nothing is asked here. No whole packet is a Piece
+-- what a packet gives away agrees: the task of a Grant and its saved values, which are of places
+-- below it; what an Offer hands on; and the value of a Save. Of a Result nothing is asked here. No
+-- whole packet is a Piece
 abbrev pub BodyIsRight : JobOf → Body → Type 0
 BodyIsRight job (body.Grant b) = TaskAgrees job b.task × AllSavedAgree job b.saved × IsTrue (saved_fit b.task b.saved)
 BodyIsRight job (body.Offer b) = IsRight job (offered b).content

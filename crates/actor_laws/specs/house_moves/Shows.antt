@@ -1,4 +1,5 @@
--- How a view shows the open clearinghouse: what each reader of it gives is in the tables, under its name in its epoch.
+-- How a view shows the open clearinghouse: what each reader of it gives is in the tables, under its
+-- name in its epoch.
 use Rattle.std.specs.Prelude.{◌≡◌, ◌+◌, ◌≤◌, ℕ, ℤ, length, Option, None, Some}
 use Rattle.ids.specs.Names.{Grant}
 use Rattle.ids.specs.declared.outcome.Outcome.{Outcome}

@@ -16,8 +16,8 @@ use Rattle.actor_laws.specs.house_moves.Shows.{OpenShown}
 abbrev pub tables_meaning : JobOf → Meaning
 tables_meaning job = program_meaning job.program job.input
 
--- moves of the clearinghouse lead to tables that show it after the step, and what it sends; the rows of all other names stay, no name
--- is new, and nothing is put into a slot
+-- moves of the clearinghouse lead to tables that show it after the step, and what it sends; the
+-- rows of all other names stay, no name is new, and nothing is put into a slot
 pub record HouseStepShown (job : JobOf) (v : View) (h : HouseOf) (s : HouseStepOf) : Type 0 where
   pub view : View
   pub run : Run (tables_meaning job) v → Run (tables_meaning job) view

@@ -16,8 +16,8 @@ use Rattle.node_core.specs.declared.error.NodeError.TheVariants as error
 use Rattle.node_core.specs.Moves.{accepts, recovers}
 use Rattle.node_core.specs.Steps.{Answer, Ignored, Refused, Does, Forgets, ◌then◌}
 
--- a member takes an Offer: it holds what was offered and acknowledges it, and recovers that by its present roster; whatever parts of Offers
--- it keeps
+-- a member takes an Offer: it holds what was offered and acknowledges it, and recovers that by its
+-- present roster; whatever parts of Offers it keeps
 abbrev pub TakesOffer : JobOf → Roster → Offer → NodeOf → Type 0
 TakesOffer job r o n =
     (parts : List AssemblyOf)

@@ -1,4 +1,5 @@
--- The parts that a node keeps came in pieces that were sent; and with the last one they are read as the Offer that was sent.
+-- The parts that a node keeps came in pieces that were sent; and with the last one they are read as
+-- the Offer that was sent.
 use Rattle.std.specs.Prelude.{◌≡◌, ℕ, List, Ok}
 use Rattle.ids.specs.Ordered.{AreInOrder}
 use Rattle.codec.specs.Pieces.{PartOf, long_reading, name_of_part}
@@ -26,7 +27,8 @@ pub record CameIn (net : List PacketOf) (job to : ℕ) (x : AssemblyOf) : Type 0
 abbrev pub AllCameIn : List PacketOf → ℕ → NodeOf → Type 0
 AllCameIn net job n = (x : AssemblyOf) → x ∈ n.assemblies → CameIn net job n.incarnation x
 
--- a Piece is one of an Offer, and where with it all parts are there that a node keeps of it, they are read as a packet that says it
+-- a Piece is one of an Offer, and where with it all parts are there that a node keeps of it, they
+-- are read as a packet that says it
 pub record IsOf (n : NodeOf) (b : Piece) (p : PacketOf) (o : Offer) : Type 0 where
   pub says : p.body ≡ body.Offer o
   pub to : p.to ≡ n.incarnation

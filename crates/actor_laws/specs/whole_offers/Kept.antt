@@ -1,5 +1,6 @@
--- What stays true of each node and of all whole packets: each grant and hop has one Offer, what a leaving node holds is offered as it is,
--- last answers are no Offers, and parts came in pieces that were sent.
+-- What stays true of each node and of all whole packets: each grant and hop has one Offer, what a
+-- leaving node holds is offered as it is, last answers are no Offers, and parts came in pieces that
+-- were sent.
 use Rattle.std.specs.Prelude.{◌≡◌, ◌++◌, ℕ, List}
 use Rattle.codec.specs.Pieces.{cut_all}
 use Rattle.codec.specs.Table.{PacketOf}

@@ -11,9 +11,11 @@ ghost use Rattle.clearinghouse.specs.Cases as house_cases;
 ghost use Rattle.clearinghouse.specs.House.{HouseOf};
 ghost use Rattle.actor_laws.specs.actor_agreement.Values.{AnswerIsRight, HouseAnswerIsRight, HouseIsRight, HouseStepIsRight, NextGrantIsFresh, BodyMayCome, NodeIsRight, SaveIsRight, StepIsRight};
 
-/// A node that agrees does so after each packet that agrees, of whatever kind and wherever it stands, where nothing that it holds has a
-/// record of the next grant that it mints; and after its own calls; and so does what it sends and puts into slots, and a node that
-/// starts. A departure and a Resend stand here as they would be if each Offer went whole, however long its bytes are. Does nothing.
+/// A node that agrees does so after each packet that agrees, of whatever kind and wherever it
+/// stands, where nothing that it holds has a record of the next grant that it mints; and after its
+/// own calls; and so does what it sends and puts into slots, and a node that starts. A departure
+/// and a Resend stand here as they would be if each Offer went whole, however long its bytes are.
+/// Does nothing.
 pub fn what_a_node_does_agrees()
     ensures packets { (job : JobOf) (n : NodeOf) (choice : Option Candidate) (p : PacketOf)
         → NodeIsRight job n
@@ -36,8 +38,9 @@ pub fn what_a_node_does_agrees()
     ensures start { (job : JobOf) (word : ℕ) → StepIsRight job (calls.start job word) }
 {}
 
-/// What an open clearinghouse sends agrees, whatever packet or moment comes, where its last answers and the values that are saved do, and a
-/// value that comes to be saved; and these do after it. Does nothing.
+/// What an open clearinghouse sends agrees, whatever packet or moment comes, where its last answers
+/// and the values that are saved do, and a value that comes to be saved; and these do after it.
+/// Does nothing.
 pub fn what_the_house_does_agrees()
     ensures packets { (job : JobOf) (h : HouseOf) (p : PacketOf)
         → IsJob job

@@ -11,8 +11,8 @@ ghost use Rattle.actor_laws.specs.node_moves.Shows.{PacketShown};
 ghost use Rattle.actor_laws.specs.house_moves.Shows.{OpenShown};
 ghost use Rattle.actor_laws.specs.house_moves.Steps.{HouseStepShown, HouseAnswerShown, tables_meaning};
 
-/// What an open clearinghouse answers to a packet that was sent, and what it does at a moment, is shown by right moves of it. Does
-/// nothing.
+/// What an open clearinghouse answers to a packet that was sent, and what it does at a moment, is
+/// shown by right moves of it. Does nothing.
 pub fn what_the_house_does_is_moves()
     ensures packets { (job : JobOf) (v : View) (h : HouseOf) (p : PacketOf)
         → Run (tables_meaning job) v

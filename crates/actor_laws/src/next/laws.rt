@@ -16,8 +16,9 @@ ghost use Rattle.actor_laws.specs.actor_agreement.Values.{IsRight};
 ghost use Rattle.actor_laws.specs.standing.Standing.{HaveOneHost};
 ghost use Rattle.actor_laws.specs.next.Taking.{AnswerCarries, AnswerCloses, AreForeign, TakesOffer};
 
-/// A member takes an Offer that agrees, whose hop is above the greatest one with which its grant was taken there, where nothing of that
-/// grant is held and none of its records was minted or is open there. Does nothing.
+/// A member takes an Offer that agrees, whose hop is above the greatest one with which its grant
+/// was taken there, where nothing of that grant is held and none of its records was minted or is
+/// open there. Does nothing.
 pub fn what_fits_is_taken()
     ensures { (job : JobOf) (r : Roster) (o : Offer) (n : NodeOf)
         → is_above o.hop (hop_in o.grant n.seen) ≡ true
@@ -28,7 +29,8 @@ pub fn what_fits_is_taken()
         → TakesOffer job r o n }
 {}
 
-/// Once a Result came to a member, none of its subcomputations has an open record of its grant. Does nothing.
+/// Once a Result came to a member, none of its subcomputations has an open record of its grant.
+/// Does nothing.
 pub fn a_result_closes_its_record()
     ensures { (job : JobOf) (r : Roster) (b : TaskResult) (n : NodeOf)
         → AreInOrder name_of_sub n.subs
@@ -36,8 +38,8 @@ pub fn a_result_closes_its_record()
         → AnswerCloses b.grant (returned job r b n) }
 {}
 
-/// A ready frame of a member is carried out by one call: no frame of its number is there then, or the numbers of frames are spent (E62).
-/// Does nothing.
+/// A ready frame of a member is carried out by one call: no frame of its number is there then, or
+/// the numbers of frames are spent (E62). Does nothing.
 pub fn a_ready_frame_is_carried_out()
     ensures { (job : JobOf) (r : Roster) (n : NodeOf) (g : Grant) (f : ℕ) (s : SubOf) (x : Ready)
         → IsJob job

@@ -17,9 +17,10 @@ ghost use Rattle.run_tables.specs.Runs.{Run};
 ghost use Rattle.actor_laws.specs.node_moves.Shows.{PacketShown, NodeShown};
 ghost use Rattle.actor_laws.specs.node_moves.Steps.{AnswerShown};
 
-/// What a node answers to a packet that was sent, of whatever kind and wherever it stands, and to its own calls, is shown by right
-/// moves of it. A departure and a Resend stand here as they would be if each Offer went whole, however long its bytes are:
-/// `whole_offers` leads those that are cut back to these. Does nothing.
+/// What a node answers to a packet that was sent, of whatever kind and wherever it stands, and to
+/// its own calls, is shown by right moves of it. A departure and a Resend stand here as they would
+/// be if each Offer went whole, however long its bytes are: `whole_offers` leads those that are cut
+/// back to these. Does nothing.
 pub fn what_a_node_does_is_moves()
     ensures packets { (m : Meaning) (job : JobOf) (v : View) (n : NodeOf) (choice : Option Candidate) (p : PacketOf)
         → Run m v

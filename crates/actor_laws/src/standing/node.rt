@@ -15,8 +15,9 @@ ghost use Rattle.node_core.specs.declared.parts.Victim.{Victim};
 ghost use Rattle.actor_laws.specs.standing.Lasting.{AnswerLasts, NodeLasts};
 ghost use Rattle.actor_laws.specs.standing.Standing.{AllStand, AnswerStands, BodyIsApart, HaveOneHost, NodeStands};
 
-/// No member waits for somebody whom its own roster shows gone: so it is after each packet, of whatever kind and wherever the node
-/// stands, after each of its own calls, and when it starts. Does nothing.
+/// No member waits for somebody whom its own roster shows gone: so it is after each packet, of
+/// whatever kind and wherever the node stands, after each of its own calls, and when it starts.
+/// Does nothing.
 pub fn what_a_node_does_stands()
     ensures recovered { (members : List Listed) (subs : List SubOf)
         → AreInOrder name_of_sub subs
@@ -44,8 +45,8 @@ pub fn what_a_node_does_stands()
     ensures start { (job : JobOf) (word : ℕ) → NodeStands (calls.start job word).after }
 {}
 
-/// Who goes on is live by its own roster, and a leaver that holds something has a live heir: so it is after each packet, after each of its
-/// own calls, and when it starts. Does nothing.
+/// Who goes on is live by its own roster, and a leaver that holds something has a live heir: so it
+/// is after each packet, after each of its own calls, and when it starts. Does nothing.
 pub fn what_a_node_does_lasts()
     ensures packets { (job : JobOf) (n : NodeOf) (choice : Option Candidate) (p : PacketOf)
         → NodeLasts n

@@ -21,16 +21,17 @@ ghost use Rattle.actor_laws.specs.whole_offers.Kept.{AnswerKept, NodeKept};
 ghost use Rattle.actor_laws.specs.whole_offers.Plain.{ArePlain, IsPlainNode};
 ghost use Rattle.actor_laws.specs.whole_offers.Whole.{IsPieceOf, OneOffer, Went, cut_answer};
 
-/// What goes over the wire is one of the whole packets or a piece of one; of each whole packet it goes, or its first piece; and packets
-/// that are no Offers are not cut. Does nothing.
+/// What goes over the wire is one of the whole packets or a piece of one; of each whole packet it
+/// goes, or its first piece; and packets that are no Offers are not cut. Does nothing.
 pub fn what_goes_is_whole()
     ensures arrives { (wholes : List PacketOf) (p : PacketOf) → p ∈ cut_all wholes → (p ∈ wholes) ⊎ IsPieceOf wholes p }
     ensures goes { (wholes : List PacketOf) (p : PacketOf) → p ∈ wholes → Went (cut_all wholes) p }
     ensures uncut { (packets : List PacketOf) → ArePlain packets → cut_all packets ≡ packets }
 {}
 
-/// Whatever comes over the wire to a node that is shown, what it answers is shown by right moves of it, where the whole packets are
-/// shown as sent and each grant and hop has one Offer among them. Does nothing.
+/// Whatever comes over the wire to a node that is shown, what it answers is shown by right moves of
+/// it, where the whole packets are shown as sent and each grant and hop has one Offer among them.
+/// Does nothing.
 pub fn wires_lead_to_moves()
     ensures { (m : Meaning) (job : JobOf) (v : View) (n : NodeOf) (wholes : List PacketOf) (choice : Option Candidate)
         (p : PacketOf)
@@ -43,7 +44,8 @@ pub fn wires_lead_to_moves()
         → AnswerShown m job.number v n (on_packet job choice p n) }
 {}
 
-/// A Piece that comes over the wire to a node that agrees leads to what agrees, where the whole packets agree. Does nothing.
+/// A Piece that comes over the wire to a node that agrees leads to what agrees, where the whole
+/// packets agree. Does nothing.
 pub fn wires_agree()
     ensures { (job : JobOf) (v : View) (n : NodeOf) (wholes : List PacketOf) (choice : Option Candidate) (p : PacketOf)
         (b : Piece)
@@ -57,8 +59,9 @@ pub fn wires_agree()
         → AnswerIsRight job (on_packet job choice p n) }
 {}
 
-/// Each grant and hop has one Offer after each step of a node that is shown, with what it sends; and what is kept of it stays so, and of
-/// all others, whatever is sent besides; a node that starts begins so. Does nothing.
+/// Each grant and hop has one Offer after each step of a node that is shown, with what it sends;
+/// and what is kept of it stays so, and of all others, whatever is sent besides; a node that starts
+/// begins so. Does nothing.
 pub fn offers_stay_one()
     ensures packets { (m : Meaning) (job : JobOf) (v : View) (n : NodeOf) (wholes : List PacketOf) (choice : Option Candidate)
         (p : PacketOf)
@@ -112,8 +115,9 @@ pub fn offers_stay_one()
         → NodeKept job (wholes ++ more) n }
 {}
 
-/// What goes over the wire of what a node answers: large Offers go in their pieces, and all else as it is, where its last answers are no
-/// Offers and it waits for nothing while it leaves. Does nothing.
+/// What goes over the wire of what a node answers: large Offers go in their pieces, and all else as
+/// it is, where its last answers are no Offers and it waits for nothing while it leaves. Does
+/// nothing.
 pub fn what_is_sent_goes_cut()
     ensures packets { (job : JobOf) (n : NodeOf) (choice : Option Candidate) (p : PacketOf) → IsPlainNode n
         → cut_answer (on_packet job choice p n) ≡ on_packet job choice p n }

@@ -56,7 +56,8 @@ cilknow_give_spec 𝓤 𝓛 𝓜 𝓡 wired =
     fsplit ! $ move ! (4 ∷ 6 ∷ 0 ∷ []) $ use3 𝓛 (later (‵ ((mem R).own_at ws.0 b o))) (ref_back 𝓛 R κ δ ws.0 b o) $ await ! tt $
     -- [the actor; what is said of it; of the slice; the result; the slice's token]
     move ! (2 ∷ []) $ fsplit ! $ move ! (1 ∷ []) $ fsplit ! $ fsplit ! $ fsplit ! $ move ! (0 ∷ 2 ∷ []) $ fjoin ! $
-    -- [what was given of the slice; its length; nothing; the number; the actor; what is said of it; the result; the slice's token]
+    -- [what was given of the slice; its length; nothing; the number; the actor; what is said of it;
+    -- the result; the slice's token]
     returns ! (look_at ! 0 refl) $ free_all ! refl $ keep ! (6 ∷ 0 ∷ 7 ∷ 4 ∷ []) $
     suffices ! _ (via 𝓤 _ (mono_r 𝓤 (on_exit 𝓛 f.ended stayed κs qs (rawptr_vals (block_ptr b o), (uint_vals w32 m, (mut_slice_vals s, tt))) v r (block_ptr b o, (m, (s, tt))) (tt, (tt, (ws.1.1.0, tt)))) (ex_i 𝓤 (λ (after : R.Denot). sep 𝓤 (sem 𝓛 (lies_at R full_share (block_ptr b o) after)) (fact 𝓤 (GiveComes m r s.now ws.1.1.0 before after))) ws.0))
     (ends_at 𝓛 f.ended stayed c (y (block_ptr b o)) v r (tt, (tt, (ws.1.1.0, tt))) (tt, (tt, (comes.0, tt))))) $

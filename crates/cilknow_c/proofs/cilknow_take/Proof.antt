@@ -49,7 +49,8 @@ cilknow_take_spec 𝓤 𝓛 𝓜 𝓡 wired =
     -- [the token's end; the slice's token; the result; what is ensured; what the lender keeps]
     move ! (2 ∷ []) $ peeks ! i64 (Is i64) (shows 𝓛 i64) r (v ∷ []) (λ is. lands_as ! refl refl ((sint_Lawful 𝓛 w64).typed r _ is).0 $
     move ! (3 ∷ []) $ pick ! (λ ws. split ! $ move ! (1 ∷ []) $ heard ! _ (λ comes. fsplit ! $
-    -- [what is said of the actor, and of the slice; the result; the token's end; the slice's token; what the lender keeps]
+    -- [what is said of the actor, and of the slice; the result; the token's end; the slice's token;
+    -- what the lender keeps]
     fsplit ! $ move ! (4 ∷ 6 ∷ 0 ∷ []) $ use3 𝓛 (later (‵ ((mem R).own_at ws.0 b o))) (ref_back 𝓛 R κ δ ws.0 b o) $ await ! tt $
     -- [the actor; what is said of it; of the slice; the result; the slice's token]
     returns ! (look_at ! 0 refl) $ free_all ! refl $ keep ! (3 ∷ 4 ∷ 0 ∷ []) $

@@ -61,7 +61,8 @@ fn write_heirs(alloc: Global, members: &[Member], first: u64, last: u64, out: &m
     }
 }
 
-/// Adds a member `WORD:STATUS`, or with `FIRST..LAST` in the word's place one for each word; none where it is no such text.
+/// Adds a member `WORD:STATUS`, or with `FIRST..LAST` in the word's place one for each word; none
+/// where it is no such text.
 fn add_members(list: &mut Listed<Member>, text: &str, out: &mut Answers) -> Option<()> {
     let (words, said) = text.split_once(':')?;
     let (first, last) = ends(words)?;

@@ -7,7 +7,8 @@ use play_packets::{read_frames, write_frame};
 use play_words::{Answers, CommandLine, keep};
 use std::alloc::Global;
 
-/// What became of fills: how many frames still wait, how many are ready, and the level of the last of these.
+/// What became of fills: how many frames still wait, how many are ready, and the level of the last
+/// of these.
 #[derive(Clone, Copy)]
 struct Tally {
     still: u32,

@@ -2,7 +2,8 @@ use ids::{Actor, Count, FrameNo, Incarnation, Status};
 use play_packets::actor;
 use play_words::{CommandLine, word64};
 
-/// The first and the last number of `FIRST..LAST`, which may be one number; none where the first is greater.
+/// The first and the last number of `FIRST..LAST`, which may be one number; none where the first is
+/// greater.
 pub fn ends(text: &str) -> Option<(u64, u64)> {
     let (first, last) = match text.split_once("..") {
         Some(ends) => ends,

@@ -1,8 +1,7 @@
 use Rattle.std.proofs.Common.{◌≡◌}
-use Rattle.chronicle.specs.Seats.{IsSeatIn}
-use Rattle.node_runner.specs.Lines.{IsHomeOf}
+use Rattle.node_runner.specs.Runs.{IsRunIn}
 use Rattle.node_runner.proofs.node.run_node.Given as goal
 
 abbrev pub invariant-loop : goal.invariant-loop
 invariant-loop g l =
-    (goal.iterator-loop g).can_next l.iterator' × (goal.iterator-loop g).is_finite l.iterator' × IsSeatIn l.shared.chronicle.now l.seat × (l.pen.table ≡ l.shared.words.now.table) × (l.note.board ≡ l.shared.board.now.board) × IsHomeOf l.shared.chronicle.now.job.program l.desk.home
+    (goal.iterator-loop g).can_next l.iterator' × (goal.iterator-loop g).is_finite l.iterator' × IsRunIn l.shared.chronicle.now l.shared.words.now l.run × (l.note.board ≡ l.shared.board.now.board)

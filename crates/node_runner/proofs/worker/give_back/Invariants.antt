@@ -1,6 +1,6 @@
 use Rattle.std.proofs.Common.{◌≡◌}
 use Rattle.node_runner.specs.Lines.{IsLineOf}
-use Rattle.node_runner.proofs.worker.returns.Given as goal
+use Rattle.node_runner.proofs.worker.give_back.Given as goal
 
 abbrev pub invariant-loop : goal.invariant-loop
 invariant-loop g l =
