@@ -95,8 +95,8 @@ def row(name, file, inputs):
         for copies in range(1, MOST_AT_ONCE + 1):
             at_once[copies] = min(at_once.get(copies, 1e9), once(*serially, *inputs, copies=copies)[0])
         for how, words in commands.items():
-            ended = once(*words, *inputs)
-            took[how] = min(took.get(how, 1e9), ended[0]) if ended else None
+            ended, least = once(*words, *inputs), took.get(how, 1e9)
+            took[how] = min(least, ended[0]) if ended and least else None
     alone = at_once[1]
     print(f"| {name} | `serial` | {alone * 1e3:.0f} | 1.00 | {needed:,} | | 1.00 |", flush=True)
     for how, words in commands.items():
