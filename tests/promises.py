@@ -10,6 +10,7 @@ docs/PROMISES.md with its file, and for each that one of these names:
     == FILE: CALL           the call's head, and a line or more for each clause, with its name
     == FILE: DEFINITION     its lines
     == FILE: below          names of FILE on which such definitions stand, each with a sum of its text
+    == FILE: constants      the constants of FILE that clauses or definitions name, a line each
 
 A section's last line is a sum of where the names in it come from, so that another definition of one name is seen.
 Sections stand by file and name. Comments are left out. Where only blanks or ends of lines differ, nothing is told.
@@ -22,10 +23,13 @@ import re
 import sys
 
 import contracts
-from common import TOP, Tally, crates, in_tree, read, write
+from common import CRATES, TOP, Tally, crates, files_in, in_tree, read, write
 
 LOCK = f"{TOP}/docs/promises.lock"
 PROMISES = f"{TOP}/docs/PROMISES.md"
+# Names of constants that a clause or a definition takes from a crate's module; and a constant's line.
+CONSTANTS = re.compile(r"Rattle\.(\w+)\.specs\.declared\.(?:(\w+)\.)?TheConstants\.\{([^}]*)\}")
+CONSTANT = re.compile(r"pub const (\w+): .*;$")
 HEAD = """\
 # What is promised: the public clauses, and the definitions that they name, as they stand in the sources.
 # `bin/lock_promises --write` writes this file, and the gate compares it (`bin/lock_promises`).
@@ -98,10 +102,23 @@ def of_definitions():
         yield f"{in_tree(path)}: below", "\n".join(sorted(lines))
 
 
+def of_constants():
+    """The sections of the constants that clauses and definitions name: of each file that declares some, their lines."""
+    found = collections.defaultdict(set)
+    for crate in crates():
+        for part, ending in (("src", ".rt"), ("specs", ".antt")):
+            for path in files_in(f"{CRATES}/{crate}/{part}", ending):
+                for of, module, names in CONSTANTS.findall(read(path)):
+                    found[f"{CRATES}/{of}/src/{module or 'lib'}.rt"].update(re.findall(r"\w+", names))
+    for path, names in found.items():
+        lines = [it for it in read(path).splitlines() if (head := CONSTANT.match(it)) and head[1] in names]
+        yield f"{in_tree(path)}: constants", "\n".join(lines)
+
+
 def sections():
     """All sections: each heading with its texts, of which some calls of one name have several."""
     found = collections.defaultdict(list)
-    for heading, text in (*of_calls(), *of_definitions()):
+    for heading, text in (*of_calls(), *of_definitions(), *of_constants()):
         found[heading].append(text)
     return {heading: sorted(found[heading]) for heading in sorted(found)}
 

@@ -5,7 +5,7 @@
 //! and keeps agreement with the serial meaning, by value ([`actor_agreement`]). What goes over the
 //! wire in Pieces is read as whole packets ([`whole_offers`]). Nobody waits for somebody who is
 //! gone by its own roster ([`standing`]), and what a member does with what comes now is told by its
-//! state ([`next`]). `safe_runs` puts them together into laws of whole runs.
+//! state ([`next`]). `run_laws` puts them together into laws of whole runs.
 #![tactic(auto)]
 
 pub mod actor_agreement;

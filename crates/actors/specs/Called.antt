@@ -1,5 +1,6 @@
 -- Calls of a host's actor, and what is told of them by numbers.
 use Rattle.std.specs.Prelude.{◌≡◌, ◌⊎◌, ◌<◌, ℕ, ℤ, pos, neg_ℤ, Bool, true, false, List, [], Option, None, Some, Result, Ok, Err, length}
+use Rattle.ids.specs.declared.error_numbers.TheConstants.{NOT_THIS, UNSENT}
 use Rattle.codec.specs.Table.{PacketOf}
 use Rattle.ids.specs.declared.outcome.Outcome.{Outcome}
 use Rattle.ids.specs.declared.outcome.Outcome.TheVariants.{Value, TooDeep}
@@ -36,8 +37,8 @@ use Rattle.actors.specs.declared.node_actor.Worked.{Worked}
 
 -- the numbers of errors
 abbrev pub number_of_error : ActorError → ℕ
-number_of_error error.NotThis = 100
-number_of_error error.Unsent = 101
+number_of_error error.NotThis = NOT_THIS
+number_of_error error.Unsent = UNSENT
 number_of_error (error.Node e) = number_of_node e
 number_of_error (error.House e) = number_of_house e
 

@@ -52,8 +52,8 @@ impl ActorError {
         ensures { result ≡ number_of_error self }
     {
         match self {
-            ActorError::NotThis => 100,
-            ActorError::Unsent => 101,
+            ActorError::NotThis => ids::error_numbers::NOT_THIS,
+            ActorError::Unsent => ids::error_numbers::UNSENT,
             ActorError::Node(error) => error.number(),
             ActorError::House(error) => error.number(),
         }

@@ -188,7 +188,7 @@ impl<'a> NodeActor<'a> {
             thread,
             numbers,
             most_turns,
-            self.sizes.levels(),
+            self.sizes.levels(thread),
         ) {
             Ok(whole) => {
                 self.sizes.succeed(&whole);

@@ -3,7 +3,7 @@ use Rattle.std.specs.Prelude.{◌≡◌, ℕ, IfSome, List, Option, Some}
 use Rattle.ids.specs.declared.outcome.Outcome.{Outcome}
 use Rattle.saved_values.specs.declared.value.SavedValue.{SavedValue}
 use Rattle.serial_meaning.specs.Job.{JobOf, meaning_of}
-use Rattle.agreement.specs.Agreement.{AllSavedAgree}
+use Rattle.agreement_laws.specs.Agreement.{AllSavedAgree}
 
 -- a board: which it is, its job, and the saved values with which that goes on
 pub record BoardOf : Type 0 where
@@ -11,7 +11,8 @@ pub record BoardOf : Type 0 where
   pub job : JobOf
   pub saved : List SavedValue
 
--- an outcome is the job's meaning, where the values agree with which it goes on; where there are none it is the meaning
+-- an outcome is the job's meaning, where the values agree with which it goes on; where there are
+-- none it is the meaning
 abbrev pub IsMeant : JobOf → List SavedValue → Outcome → Type 0
 IsMeant job saved o = AllSavedAgree job saved → o ≡ meaning_of job
 

@@ -1,4 +1,5 @@
-//! The board on which the outcome of a job stands once it is known: set once, and read by all threads without waiting.
+//! The board on which the outcome of a job stands once it is known: set once, and read by all
+//! threads without waiting.
 #![tactic(auto)]
 
 mod notes;

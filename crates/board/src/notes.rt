@@ -2,8 +2,8 @@ use once_cell::race;
 use serial_meaning::Outcome;
 use std::marker::Model;
 
-/// What one thread has learned from a board. It takes no bytes and can go to another thread. Contracts see the board that it is
-/// of, and the outcome, once it is known.
+/// What one thread has learned from a board. It takes no bytes and can go to another thread.
+/// Contracts see the board that it is of, and the outcome, once it is known.
 #[derive(Drop)]
 pub struct Note {
     pub(crate) note: race::Note<Outcome>,

@@ -9,8 +9,8 @@ use std::alloc::Global;
 use std::marker::Model;
 use std::snapshot::Snapshot;
 
-/// Where the outcome of a job stands once it is known. Threads share it by reference. Contracts see which board it is, its job, and the
-/// saved values with which that goes on.
+/// Where the outcome of a job stands once it is known. Threads share it by reference. Contracts see
+/// which board it is, its job, and the saved values with which that goes on.
 #[derive(Drop)]
 pub struct Board {
     cell: OnceBox<Outcome>,
@@ -65,8 +65,8 @@ impl Board {
         }
     }
 
-    /// Sets the outcome, which has to be the meaning of the board's job, if the saved values agree with which that goes on. Where one is set
-    /// already, or without memory, it comes back.
+    /// Sets the outcome, which has to be the meaning of the board's job, if the saved values agree
+    /// with which that goes on. Where one is set already, or without memory, it comes back.
     pub fn publish(&self, note: &mut Note, outcome: Outcome) -> Result<(), Outcome>
         requires board { note.old.board ≡ self.now.board }
         requires meaning { IsMeant self.now.job self.now.saved outcome }
@@ -84,7 +84,8 @@ impl Board {
         }
     }
 
-    /// The outcome, if it is set: a load, without memory. A note that knows an outcome reads that one.
+    /// The outcome, if it is set: a load, without memory. A note that knows an outcome reads that
+    /// one.
     pub fn read(&self, note: &mut Note) -> Option<Outcome>
         requires { note.old.board ≡ self.now.board }
         ensures board { note.new.board ≡ note.old.board }

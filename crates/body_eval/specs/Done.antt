@@ -12,8 +12,8 @@ pub record DoneOf : Type 0 where
   pub numbers : List ℤ
   pub turn : Turn
 
--- the program is accepted, the end is that of the thread on these numbers, and its threads are there and get as many
--- numbers as they take
+-- the program is accepted, the end is that of the thread on these numbers, and its threads are
+-- there and get as many numbers as they take
 pub record IsEvaluated (d : DoneOf) : Type 0 where
   pub accepted : IsAccepted d.program
   pub reached : turn_of d.program d.thread d.numbers ≡ Some d.turn

@@ -8,8 +8,9 @@ use std::alloc::{AllocError, Global};
 use std::marker::Model;
 use std::snapshot::Snapshot;
 
-/// A turn that was evaluated: the thread, its numbers and the end that it reached. It keeps what makes it a turn of its
-/// accepted program, wherever it is passed, also to another thread. Which program that is, only contracts see.
+/// A turn that was evaluated: the thread, its numbers and the end that it reached. It keeps what
+/// makes it a turn of its accepted program, wherever it is passed, also to another thread. Which
+/// program that is, only contracts see.
 #[derive(Drop)]
 pub struct Done {
     // It has no bytes. `of` takes it from the program itself, and nothing else makes a `Done`.

@@ -44,7 +44,8 @@ fn remainder(a: i64, b: i64) -> i64
     if b == 0 { 0 } else { a.wrapping_rem(b) }
 }
 
-/// The value of an expression without an operator. It is compiled into the call that asks: most operands are such.
+/// The value of an expression without an operator. It is compiled into the call that asks: most
+/// operands are such.
 #[inline(always)]
 fn plain_value(values: &[i64], code: &Code) -> Option<i64>
     requires { IsSome (code_value values.now code.now) }

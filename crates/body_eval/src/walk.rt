@@ -32,8 +32,8 @@ fn bind(stack: &mut Vec<i64>, base: usize, lets: &Listed<Code>) -> Result<(), Al
     Ok(())
 }
 
-/// Where a block ends in the environment from `base` on, to which it adds what is let on the way; what stands before
-/// it in the stack stays.
+/// Where a block ends in the environment from `base` on, to which it adds what is let on the way;
+/// what stands before it in the stack stays.
 fn block_leaf<'a>(
     stack: &mut Vec<i64>,
     base: usize,
@@ -79,7 +79,8 @@ fn plain_block_leaf<'a>(numbers: &[i64], block: &'a BlockCode) -> Option<&'a Lea
     }
 }
 
-/// Where the body of a thread ends on these numbers, if nothing is let on the way: they are its environment there. It takes no memory.
+/// Where the body of a thread ends on these numbers, if nothing is let on the way: they are its
+/// environment there. It takes no memory.
 #[tactic(auto, using(crate::proofs::Turning::thread_there, crate::proofs::Turning::body_reaches, crate::proofs::Turning::leaf_reached))]
 pub fn plain_leaf<'a>(checked: &'a Checked, thread: u8, numbers: &[i64]) -> Option<&'a Leaf>
     requires { Takes checked.now thread (length numbers.now) }
@@ -89,8 +90,8 @@ pub fn plain_leaf<'a>(checked: &'a Checked, thread: u8, numbers: &[i64]) -> Opti
     plain_block_leaf(numbers, checked.body(thread))
 }
 
-/// Where the body of a thread ends, which ran on the numbers from `base` on; they become its environment. What stands
-/// before them in the stack stays.
+/// Where the body of a thread ends, which ran on the numbers from `base` on; they become its
+/// environment. What stands before them in the stack stays.
 #[tactic(auto, using(crate::proofs::Turning::thread_there, crate::proofs::Turning::body_reaches, crate::proofs::Turning::leaf_reached))]
 pub fn leaf<'a>(
     checked: &'a Checked,

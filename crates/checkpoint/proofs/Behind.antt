@@ -1,4 +1,5 @@
--- The small slots stay where what stands behind them changes, and the large ones where what stands in front does.
+-- The small slots stay where what stands behind them changes, and the large ones where what stands
+-- in front does.
 use Rattle.std.proofs.Common.{◌≡◌, ℕ, ◌+◌, ◌<◌, ◌≤◌, Bool, true, false, List, [], ◌++◌, length, take, drop, get_or, sym, ◌∙◌, ap, subst, arith, lit≤, lit<, length-append}
 use Rattle.std.proofs.lemmas.List.{take_at, drop_at, take-take, get_or-take, drop-take, drop-drop, drop_all, append-nil, length-take-le}
 use Rattle.std.specs.List.{splice}

@@ -178,7 +178,8 @@ most_of file (Large second) n r is = let size = is.front.size in omega (arith, s
 abbrev IsNone : List ℕ → Type 0
 IsNone file = (n : ℕ) (r : CheckpointRecord) → ¬ ReadsAsStore file n r
 
--- its small slots say nothing, or that the record has moved where there are no large ones, or these say nothing
+-- its small slots say nothing, or that the record has moved where there are no large ones, or these
+-- say nothing
 pub none_small : (file : List ℕ) → ((second : Bool) (n : ℕ) (x : Entry) → ¬ IsCurrent SpellsSmall 8 63 file second n x) → IsNone file
 none_small file none n r (Small second, is) = none second n (Here r) is.current
 none_small file none n r (Large second, is) = none is.front.second is.front.moves Moved is.front.moved

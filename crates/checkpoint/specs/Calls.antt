@@ -44,7 +44,8 @@ SettledBy (Write at bytes) old new = SettlesEither old (written_file old at byte
 SettledBy (Cut len) old new = SettlesEither old (take len old) new
 SettledBy Sync old new = Settles old new
 
--- a call that failed; on a device that can be cut only where that was planned, or it lacked something
+-- a call that failed; on a device that can be cut only where that was planned, or it lacked
+-- something
 pub record Fails (call : DeviceCall) (plan : Option (List ℕ)) (old new : Device) : Type 0 where
   pub failed : Failed old new plan
   pub settled : SettledBy call old.file new.file

@@ -27,8 +27,8 @@ closing gate = if gate then 0 ∷ [] else []
 abbrev pub publishing : ℕ → Bool → List ℕ → List DeviceCall
 publishing at gate bytes = Write at (closing gate) ∷ Sync ∷ Write (at + 1) bytes ∷ Sync ∷ Write at (165 ∷ []) ∷ Sync ∷ []
 
--- a store becomes one of the newer form: both large slots are written, and on the disk; then the small slot that isn't current says that
--- the record has moved
+-- a store becomes one of the newer form: both large slots are written, and on the disk; then the
+-- small slot that isn't current says that the record has moved
 abbrev pub migrating : List ℕ → Bool → Bool → List ℕ → List DeviceCall
 migrating both second gate bytes = Write 136 both ∷ Sync ∷ publishing (place 8 63 (not second)) gate bytes
 
@@ -42,13 +42,14 @@ pub record IsMigration (file : List ℕ) (second : Bool) (sequence : ℕ) (r : C
   pub small : IsMovedBody bytes (sequence + 1) r.job r.epoch
   pub same : calls ≡ migrating both second (is_open (slot 8 63 (not second) file)) bytes
 
--- by these calls a store is opened that a file reads as: it is read, and becomes one of the newer form if it isn't. Its sequence counts
--- from 0 then
+-- by these calls a store is opened that a file reads as: it is read, and becomes one of the newer
+-- form if it isn't. Its sequence counts from 0 then
 pub data IsOpening (file : List ℕ) (sequence : ℕ) (r : CheckpointRecord) (opened : ℕ) (calls : List DeviceCall) : Type 0 where
   is_new : (second : Bool) → IsNew file second sequence r → opened ≡ sequence → calls ≡ opening → IsOpening file sequence r opened calls
   is_old : (second : Bool) (moves : List DeviceCall) → IsMigration file second sequence r moves → opened ≡ 0 → calls ≡ opening ++ moves → IsOpening file sequence r opened calls
 
--- by these calls a record of the next sequence goes into the large slot that isn't current, in a file that reads so
+-- by these calls a record of the next sequence goes into the large slot that isn't current, in a
+-- file that reads so
 pub record IsCommit (file : List ℕ) (sequence : ℕ) (before next : CheckpointRecord) (calls : List DeviceCall) : Type 0 where
   pub second : Bool
   pub current : IsNew file second sequence before

@@ -36,7 +36,8 @@ pub record HasFields (body : List ℕ) (sequence size job epoch tag : ℕ) (valu
   pub outcome_at : get_or body 26 0 ≡ tag
   pub value_at : cast_signed w64 (big_from 27 8 body) ≡ value
 
--- a small slot has a record of which no values are saved, or says that the record has moved into a large one
+-- a small slot has a record of which no values are saved, or says that the record has moved into a
+-- large one
 pub record SpellsSlot (body : List ℕ) (sequence : ℕ) (r : CheckpointRecord) : Type 0 where
   pub fields : HasFields body sequence 25 r.job r.epoch (tag_of r.outcome) (value_of r.outcome)
   pub unsaved : r.saved ≡ []
@@ -50,7 +51,8 @@ abbrev pub SpellsSmall : Spelling Entry
 SpellsSmall body sequence (Here r) = SpellsSlot body sequence r
 SpellsSmall body sequence Moved = SpellsMoved body sequence
 
--- a value that is saved, in 32 bytes: how many steps its place has, these from the root on, zeros in place of further ones, and the value
+-- a value that is saved, in 32 bytes: how many steps its place has, these from the root on, zeros
+-- in place of further ones, and the value
 pub record SpellsEntry (entry : List ℕ) (x : SavedValue) : Type 0 where
   pub length_at : get_or entry 0 0 ≡ length x.place
   pub place : IsTrue (is_saved_place x.place)
@@ -86,7 +88,8 @@ pub record IsMovedBody (bytes : List ℕ) (sequence job epoch : ℕ) : Type 0 wh
 abbrev pub name : List ℕ
 name = 67 ∷ 78 ∷ 79 ∷ 87 ∷ 67 ∷ 75 ∷ 80 ∷ []
 
--- a store of the older form has this record, of this sequence, in the first or the second small slot. Behind these may stand anything
+-- a store of the older form has this record, of this sequence, in the first or the second small
+-- slot. Behind these may stand anything
 pub record IsOld (file : List ℕ) (second : Bool) (sequence : ℕ) (r : CheckpointRecord) : Type 0 where
   pub most : length file ≤ 4360
   pub named : take 7 file ≡ name
@@ -116,16 +119,16 @@ IsStore file (Large second) sequence r = IsNew file second sequence r
 abbrev pub fresh : ℕ → CheckpointRecord
 fresh job = record { job = job; epoch = 0; outcome = None; saved = [] }
 
--- what stands behind the small slots of a store that is made, or that becomes one of the newer form: an open slot with the record, and
--- zeros
+-- what stands behind the small slots of a store that is made, or that becomes one of the newer
+-- form: an open slot with the record, and zeros
 pub record IsBoth (both : List ℕ) (r : CheckpointRecord) : Type 0 where
   pub size : length both ≡ 4224
   pub gate : IsOpen (take 2112 both)
   pub written : IsBody (body (take 2112 both)) 0 r
   pub large : drop 2112 both ≡ replicate 2112 0
 
--- the file of such a job, of the newer form: the record has moved from the first small slot into the first large one, and the second
--- slots are zero
+-- the file of such a job, of the newer form: the record has moved from the first small slot into
+-- the first large one, and the second slots are zero
 pub record IsFormatted (file : List ℕ) (job : ℕ) : Type 0 where
   pub store : IsNew file false 0 (fresh job)
   pub moved : IsMovedBody (take 63 (drop 9 file)) 0 job 0

@@ -26,7 +26,8 @@ pub record Moments (d : Device) (sequence : ℕ) (before next : CheckpointRecord
   -- while at most four calls passed, it keeps that record
   pub early : (k : ℕ) → k ≤ 4 → KeepsNew (after d (take k calls)).file sequence before
   pub early_stop : (plan : ℕ → Option (List ℕ)) (new : Device) → Stopped (take 4 calls) plan d new → KeepsNew new.file sequence before
-  -- a device that can be cut doesn't carry out a call that fails, so there it is the same with the fifth
+  -- a device that can be cut doesn't carry out a call that fails, so there it is the same with the
+  -- fifth
   pub fifth_stop : IsTrue d.can_cut → (plan : ℕ → Option (List ℕ)) (new : Device) → Stopped (take 5 calls) plan d new → KeepsNew new.file sequence before
   -- after the fifth, or where any of them failed, it keeps that one or the next
   pub fifth : KeepsEither (after d (take 5 calls)).file sequence before next
@@ -42,7 +43,8 @@ BeforeOrAfter = (d : Device) (sequence : ℕ) (before next : CheckpointRecord) (
 abbrev pub KeepsAt : List Cell → (old new : ℕ) → CheckpointRecord → Type 0
 KeepsAt file old new r = (c : List ℕ) → CrashLeaves file c → ReadsAsStore c old r ⊎ ReadsAsStore c new r
 
--- the calls of an opening on a device that keeps the record: it keeps that at each moment, and at its end as a store of the newer form
+-- the calls of an opening on a device that keeps the record: it keeps that at each moment, and at
+-- its end as a store of the newer form
 pub record Openings (d : Device) (sequence : ℕ) (r : CheckpointRecord) (opened : ℕ) (calls : List DeviceCall) : Type 0 where
   pub kept : (k : ℕ) → k ≤ length calls → KeepsAt (after d (take k calls)).file sequence opened r
   pub stop : (plan : ℕ → Option (List ℕ)) (new : Device) → Stopped calls plan d new → KeepsAt new.file sequence opened r

@@ -18,7 +18,8 @@ pub record Opened (D : Type 0) : Type 0 where
   pub sequence : ℕ
   pub ended : Bool
 
--- a store that was read, and isn't opened yet: its disk, the current record, its sequence and where it stands
+-- a store that was read, and isn't opened yet: its disk, the current record, its sequence and where
+-- it stands
 pub record LookedAt (D : Type 0) : Type 0 where
   pub disk : D
   pub «record» : CheckpointRecord
@@ -79,7 +80,8 @@ abbrev pub beside : SlotId → List ℕ → List ℕ
 beside (Small second) file = slot 8 63 (not second) file
 beside (Large second) file = slot 136 2111 (not second) file
 
--- what is held of a file that reads so: where the record stands, and whether the gate beside it reads as open
+-- what is held of a file that reads so: where the record stands, and whether the gate beside it
+-- reads as open
 pub record IsHeld (file : List ℕ) (at : SlotId) (sequence : ℕ) (r : CheckpointRecord) (gate : Bool) : Type 0 where
   pub store : IsStore file at sequence r
   pub other : gate ≡ is_open (beside at file)

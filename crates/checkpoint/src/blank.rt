@@ -22,7 +22,8 @@ fn put_bytes(file: &mut [u8], at: usize, bytes: &[u8])
     file[at..at + bytes.len()].copy_from_slice(bytes);
 }
 
-/// Both large slots: an open one of sequence 0 with a record of which no values are saved, and zeros.
+/// Both large slots: an open one of sequence 0 with a record of which no values are saved, and
+/// zeros.
 pub fn large_slots(job: u64, epoch: LastEpoch, outcome: &Option<Outcome>) -> [u8; BOTH]
     ensures { IsBoth result (record { job = job; epoch = epoch; outcome = outcome.now; saved = [] }) }
 {
@@ -49,7 +50,8 @@ fn blank(job: u64) -> [u8; SIZE]
     file
 }
 
-/// Makes the store of a job that has just begun, by three device calls. Refused by the device alone, it has to be done again.
+/// Makes the store of a job that has just begun, by three device calls. Refused by the device
+/// alone, it has to be done again.
 pub fn format<D: Disk>(disk: &mut D, job: u64) -> Result<(), StoreError>
     ensures calls { OnOk result ((file : List ℕ) × IsFormatted file job
         × Passed (formatting file) (D.planned disk.old) (D.device disk.old) (D.device disk.new)) }

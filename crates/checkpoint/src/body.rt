@@ -19,7 +19,8 @@ pub const SMALL_BODY: usize = 63;
 
 pub const LARGE_BODY: usize = 2111;
 
-/// The number of bytes that are read behind the sequence and this number itself, in a small slot and in a large one.
+/// The number of bytes that are read behind the sequence and this number itself, in a small slot
+/// and in a large one.
 const SMALL_LENGTH: u16 = 25;
 
 const LARGE_LENGTH: u16 = 2101;
@@ -94,7 +95,8 @@ pub fn spell_moved(sequence: u64, job: u64, epoch: LastEpoch) -> [u8; SMALL_BODY
     spell_fields(sequence, SMALL_LENGTH, job, epoch, MOVED, 0)
 }
 
-/// The body of a large slot that says this. Behind its fields, and behind what is saved, stand zeros.
+/// The body of a large slot that says this. Behind its fields, and behind what is saved, stand
+/// zeros.
 pub fn spell(
     sequence: u64,
     job: u64,
@@ -155,7 +157,8 @@ struct Fields {
     value: i64,
 }
 
-// The fields of a slot in which so many bytes are read; none where that number isn't there, or the epoch is none.
+// The fields of a slot in which so many bytes are read; none where that number isn't there, or the
+// epoch is none.
 fn read_fields(body: &[u8], size: u16) -> Option<Fields>
     requires { 35 ≤ length body.now }
     ensures some { IfSome result (λ f. HasFields body.now f.sequence size f.job f.epoch f.tag f.value) }

@@ -71,8 +71,8 @@ fn read_entry(entry: &[u8]) -> Option<SavedValue>
     })
 }
 
-/// So many saved values of the bytes from the first one on; none where there can't be so many, one of them is none, or they don't stand by
-/// the order of their places.
+/// So many saved values of the bytes from the first one on; none where there can't be so many, one
+/// of them is none, or they don't stand by the order of their places.
 pub fn read_saved(count: u8, bytes: &[u8]) -> Option<SavedTable>
     requires { length bytes.now ≡ 2048 }
     ensures some { IfSome result (λ t. (length t ≡ count) × SpellsEntries bytes.now t × IsSavedList t) }

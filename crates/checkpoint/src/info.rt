@@ -12,8 +12,8 @@ use disk::Disk;
 use ids::Outcome;
 use std::alloc::Global;
 
-/// What a store keeps: the number of its job, the last epoch of the clearinghouse that began, 0 where none did, the outcome once there is
-/// one, and how many values are saved.
+/// What a store keeps: the number of its job, the last epoch of the clearinghouse that began, 0
+/// where none did, the outcome once there is one, and how many values are saved.
 #[derive(Clone, Copy, Debug, PartialEq, Eq)]
 pub struct Info {
     pub job: u64,
@@ -22,8 +22,9 @@ pub struct Info {
     pub saved: usize,
 }
 
-/// What a store keeps, whatever its job is, by one read; nothing is written. Refused in this order: E72; E71 for a file that doesn't begin
-/// as a store; E73 for another version; E71 for one that is no store.
+/// What a store keeps, whatever its job is, by one read; nothing is written. Refused in this order:
+/// E72; E71 for a file that doesn't begin as a store; E73 for another version; E71 for one that is
+/// no store.
 pub fn inspect<D: Disk>(alloc: Global, disk: &mut D) -> Result<Info, StoreError>
     ensures found { IfOk result (λ i. (n : ℕ) × (r : StoredRecord)
         × ReadsAsStore (bytes_of (D.device disk.old).file) n r × (i ≡ info_of r)) }

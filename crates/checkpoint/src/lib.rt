@@ -1,11 +1,13 @@
 //! The clearinghouse's record on a disk: what was committed is found again, whenever a crash comes.
 //!
-//! The file has two large slots, each behind a gate. The current record is that of the open slot of the greater sequence. A commit
-//! writes into the other slot: it closes its gate, writes its body and opens its gate, each on the disk before the next.
+//! The file has two large slots, each behind a gate. The current record is that of the open slot of
+//! the greater sequence. A commit writes into the other slot: it closes its gate, writes its body
+//! and opens its gate, each on the disk before the next.
 //!
-//! Stores of an older form have two small slots alone, which have no room for values that are saved. They stand in front of the large ones,
-//! and say there that the record has moved. Such a store becomes one of the newer form when it is opened: the large slots are written, and
-//! are on the disk before a small one says so.
+//! Stores of an older form have two small slots alone, which have no room for values that are
+//! saved. They stand in front of the large ones, and say there that the record has moved. Such a
+//! store becomes one of the newer form when it is opened: the large slots are written, and are on
+//! the disk before a small one says so.
 #![tactic(auto)]
 
 mod blank;

@@ -62,7 +62,8 @@ fn large_slot(bytes: &[u8]) -> Result<Option<(u64, CheckpointRecord)>, StoreErro
     }
 }
 
-/// The newest of two slots: its sequence and what it holds, whether it is the second one, and whether the gate of the other one is open.
+/// The newest of two slots: its sequence and what it holds, whether it is the second one, and
+/// whether the gate of the other one is open.
 #[derive(Drop)]
 struct Newest<R: Drop> {
     sequence: u64,
@@ -153,7 +154,8 @@ fn is_named(bytes: &[u8]) -> bool
     bytes.len() >= 8 && bytes.starts_with(&NAME)
 }
 
-/// What is found in a file: the current record, where it stands, and whether the gate beside it is open.
+/// What is found in a file: the current record, where it stands, and whether the gate beside it is
+/// open.
 #[derive(Drop)]
 pub struct Found {
     pub sequence: u64,

@@ -18,8 +18,9 @@ pub fn small_place(second: bool) -> usize
     if second { 72 } else { 8 }
 }
 
-/// By eight device calls a store of the older form becomes one of the newer form. Its record is in the second small slot or in the first one;
-/// `gate` tells whether the gate of the other one reads as open.
+/// By eight device calls a store of the older form becomes one of the newer form. Its record is in
+/// the second small slot or in the first one; `gate` tells whether the gate of the other one reads
+/// as open.
 pub fn migrate<D: Disk>(
     disk: &mut D,
     second: bool,

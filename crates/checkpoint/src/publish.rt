@@ -47,7 +47,8 @@ fn open<D: Disk>(disk: &mut D, at: usize) -> Result<(), DeviceFailed>
     put(disk, at, &[OPEN])
 }
 
-/// Gives a body to the slot at a place, by six device calls. `gate` tells whether its gate reads as open.
+/// Gives a body to the slot at a place, by six device calls. `gate` tells whether its gate reads as
+/// open.
 pub fn publish<D: Disk>(
     disk: &mut D,
     at: usize,

@@ -6,7 +6,8 @@ use saved_values::SavedTable;
 use std::marker::Model;
 use thiserror::Error;
 
-/// The last epoch of the clearinghouse that began: below 2^63, and 0 where none did. Contracts see the number.
+/// The last epoch of the clearinghouse that began: below 2^63, and 0 where none did. Contracts see
+/// the number.
 #[derive(Clone, Copy, Debug, PartialEq, Eq)]
 pub struct LastEpoch {
     number: u64,
@@ -68,7 +69,8 @@ impl LastEpoch {
     }
 }
 
-/// What a checkpoint keeps: the number of the job, the last epoch, the outcome once there is one, and values of tasks that are saved.
+/// What a checkpoint keeps: the number of the job, the last epoch, the outcome once there is one,
+/// and values of tasks that are saved.
 #[derive(Drop)]
 pub struct CheckpointRecord {
     pub job: u64,
@@ -115,11 +117,11 @@ impl StoreError {
         ensures { result ≡ number_of_error self }
     {
         match self {
-            StoreError::Spent => 62,
-            StoreError::JobMismatch => 70,
-            StoreError::Damaged => 71,
-            StoreError::Device => 72,
-            StoreError::Version => 73,
+            StoreError::Spent => ids::error_numbers::SPENT,
+            StoreError::JobMismatch => ids::error_numbers::JOB_MISMATCH,
+            StoreError::Damaged => ids::error_numbers::DAMAGED,
+            StoreError::Device => ids::error_numbers::DEVICE,
+            StoreError::Version => ids::error_numbers::STORE_VERSION,
         }
     }
 }

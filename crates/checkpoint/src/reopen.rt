@@ -10,9 +10,10 @@ use disk::Disk;
 use ids::Outcome;
 use std::alloc::Global;
 
-/// Commits, whatever comes of it; then a crash; then opens. Answers what the commit answered, and what was opened: the record
-/// before or the new one, and the new one where the commit answered `Ok`. Only the device refuses it. After the crash a device
-/// that can be cut isn't armed any more, and keeps what is read.
+/// Commits, whatever comes of it; then a crash; then opens. Answers what the commit answered, and
+/// what was opened: the record before or the new one, and the new one where the commit answered
+/// `Ok`. Only the device refuses it. After the crash a device that can be cut isn't armed any more,
+/// and keeps what is read.
 pub fn commit_and_reopen<D: Disk>(
     alloc: Global,
     store: Store<D>,

@@ -19,7 +19,8 @@ use saved_values::SavedTable;
 use std::alloc::Global;
 use std::marker::Model;
 
-/// A store that was read, and isn't opened yet. Contracts see its disk, the current record, its sequence and where it stands.
+/// A store that was read, and isn't opened yet. Contracts see its disk, the current record, its
+/// sequence and where it stands.
 #[derive(Drop)]
 pub struct Looked<D: Disk> {
     disk: D,
@@ -41,8 +42,8 @@ impl<D: Disk> Model for Looked<D> {
     ghost invariant = { λ s. IsHeld (bytes_of (D.device s.disk).file) s.slot s.sequence s.current s.gate };
 }
 
-/// An open store. Contracts see its disk, the current record and its sequence, and whether it has ended: a call of the device
-/// failed, and each commit from then on answers E72.
+/// An open store. Contracts see its disk, the current record and its sequence, and whether it has
+/// ended: a call of the device failed, and each commit from then on answers E72.
 #[derive(Drop)]
 pub struct Store<D: Disk> {
     disk: D,
@@ -91,9 +92,9 @@ impl<D: Disk> Looked<D> {
         self.sequence
     }
 
-    /// Opens the store. One of the older form becomes one of the newer form, by eight device calls, and its sequence counts from 0 then;
-    /// else no call is made. Refused, it gives the disk back: E62 where the sequence of a store of the older form is spent, before any
-    /// call, and E72.
+    /// Opens the store. One of the older form becomes one of the newer form, by eight device calls,
+    /// and its sequence counts from 0 then; else no call is made. Refused, it gives the disk back:
+    /// E62 where the sequence of a store of the older form is spent, before any call, and E72.
     pub fn open(self) -> Result<Store<D>, (StoreError, D)>
         ensures opened { IfOk result (λ s. (s.ended ≡ false) × (s.record ≡ self.record)
             × ReadsAsStore (bytes_of (D.device s.disk).file) s.sequence s.record) }
@@ -159,15 +160,17 @@ impl<D: Disk> Looked<D> {
 }
 
 impl<D: Disk> Store<D> {
-    /// Looks for the store of a job, by one read. Refused, it gives the disk back, in this order: E72; E71 for a file that doesn't
-    /// begin as a store; E73 for another version; E71 for one that is no store; E70 for another job.
+    /// Looks for the store of a job, by one read. Refused, it gives the disk back, in this order:
+    /// E72; E71 for a file that doesn't begin as a store; E73 for another version; E71 for one that
+    /// is no store; E70 for another job.
     pub fn look(alloc: Global, disk: D, job: u64) -> Result<Looked<D>, (StoreError, D)>
         ensures found { IfOk result (λ s. ReadsAsStore (bytes_of (D.device disk).file) s.sequence s.record
             × (s.record.job ≡ job)) }
         ensures calls { IfOk result (λ s. Passed opening (D.planned disk) (D.device disk) (D.device s.disk)) }
         ensures plan { IfOk result (λ s. (i : ℕ) → D.planned s.disk i ≡ D.planned disk (i + length opening)) }
 
-        // Where whatever a crash leaves has one current record, that is the one that is found, and it stays so.
+        // Where whatever a crash leaves has one current record, that is the one that is found, and
+        // it stays so.
         ensures kept { IfOk result (λ s. (n : ℕ) (r : StoredRecord) → KeepsRecord (D.device disk).file n r
             → KeepsRecord (D.device s.disk).file s.sequence s.record × (s.record ≡ r)) }
         ensures kept_back { IfErr result (λ e. (n : ℕ) (r : StoredRecord) → KeepsRecord (D.device disk).file n r
@@ -200,9 +203,11 @@ impl<D: Disk> Store<D> {
         }
     }
 
-    /// Opens the store of a job, by one read; one of the older form becomes one of the newer form, by eight further calls, and its sequence
-    /// counts from 0 then. Refused, it gives the disk back, in this order: E72; E71 for a file that doesn't begin as a store; E73 for
-    /// another version; E71 for one that is no store; E70 for another job; E62 where the sequence of one of the older form is spent; E72.
+    /// Opens the store of a job, by one read; one of the older form becomes one of the newer form,
+    /// by eight further calls, and its sequence counts from 0 then. Refused, it gives the disk
+    /// back, in this order: E72; E71 for a file that doesn't begin as a store; E73 for another
+    /// version; E71 for one that is no store; E70 for another job; E62 where the sequence of one of
+    /// the older form is spent; E72.
     pub fn open(alloc: Global, disk: D, job: u64) -> Result<Store<D>, (StoreError, D)>
         ensures opened { IfOk result (λ s. (s.ended ≡ false)
             × ReadsAsStore (bytes_of (D.device s.disk).file) s.sequence s.record × (s.record.job ≡ job)) }
@@ -211,7 +216,8 @@ impl<D: Disk> Store<D> {
             × Passed calls (D.planned disk) (D.device disk) (D.device s.disk)
             × ((i : ℕ) → D.planned s.disk i ≡ D.planned disk (i + length calls))) }
 
-        // Where whatever a crash leaves has one current record, that is the store's, and it stays so.
+        // Where whatever a crash leaves has one current record, that is the store's, and it stays
+        // so.
         ensures kept { IfOk result (λ s. (n : ℕ) (r : StoredRecord) → KeepsRecord (D.device disk).file n r
             → KeepsItself D.device s × (s.record ≡ r)) }
         ensures kept_back { IfErr result (λ e. (n : ℕ) (r : StoredRecord) → KeepsRecord (D.device disk).file n r
@@ -234,8 +240,9 @@ impl<D: Disk> Store<D> {
         }
     }
 
-    /// Commits a record of the job, by six device calls; the values that are saved stay. E72 where one of them fails, which ends the
-    /// store, and in a store that has ended; E62 where the sequence is spent.
+    /// Commits a record of the job, by six device calls; the values that are saved stay. E72 where
+    /// one of them fails, which ends the store, and in a store that has ended; E62 where the
+    /// sequence is spent.
     pub fn commit(&mut self, epoch: LastEpoch, outcome: Option<Outcome>) -> Result<(), StoreError>
         ensures ok { OnOk result (let next = next_of self.old.record epoch outcome in
             self.new ≡ record {
@@ -262,7 +269,8 @@ impl<D: Disk> Store<D> {
             × IsCommit (bytes_of (D.device self.old.disk).file) self.old.sequence self.old.record next calls
             × Stopped calls (D.planned self.old.disk) (D.device self.old.disk) (D.device self.new.disk)) }
 
-        // Where whatever a crash leaves has the current record: then it has the new one, or at any moment that one or the new one.
+        // Where whatever a crash leaves has the current record: then it has the new one, or at any
+        // moment that one or the new one.
         ensures kept { KeepsItself D.device self.old → OnOk result (KeepsItself D.device self.new) }
         ensures either { KeepsItself D.device self.old
             → KeepsOldOr D.device (next_of self.old.record epoch outcome) self.old self.new }
@@ -298,7 +306,8 @@ impl<D: Disk> Store<D> {
             × IsCommit (bytes_of (D.device self.old.disk).file) self.old.sequence self.old.record next calls
             × Stopped calls (D.planned self.old.disk) (D.device self.old.disk) (D.device self.new.disk)) }
 
-        // Where whatever a crash leaves has the current record: then it has the new one, or at any moment that one or the new one.
+        // Where whatever a crash leaves has the current record: then it has the new one, or at any
+        // moment that one or the new one.
         ensures kept { KeepsItself D.device self.old → OnOk result (KeepsItself D.device self.new) }
         ensures either { KeepsItself D.device self.old
             → KeepsOldOr D.device (with_saved self.old.record saved) self.old self.new }
@@ -339,7 +348,8 @@ impl<D: Disk> Store<D> {
             × IsCommit (bytes_of (D.device self.old.disk).file) self.old.sequence self.old.record next calls
             × Stopped calls (D.planned self.old.disk) (D.device self.old.disk) (D.device self.new.disk)) }
 
-        // Where whatever a crash leaves has the current record: then it has the new one, or at any moment that one or the new one.
+        // Where whatever a crash leaves has the current record: then it has the new one, or at any
+        // moment that one or the new one.
         ensures kept { KeepsItself D.device self.old → OnOk result (KeepsItself D.device self.new) }
         ensures either { KeepsItself D.device self.old
             → KeepsOldOr D.device (with_saved (next_of self.old.record epoch outcome) saved) self.old self.new }
@@ -377,7 +387,8 @@ impl<D: Disk> Store<D> {
         &self.current
     }
 
-    /// The sequence of the current record: how many were committed since the store was made, or became one of the newer form.
+    /// The sequence of the current record: how many were committed since the store was made, or
+    /// became one of the newer form.
     pub fn sequence(&self) -> u64
         ensures { result ≡ self.now.sequence }
     {

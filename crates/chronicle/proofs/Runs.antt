@@ -4,7 +4,7 @@ use Rattle.ids.specs.declared.outcome.Outcome.{Outcome}
 use Rattle.disk.specs.Device.{Device}
 use Rattle.serial_meaning.specs.Job.{JobOf, IsJob, meaning_of}
 use Rattle.event_script.specs.declared.event.Event.{Event}
-use Rattle.run_tables.specs.Tables.{◌∈◌}
+use Rattle.table_laws.specs.Tables.{◌∈◌}
 use Rattle.world_steps.specs.declared.parts.EventAnswer.{EventAnswer}
 use Rattle.world_steps.specs.Agrees.{StoredAgree}
 use Rattle.world_steps.specs.Answers.{StepResult}
@@ -16,7 +16,7 @@ use Rattle.world_steps.specs.Safe.{SafeWorld}
 use Rattle.world_steps.specs.Steps.{Step}
 use Rattle.world_steps.specs.World.{WorldOf, first_over}
 use Rattle.world_steps.proofs.Meeting.{first_can}
-use Rattle.safe_runs.proofs.Sound.{all_safe, each_safe}
+use Rattle.run_laws.proofs.Sound.{all_safe, each_safe}
 use Rattle.chronicle.specs.declared.kept.Entry.{Entry}
 use Rattle.chronicle.specs.History.{IsHistory, IsSafeHistory, entry, outcome_told, reached, told_entry}
 use Rattle.chronicle.specs.Kept.{IsLeftBy, OutOfMemoryBy, Reaches}

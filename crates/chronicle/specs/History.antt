@@ -13,7 +13,7 @@ use Rattle.world_steps.specs.First.{IsFirst}
 use Rattle.world_steps.specs.Runs.{Runs, last_of}
 use Rattle.world_steps.specs.Runs.{Entry as RunEntry}
 use Rattle.world_steps.specs.World.{WorldOf, first_over}
-use Rattle.safe_runs.specs.Promises.{AllSafe}
+use Rattle.run_laws.specs.Promises.{AllSafe}
 use Rattle.chronicle.specs.declared.kept.Entry.{Entry}
 
 -- whose event it is: the clearinghouse is actor 0, and the node of place p is actor p + 1

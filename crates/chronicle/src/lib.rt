@@ -21,7 +21,7 @@
 //! one, or on E9 nothing of the seat changes. The trace of `finish` has of each actor just the
 //! entries of its seat, in their order, and no others; it is the history of a run. Where what is
 //! saved on the first disk agrees, as it does on one that was formatted for the job, an outcome
-//! that is told is the job's meaning, and all is promised of this run that `safe_runs` promises: no
+//! that is told is the job's meaning, and all is promised of this run that `run_laws` promises: no
 //! slot is filled twice, each value is the serial program's, no grant has two live holders, an
 //! outcome stays. The script of a trace is read again as just its events, so that whoever has it
 //! can replay the run. What `ready` and `commit_turn` hand out fits the program, so that its turn

@@ -1,5 +1,6 @@
 -- Why a run of a text gives no outcome, by what it came from, and the number of that.
 use Rattle.std.specs.Prelude.{ℕ}
+use Rattle.ids.specs.declared.error_numbers.TheConstants.{RUN_TURNS_SPENT, SPENT, MEMORY}
 use Rattle.jobs.specs.Faults as jobs
 use Rattle.jobs.specs.declared.fault.JobFault.{JobFault}
 use Rattle.jobs.specs.declared.fault.JobFault.TheVariants as job
@@ -24,6 +25,6 @@ of_run run.Memory = solo.Memory
 -- the number of a fault
 abbrev pub number_of_fault : SoloFault → ℕ
 number_of_fault (solo.Job e) = jobs.number_of_fault e
-number_of_fault solo.TurnsSpent = 95
-number_of_fault solo.NumbersSpent = 62
-number_of_fault solo.Memory = 9
+number_of_fault solo.TurnsSpent = RUN_TURNS_SPENT
+number_of_fault solo.NumbersSpent = SPENT
+number_of_fault solo.Memory = MEMORY

@@ -29,9 +29,9 @@ impl SoloFault {
     {
         match self {
             SoloFault::Job(e) => e.number(),
-            SoloFault::TurnsSpent => 95,
-            SoloFault::NumbersSpent => 62,
-            SoloFault::Memory => 9,
+            SoloFault::TurnsSpent => ids::error_numbers::RUN_TURNS_SPENT,
+            SoloFault::NumbersSpent => ids::error_numbers::SPENT,
+            SoloFault::Memory => ids::error_numbers::MEMORY,
         }
     }
 }

@@ -1,4 +1,5 @@
--- Items under names: to change the item of a name is to change it wherever it stands, and to put a new one is to have one more.
+-- Items under names: to change the item of a name is to change it wherever it stands, and to put a
+-- new one is to have one more.
 use Rattle.std.proofs.Common.{◌≡◌, ℕ, ◌+◌, Bool, true, false, List, [], ◌∷◌, map, cond, Option, Some, None, refl, sym, ap, ◌∙◌, Ordering, Less, Equal, Greater, arith}
 use Rattle.std.specs.List.{AllByRecursion}
 use Rattle.std.specs.List.Sorted.{IsStrictlySortedBy}

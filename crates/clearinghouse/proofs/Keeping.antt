@@ -61,7 +61,8 @@ Lists h new = IsListing h.version h.workers → IsListing new.version new.worker
 abbrev AllShort : List Reply → Type 0
 AllShort replies = AllByRecursion (λ r. IsTrue (is_short r.packet.body)) replies
 
--- a step that commits nothing, and leaves the outcome and the root's grant as they were, or no grant
+-- a step that commits nothing, and leaves the outcome and the root's grant as they were, or no
+-- grant
 same : (h new : HouseOf) (sent : List PacketOf) → (AllShort h.replies → AllShort new.replies) → kept_of new ≡ kept_of h → new.outcome ≡ h.outcome → (h.root ≡ None → new.root ≡ None) → Lists h new → KeepsHouse h (sends sent new)
 same h new sent short kept outcome root listing = record {
   holds = λ is. record { decided = λ o there. root (is.decided o (sym outcome ∙ there)); listing = listing is.listing; short = short is.short };
@@ -70,7 +71,8 @@ same h new sent short kept outcome root listing = record {
 }
 
 module _ (job : JobOf) where
-  -- the root's grant is settled after a change of the roster, in a house that keeps as much and has the same grant
+  -- the root's grant is settled after a change of the roster, in a house that keeps as much and has
+  -- the same grant
   settled_by : (h new : HouseOf) (before : List PacketOf) (r : RootGrant) (holder : Option ℕ) → (AllShort h.replies → AllShort new.replies) → kept_of new ≡ kept_of h → new.outcome ≡ h.outcome → h.root ≡ Some r → Lists h new → KeepsHouse h (sends_before before (Moves.settles_to job r holder new))
   settled_by h new before r None short kept outcome root listing = same h (record new { root = None }) _ short kept outcome (λ none. refl) listing
   settled_by h new before r (Some holder) short kept outcome root listing = same h (record new { root = Some (record r { holder = holder }) }) _ short kept outcome (λ none. let wrong : Some r ≡ None = sym root ∙ none in cc) listing

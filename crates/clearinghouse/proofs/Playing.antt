@@ -1,4 +1,5 @@
--- Worked runs of one clearinghouse, computed: what comes to it, call by call, and what all calls together did.
+-- Worked runs of one clearinghouse, computed: what comes to it, call by call, and what all calls
+-- together did.
 use Rattle.std.specs.Prelude.{ℕ, pos, List, [], ◌∷◌, ◌++◌, None, Option, Some}
 use Rattle.codec.specs.Table.{PacketOf}
 use Rattle.codec.specs.declared.body.Body.{Body}

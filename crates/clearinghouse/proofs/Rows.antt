@@ -1,5 +1,5 @@
--- Worked runs of the clearinghouse on the Fibonacci program on 2: members that join, fall silent and leave, the root's grant and
--- the outcome.
+-- Worked runs of the clearinghouse on the Fibonacci program on 2: members that join, fall silent
+-- and leave, the root's grant and the outcome.
 use Rattle.std.specs.Prelude.{◌≡◌, refl, ℕ, pos, ◌-◌, ◌^◌, List, [], ◌∷◌, ◌++◌, Option, None, Some, Ok}
 use Rattle.ids.specs.Members.{follow}
 use Rattle.ids.specs.Names.{Grant, house_of}
@@ -69,7 +69,8 @@ refused i seq = to i (body.Refuse (record { seq = seq }))
 abbrev aborted : ℕ → ℕ → Event
 aborted i number = to i (body.Abort (record { grant = root number }))
 
--- the first epoch begins over a checkpoint that was just formatted, and is committed; none begins behind the last
+-- the first epoch begins over a checkpoint that was just formatted, and is committed; none begins
+-- behind the last
 first_epoch : open_over 500 (record { sequence = 0; epoch = 0; outcome = None; saved = [] }) ≡
     Does (record { after = first; commits = Some (record { sequence = 1; epoch = 1; outcome = None; saved = [] }); sent = [] })
 first_epoch = refl
@@ -100,13 +101,15 @@ joined : (p : Pointer) → events (job_of p) (join 3 ∷ []) ≡ told 3 2 (membe
 unfolding on_body on_packet by_status by_order passes follow
 joined p = refl
 
--- the root is asked for twice with one count: the same Grant twice; another thief, and a newer request, are refused
+-- the root is asked for twice with one count: the same Grant twice; another thief, and a newer
+-- request, are refused
 asked_twice : (p : Pointer) → events (job_of p) (join 3 ∷ join 5 ∷ ask 3 1 ∷ ask 3 1 ∷ ask 5 1 ∷ ask 3 2 ∷ []) ≡
     told 3 2 (member 3 ∷ []) ∷ told 5 3 (member 3 ∷ member 5 ∷ []) ∷ granted 3 1 1 ∷ granted 3 1 1 ∷ refused 5 1 ∷ refused 3 2 ∷ []
 unfolding on_body on_packet by_status by_order passes follow
 asked_twice p = refl
 
--- the root's Result is committed and then acknowledged; the same again is acknowledged alone, and the root isn't granted any more
+-- the root's Result is committed and then acknowledged; the same again is acknowledged alone, and
+-- the root isn't granted any more
 abbrev result : ℕ → ℕ → Call
 result i number = Comes house (body.Result (record { from = i; grant = root number; outcome = Value (pos 1) }))
 
@@ -171,7 +174,8 @@ silent_for_501 : (p : Pointer) → roster_of (after (job_of p) (join 3 ∷ Ticks
 unfolding on_body on_packet by_status by_order passes follow
 silent_for_501 p = refl
 
--- a Beat or another Join counts from the last moment on; one that joined later lives longer, and one version has two deaths
+-- a Beat or another Join counts from the last moment on; one that joined later lives longer, and
+-- one version has two deaths
 abbrev beat : (epoch i version : ℕ) → Call
 beat epoch i version = Comes (house_of epoch) (body.Beat (record { from = i; version = version }))
 
@@ -208,7 +212,8 @@ older_asks : (p : Pointer) → answer_after (job_of p) (join 3 ∷ ask 3 2 ∷ [
 unfolding on_body on_packet by_status by_order passes follow
 older_asks p = refl
 
--- a Beat of another epoch is answered, though nobody of that name is listed; one of this epoch then is ignored
+-- a Beat of another epoch is answered, though nobody of that name is listed; one of this epoch then
+-- is ignored
 other_epoch : (p : Pointer) → answer_after (job_of p) (join 3 ∷ []) (beat 2 5 9) ≡
     Does (sends (roster_packet 5 2 (member 3 ∷ []) ∷ []) (after (job_of p) (join 3 ∷ [])))
 unfolding on_body on_packet by_status by_order passes follow
@@ -218,7 +223,8 @@ unlisted_beats : (p : Pointer) → answer_after (job_of p) (join 3 ∷ []) (beat
 unfolding on_body on_packet by_status by_order passes follow
 unlisted_beats p = refl
 
--- a Beat of an older version is answered, also a dead member's, which isn't heard; one of this version is heard alone
+-- a Beat of an older version is answered, also a dead member's, which isn't heard; one of this
+-- version is heard alone
 older_version : (p : Pointer) → events (job_of p) (join 3 ∷ join 5 ∷ beat 1 3 2 ∷ beat 1 3 3 ∷ []) ≡
     told 3 2 (member 3 ∷ []) ∷ told 5 3 (member 3 ∷ member 5 ∷ []) ∷ told 3 3 (member 3 ∷ member 5 ∷ []) ∷ []
 unfolding on_body on_packet by_status by_order passes follow
@@ -256,7 +262,8 @@ left_to_nobody : (p : Pointer) → members_of (after (job_of p) (join 3 ∷ leav
 unfolding on_body on_packet by_status by_order passes follow
 left_to_nobody p = refl
 
--- to itself, by an heir that left to it: dead. With the root's grant it is told who is listed, and then to stop
+-- to itself, by an heir that left to it: dead. With the root's grant it is told who is listed, and
+-- then to stop
 left_to_itself : (p : Pointer) → events (job_of p) (join 3 ∷ join 5 ∷ ask 3 1 ∷ leave 5 3 ∷ leave 3 5 ∷ []) ≡
     both_told ++ granted 3 1 1 ∷ told 5 4 (member 3 ∷ left 5 3 ∷ []) ∷ told 3 5 (dead 3 ∷ left 5 3 ∷ []) ∷ aborted 3 1 ∷ []
 unfolding on_body on_packet by_status by_order passes follow
@@ -277,15 +284,16 @@ heir_dies : (p : Pointer) → events (job_of p) (join 3 ∷ join 5 ∷ ask 3 1 �
 unfolding on_body on_packet by_status by_order passes follow
 heir_dies p = refl
 
--- the root's holder is dead: it is told to stop, and the root is granted again under another number; the old Result is
--- acknowledged, and the new one is the outcome
+-- the root's holder is dead: it is told to stop, and the root is granted again under another
+-- number; the old Result is acknowledged, and the new one is the outcome
 granted_again : (p : Pointer) → events (job_of p) (join 3 ∷ ask 3 1 ∷ Ticks 501 ∷ join 5 ∷ ask 5 1 ∷ result 3 1 ∷ result 5 2 ∷ []) ≡
     told 3 2 (member 3 ∷ []) ∷ granted 3 1 1 ∷ aborted 3 1 ∷ told 5 4 (dead 3 ∷ member 5 ∷ []) ∷ granted 5 1 2 ∷
     acknowledged 3 1 ∷ Commits (found 2) ∷ acknowledged 5 2 ∷ []
 unfolding on_body on_packet by_status by_order passes follow
 granted_again p = refl
 
--- a packet of another job, to another address, or of a kind that isn't for the clearinghouse is ignored
+-- a packet of another job, to another address, or of a kind that isn't for the clearinghouse is
+-- ignored
 other_job : (p : Pointer) → on_packet (job_of p) (record { job = 2; to = 2 ^ 63; body = body.Join (record { from = 3 }) }) first ≡ Ignored
 unfolding on_body on_packet by_status by_order passes follow
 other_job p = refl

@@ -13,7 +13,8 @@ use Rattle.clearinghouse.specs.declared.error.HouseError.{HouseError}
 use Rattle.clearinghouse.specs.declared.error.HouseError.TheVariants as error
 use Rattle.clearinghouse.specs.declared.parts.Stop.TheVariants as by
 
--- a new epoch begins over what a checkpoint keeps, once it is committed; none where the epochs or the commits are spent
+-- a new epoch begins over what a checkpoint keeps, once it is committed; none where the epochs or
+-- the commits are spent
 abbrev pub next_epoch : Kept → Kept
 next_epoch k = record k { sequence = k.sequence + 1; epoch = k.epoch + 1 }
 
@@ -31,8 +32,8 @@ abbrev pub if_open : State → (HouseOf → HouseAnswer) → HouseAnswer
 if_open (Open h) call = call h
 if_open (Stopped s) call = Refused (error_of_stop s)
 
--- where a clearinghouse stands after a refused call: a call of the device that failed, and being out of memory, stop it; any other
--- refusal changes nothing
+-- where a clearinghouse stands after a refused call: a call of the device that failed, and being
+-- out of memory, stop it; any other refusal changes nothing
 abbrev pub refused_state : HouseError → State → State
 refused_state error.Device state = Stopped by.Device
 refused_state error.Memory state = Stopped by.Memory
@@ -53,7 +54,8 @@ module _ (job : JobOf) where
   abbrev pub on_bytes : List ℕ → State → HouseAnswer
   on_bytes bytes state = if_open state (on_read job (reading bytes))
 
-  -- a moment comes: members that were silent for too long are dead, and then the root's grant is settled
+  -- a moment comes: members that were silent for too long are dead, and then the root's grant is
+  -- settled
   abbrev pub declares_dead : ℕ → HouseOf → HouseStepOf
   declares_dead now h =
       let new : HouseOf = record h { moment = now } in

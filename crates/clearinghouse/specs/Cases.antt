@@ -30,11 +30,13 @@ by_status (Some Live) live gone unlisted = live
 by_status (Some Dead) live gone unlisted = gone
 by_status (Some (Left heir)) live gone unlisted = gone
 
--- a value may be saved: its place is one of a saved value, isn't saved yet, and wouldn't be dropped at once
+-- a value may be saved: its place is one of a saved value, isn't saved yet, and wouldn't be dropped
+-- at once
 abbrev pub may_save : SavedValue → HouseOf → Bool
 may_save x h = is_saved_place x.place && is_taken x h.saved
 
--- Save: of a sender that isn't listed as live, beside an outcome, or of what may not be saved it is ignored; else the value is saved
+-- Save: of a sender that isn't listed as live, beside an outcome, or of what may not be saved it is
+-- ignored; else the value is saved
 abbrev pub saved : Save → HouseOf → HouseAnswer
 saved b h =
     let x : SavedValue = record { place = b.place; value = b.value } in
@@ -43,8 +45,8 @@ saved b h =
     else Refused error.Spent
 
 module _ (job : JobOf) where
-  -- Join: a new worker is listed and heard, if there is room for one more; one that is listed as live is heard; and each is told
-  -- who is listed
+  -- Join: a new worker is listed and heard, if there is room for one more; one that is listed as
+  -- live is heard; and each is told who is listed
   abbrev pub new_joined : ℕ → HouseOf → HouseAnswer
   new_joined i h =
       if nat_lt (length h.workers) 4096 then Does (Moves.tells job i (Moves.lists i h))
@@ -58,19 +60,22 @@ module _ (job : JobOf) where
   abbrev pub free_task : HouseOf → Option Task
   free_task h = if is_some h.root || is_some h.outcome then None else Moves.root_task job
 
-  -- a request that is newer than the last one: the root task is granted if it may be, and else it is refused
+  -- a request that is newer than the last one: the root task is granted if it may be, and else it
+  -- is refused
   abbrev pub served : Steal → Option Task → HouseOf → HouseAnswer
   served b None h = Does (Moves.refuses job b h)
   served b (Some task) h = if nat_lt (h.minted + 1) (2 ^ 64) then Does (Moves.grants job b task h) else Refused error.Spent
 
-  -- Steal: of a thief that isn't listed as live, or older than its last one, it is ignored; the same again gets the last answer
+  -- Steal: of a thief that isn't listed as live, or older than its last one, it is ignored; the
+  -- same again gets the last answer
   abbrev pub stolen : Steal → HouseOf → HouseAnswer
   stolen b h =
       if is_live b.from (members_of h)
       then by_reply (reply_in b.from h.replies) b.seq Ignored (λ reply. Does (sends (reply ∷ []) h)) (served b (free_task h) h)
       else Ignored
 
-  -- Result: that of the root's grant is the outcome, which is committed and then acknowledged; any other is acknowledged
+  -- Result: that of the root's grant is the outcome, which is committed and then acknowledged; any
+  -- other is acknowledged
   abbrev pub returned : TaskResult → HouseOf → HouseAnswer
   returned b h =
       let ack = Moves.packet job b.from (body.ResultAck (record { grant = b.grant })) ∷ [] in
@@ -78,8 +83,8 @@ module _ (job : JobOf) where
       else if nat_lt (h.sequence + 1) (2 ^ 64) then Does (Moves.records b.outcome ack h)
       else Refused error.Spent
 
-  -- Leave: a live member has left, or is dead where nobody else can have its work, and is told so; then the root's grant is
-  -- settled. One that is dead or left is told so again
+  -- Leave: a live member has left, or is dead where nobody else can have its work, and is told so;
+  -- then the root's grant is settled. One that is dead or left is told so again
   abbrev pub leaves : Leave → HouseOf → HouseAnswer
   leaves b h =
       let new = Moves.says b.from (Moves.leaving_status b.from b.heir (members_of h)) h in

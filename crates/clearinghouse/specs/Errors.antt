@@ -1,5 +1,6 @@
 -- The numbers of errors.
 use Rattle.std.specs.Prelude.{ℕ}
+use Rattle.ids.specs.declared.error_numbers.TheConstants.{SPENT, JOB_MISMATCH, DAMAGED, DEVICE, STORE_VERSION, ROSTER_FULL, MEMORY}
 use Rattle.packet_fields.specs.Faults.{number_of_fault}
 use Rattle.checkpoint.specs.declared.record.StoreError.{StoreError}
 use Rattle.checkpoint.specs.declared.record.StoreError.TheVariants as store
@@ -10,13 +11,13 @@ use Rattle.clearinghouse.specs.declared.parts.Stop.TheVariants as by
 
 abbrev pub number_of_error : HouseError → ℕ
 number_of_error (Bytes fault) = number_of_fault fault
-number_of_error Spent = 62
-number_of_error JobMismatch = 70
-number_of_error Damaged = 71
-number_of_error Device = 72
-number_of_error Version = 73
-number_of_error RosterFull = 80
-number_of_error Memory = 9
+number_of_error Spent = SPENT
+number_of_error JobMismatch = JOB_MISMATCH
+number_of_error Damaged = DAMAGED
+number_of_error Device = DEVICE
+number_of_error Version = STORE_VERSION
+number_of_error RosterFull = ROSTER_FULL
+number_of_error Memory = MEMORY
 
 -- what a stopped clearinghouse answers
 abbrev pub error_of_stop : Stop → HouseError

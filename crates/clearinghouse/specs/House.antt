@@ -12,17 +12,18 @@ use Rattle.clearinghouse.specs.declared.parts.Enlisted.{Enlisted}
 use Rattle.clearinghouse.specs.declared.parts.RootGrant.{RootGrant}
 use Rattle.clearinghouse.specs.declared.parts.Stop.{Stop}
 
--- what the checkpoint of a job keeps: the count of its commits, the last epoch that began, the outcome once there is one, and the values
--- that are saved
+-- what the checkpoint of a job keeps: the count of its commits, the last epoch that began, the
+-- outcome once there is one, and the values that are saved
 pub record Kept : Type 0 where
   pub sequence : ℕ
   pub epoch : ℕ
   pub outcome : Option Outcome
   pub saved : List SavedValue
 
--- an open clearinghouse: its epoch; the version of its roster, and the workers on it by rising incarnation; the last moment that
--- it was told, and how long a member may be silent; the root's grant while it is out, and how many grants were minted; the last
--- answer to each thief; the outcome; the count of its checkpoint's commits; and the values that are saved
+-- an open clearinghouse: its epoch; the version of its roster, and the workers on it by rising
+-- incarnation; the last moment that it was told, and how long a member may be silent; the root's
+-- grant while it is out, and how many grants were minted; the last answer to each thief; the
+-- outcome; the count of its checkpoint's commits; and the values that are saved
 pub record HouseOf : Type 0 where
   pub epoch : ℕ
   pub version : ℕ

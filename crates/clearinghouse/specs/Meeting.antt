@@ -44,7 +44,8 @@ IsSaved Ignored saved old = ⊥
 IsSaved (Refused e) saved old = ⊥
 IsSaved (Does s) saved old = s ≡ Moves.saves saved old
 
--- what is to be done by an answer; what is to be committed isn't done yet. Being out of memory may leave a part of it
+-- what is to be done by an answer; what is to be committed isn't done yet. Being out of memory may
+-- leave a part of it
 abbrev pub Acts : HouseAnswer → Result Act HouseError → HouseOf → HouseOf → Type 0
 Acts expected (Ok act.Ignored) old new = (expected ≡ Ignored) × (new ≡ old)
 Acts expected (Ok (act.Sends sent)) old new = IsSent expected sent new
@@ -91,8 +92,8 @@ IsHouseOn on (Stopped s) = Unit {0}
 abbrev pub KeepsOneOf : List Cell → (one other : Stored) → Type 0
 KeepsOneOf file one other = (c : List ℕ) → CrashLeaves file c → (sequence : ℕ) × (ReadsAsStore c sequence one ⊎ ReadsAsStore c sequence other)
 
--- a disk reads as a checkpoint of this job, over which an epoch can begin, and by these calls its store is opened, which counts from here
--- then
+-- a disk reads as a checkpoint of this job, over which an epoch can begin, and by these calls its
+-- store is opened, which counts from here then
 pub record Openable (job : JobOf) (d : Device) : Type 0 where
   pub sequence : ℕ
   pub found : Stored
@@ -156,8 +157,8 @@ module _ {D : Type 0} (device : D → Device) (planned : D → ℕ → Option (L
   Fails (Refused e) old new = (e ≡ error.Device) × (new ≡ old)
   Fails (Does s) old new = FailsToCommit s.commits old new
 
-  -- what is answered is what was to be answered; or a device call of its commit failed, or there was no memory, and then the
-  -- clearinghouse is stopped
+  -- what is answered is what was to be answered; or a device call of its commit failed, or there
+  -- was no memory, and then the clearinghouse is stopped
   abbrev pub HouseMeets : HouseAnswer → Result HouseStep HouseError → (old new : HouseOn D) → Type 0
   HouseMeets expected (Ok step) old new = Carries expected step old new
   HouseMeets expected (Err error.Memory) old new = new ≡ record old { state = Stopped by.Memory }
@@ -169,7 +170,8 @@ module _ {D : Type 0} (device : D → Device) (planned : D → ℕ → Option (L
   HouseMeets expected (Err error.Version) old new = ⊥
   HouseMeets expected (Err error.RosterFull) old new = (expected ≡ Refused error.RosterFull) × (new ≡ old)
 
-  -- a clearinghouse that was opened over a file: its next epoch is committed behind the calls that open its store
+  -- a clearinghouse that was opened over a file: its next epoch is committed behind the calls that
+  -- open its store
   pub record IsOpened (job : JobOf) (limit : ℕ) (disk : D) (new : HouseOn D) : Type 0 where
     pub way : Openable job (device disk)
     pub house : new ≡ record { job = job; state = Open (opened limit (begun_of way)); store = new.store }
@@ -178,7 +180,8 @@ module _ {D : Type 0} (device : D → Device) (planned : D → ℕ → Option (L
     pub plan : (i : ℕ) → planned new.store.disk i ≡ planned disk (i + (6 + length way.opens))
     pub kept : KeepsRecord (device disk).file way.sequence way.found → KeepsNew (device new.store.disk).file new.store.sequence new.store.record
 
-  -- the store of a job, opened by these calls behind a disk, and the epoch that follows the last one
+  -- the store of a job, opened by these calls behind a disk, and the epoch that follows the last
+  -- one
   pub record IsFoundFor (job : JobOf) (disk : D) (store : Opened D) (epoch : ℕ) : Type 0 where
     pub sequence : ℕ
     pub going : store.ended ≡ false

@@ -42,7 +42,8 @@ hears i h = record h { workers = changed (λ w. record w { heard = h.moment }) i
 abbrev pub says : ℕ → Status → HouseOf → HouseOf
 says i status h = with_workers (changed (λ w. record w { status = status }) i h.workers) h
 
--- what becomes of a member that leaves: it left to whoever has its heir's work, if that is another live member; else it is dead
+-- what becomes of a member that leaves: it left to whoever has its heir's work, if that is another
+-- live member; else it is dead
 abbrev pub left_to : ℕ → List Member → Option ℕ → Status
 left_to i members None = Dead
 left_to i members (Some heir) = if not (nat_eq heir i) && is_live heir members then Left heir else Dead
@@ -58,7 +59,8 @@ is_lost limit now w = says_live (Some w.status) && nat_lt limit (now - w.heard)
 abbrev pub declared_dead : (limit now : ℕ) → Enlisted → Enlisted
 declared_dead limit now w = record w { status = if is_lost limit now w then Dead else w.status }
 
--- the outcome comes: it is committed, the root's grant isn't out any more, and then packets are sent
+-- the outcome comes: it is committed, the root's grant isn't out any more, and then packets are
+-- sent
 abbrev pub records : Outcome → List PacketOf → HouseOf → HouseStepOf
 records o sent h = commits sent (record h { outcome = Some o; root = None })
 
@@ -98,8 +100,8 @@ module _ (job : JobOf) where
       let g : Grant = record { minter = name_of h; number = h.minted + 1 } in
       answers b.from b.seq (body.Grant (record { seq = b.seq; grant = g; task = task; saved = h.saved })) (record h { root = Some (record { grant = g; holder = b.from }); minted = h.minted + 1 })
 
-  -- the root's grant by a changed roster: if nobody has its holder's work it isn't out any more, and the holder is told to stop;
-  -- else whoever has that work is its holder
+  -- the root's grant by a changed roster: if nobody has its holder's work it isn't out any more,
+  -- and the holder is told to stop; else whoever has that work is its holder
   abbrev pub settles_to : RootGrant → Option ℕ → HouseOf → HouseStepOf
   settles_to r None h = sends (packet r.holder (body.Abort (record { grant = r.grant })) ∷ []) (record h { root = None })
   settles_to r (Some holder) h = sends [] (record h { root = Some (record r { holder = holder }) })

@@ -4,14 +4,15 @@ use Rattle.codec.specs.Table.{PacketOf}
 use Rattle.clearinghouse.specs.House.{HouseOf, Kept, kept_of}
 use Rattle.clearinghouse.specs.declared.error.HouseError.{HouseError}
 
--- what a step leads to: the clearinghouse after it, what is committed before anything is sent or told, if anything is, and the
--- packets that are then sent, in their order
+-- what a step leads to: the clearinghouse after it, what is committed before anything is sent or
+-- told, if anything is, and the packets that are then sent, in their order
 pub record HouseStepOf : Type 0 where
   pub after : HouseOf
   pub commits : Option Kept
   pub sent : List PacketOf
 
--- what is answered: a packet is ignored, and nothing changes; a call is refused, and nothing changes; or a step
+-- what is answered: a packet is ignored, and nothing changes; a call is refused, and nothing
+-- changes; or a step
 pub data HouseAnswer : Type 0 where
   Ignored : HouseAnswer
   Refused : HouseError → HouseAnswer

@@ -120,7 +120,8 @@ impl ItemChange<Enlisted> for DeclareDead {
     }
 }
 
-/// Where a worker's work is: with itself, with nobody, or with whoever has that of its heir, here by the word of its start.
+/// Where a worker's work is: with itself, with nobody, or with whoever has that of its heir, here
+/// by the word of its start.
 #[derive(Clone, Copy, PartialEq, Eq, Debug)]
 pub enum Link {
     Here,
@@ -199,7 +200,8 @@ impl Book {
         matches!(self.status(worker), Some(Status::Live))
     }
 
-    /// Who has a worker's work, from heir to heir; nobody where it is dead. At most as many steps as workers are listed.
+    /// Who has a worker's work, from heir to heir; nobody where it is dead. At most as many steps
+    /// as workers are listed.
     pub fn resolve(&self, worker: Incarnation) -> Option<Incarnation>
         requires { IsListing self.now.version self.now.workers }
         ensures { result ≡ members.resolve (members_of self.now) worker }
@@ -305,8 +307,8 @@ impl Book {
         self.version = version;
     }
 
-    /// What becomes of a member that leaves: it left to whoever has its heir's work, if that is another live member; else it is
-    /// dead.
+    /// What becomes of a member that leaves: it left to whoever has its heir's work, if that is
+    /// another live member; else it is dead.
     pub fn leaving_status(&self, from: Incarnation, heir: Incarnation) -> Status
         requires { IsListing self.now.version self.now.workers }
         ensures { result ≡ moves.leaving_status from heir (members_of self.now) }

@@ -1,4 +1,5 @@
-//! What a packet or a moment does to what an open clearinghouse holds: each kind by a case of its own.
+//! What a packet or a moment does to what an open clearinghouse holds: each kind by a case of its
+//! own.
 ghost use Rattle.std.specs.Prelude.{◌≡◌, ◌+◌, ◌<◌, ◌≤◌, ◌^◌, ◌++◌, length, Some, None, IfOk, IsTrue, OnOk, [], ◌∷◌, true};
 ghost use Rattle.ids.specs.Members.{is_live, status_in};
 ghost use Rattle.ids.specs.Names.{house_of};
@@ -96,7 +97,8 @@ impl Book {
         Ok(Act::Sends(roster_alone(alloc, job, self, worker)?))
     }
 
-    /// A worker asks to be listed: a new one is, one that is listed as live is heard, and each is told who is listed.
+    /// A worker asks to be listed: a new one is, one that is listed as live is heard, and each is
+    /// told who is listed.
     #[tactic(auto, unfolding(crate::specs::Cases::by_status), using(crate::proofs::Listing::heard_listing))]
     fn joined(&mut self, alloc: Global, job: &Job, join: Join) -> Result<Act, HouseError>
         requires { IsHouse self.old }
@@ -125,8 +127,8 @@ impl Book {
         self.tell(alloc, job, join.from)
     }
 
-    /// A thief asks for work: of one that isn't listed as live, or that asks what it asked before its last request, it is
-    /// ignored; the same request again gets the same answer.
+    /// A thief asks for work: of one that isn't listed as live, or that asks what it asked before
+    /// its last request, it is ignored; the same request again gets the same answer.
     #[tactic(auto, unfolding(steal_protocol::specs::Replies::by_order))]
     fn stolen(&mut self, alloc: Global, job: &Job, steal: Steal) -> Result<Act, HouseError>
         requires { IsHouse self.old }
@@ -142,8 +144,8 @@ impl Book {
         }
     }
 
-    /// A request that is newer than the thief's last one: the root task is granted while it isn't and there is no outcome, and
-    /// else it is refused.
+    /// A request that is newer than the thief's last one: the root task is granted while it isn't
+    /// and there is no outcome, and else it is refused.
     fn serve(&mut self, alloc: Global, job: &Job, steal: Steal) -> Result<Act, HouseError>
         ensures { Acts (cases.served job.now steal (cases.free_task job.now self.old) self.old)
             result self.old self.new }
@@ -224,8 +226,9 @@ impl Book {
         Ok(Act::Records(back.outcome, sent))
     }
 
-    /// A value comes that may be saved: of a sender that isn't listed as live, beside an outcome, of a place of which no value is saved or
-    /// one is already, and where it would be dropped at once it is ignored.
+    /// A value comes that may be saved: of a sender that isn't listed as live, beside an outcome,
+    /// of a place of which no value is saved or one is already, and where it would be dropped at
+    /// once it is ignored.
     fn saved(&mut self, save: &Save) -> Result<Act, HouseError>
         ensures { Acts (cases.saved save.now self.old) result self.old self.new }
     {
@@ -291,8 +294,8 @@ impl Book {
         Ok(Act::Sends(sent))
     }
 
-    /// The root's grant by a changed roster: whoever has its holder's work is its holder; where nobody has, it isn't out any more,
-    /// and the holder is told to stop.
+    /// The root's grant by a changed roster: whoever has its holder's work is its holder; where
+    /// nobody has, it isn't out any more, and the holder is told to stop.
     fn settle(
         &mut self,
         alloc: Global,
@@ -318,8 +321,8 @@ impl Book {
         Ok(())
     }
 
-    /// A Beat: a listed worker of this epoch is heard while it is live, and told who is listed where its roster is older; one of
-    /// another epoch is told.
+    /// A Beat: a listed worker of this epoch is heard while it is live, and told who is listed
+    /// where its roster is older; one of another epoch is told.
     fn beats(
         &mut self,
         alloc: Global,
@@ -366,8 +369,8 @@ impl Book {
         Ok(Act::Sends(Listed::new(alloc)))
     }
 
-    /// A moment comes: members that were silent for too long are dead, and then the root's grant is settled. One that is no later
-    /// than the last changes nothing.
+    /// A moment comes: members that were silent for too long are dead, and then the root's grant is
+    /// settled. One that is no later than the last changes nothing.
     #[tactic(auto, unfolding(crate::specs::Calls::passes))]
     pub fn pass(
         &mut self,

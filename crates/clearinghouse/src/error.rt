@@ -5,7 +5,8 @@ use packet_fields::Fault;
 use std::alloc::AllocError;
 use thiserror::Error;
 
-/// Why a call of the clearinghouse is refused. It changes nothing then, except that E72 and E9 stop the clearinghouse.
+/// Why a call of the clearinghouse is refused. It changes nothing then, except that E72 and E9 stop
+/// the clearinghouse.
 #[derive(Clone, Copy, PartialEq, Eq, Debug, Error)]
 pub enum HouseError {
     /// E30 to E36: the bytes are no packet.
@@ -43,13 +44,13 @@ impl HouseError {
     {
         match self {
             HouseError::Bytes(fault) => fault.number(),
-            HouseError::Spent => 62,
-            HouseError::JobMismatch => 70,
-            HouseError::Damaged => 71,
-            HouseError::Device => 72,
-            HouseError::Version => 73,
-            HouseError::RosterFull => 80,
-            HouseError::Memory => 9,
+            HouseError::Spent => ids::error_numbers::SPENT,
+            HouseError::JobMismatch => ids::error_numbers::JOB_MISMATCH,
+            HouseError::Damaged => ids::error_numbers::DAMAGED,
+            HouseError::Device => ids::error_numbers::DEVICE,
+            HouseError::Version => ids::error_numbers::STORE_VERSION,
+            HouseError::RosterFull => ids::error_numbers::ROSTER_FULL,
+            HouseError::Memory => ids::error_numbers::MEMORY,
         }
     }
 }

@@ -23,8 +23,8 @@ use serial_meaning::Job;
 use std::alloc::Global;
 use std::marker::Model;
 
-/// A clearinghouse of a job, over a disk. Contracts see the job, where the clearinghouse stands, open or stopped, and its
-/// checkpoint's store.
+/// A clearinghouse of a job, over a disk. Contracts see the job, where the clearinghouse stands,
+/// open or stopped, and its checkpoint's store.
 #[derive(Drop)]
 pub struct House<'a, D: Disk> {
     job: &'a Job,
@@ -70,11 +70,13 @@ fn sends(sent: Listed<Datagram>) -> HouseStep
 }
 
 impl<'a, D: Disk> House<'a, D> {
-    /// Opens the clearinghouse of a job over its checkpoint, and commits a new epoch: nobody is listed, and the root isn't
-    /// granted. `limit` is how long a member may be silent. Refused, it gives the disk back, in this order: E72; E71 for a file
-    /// that doesn't begin as a checkpoint; E73 for another version; E71 for one that is none; E70 for another job; E62 where the
-    /// epochs or the commits are spent, before anything is written; E72 where a call of the commit failed, or one by which a checkpoint of
-    /// the older form becomes one of the newer form. Takes no memory but for what it reads.
+    /// Opens the clearinghouse of a job over its checkpoint, and commits a new epoch: nobody is
+    /// listed, and the root isn't granted. `limit` is how long a member may be silent. Refused, it
+    /// gives the disk back, in this order: E72; E71 for a file that doesn't begin as a checkpoint;
+    /// E73 for another version; E71 for one that is none; E70 for another job; E62 where the epochs
+    /// or the commits are spent, before anything is written; E72 where a call of the commit failed,
+    /// or one by which a checkpoint of the older form becomes one of the newer form. Takes no
+    /// memory but for what it reads.
     pub fn open(
         alloc: Global,
         disk: D,
@@ -84,11 +86,13 @@ impl<'a, D: Disk> House<'a, D> {
         ensures opened { IfOk result (λ h. IsOpened D.device D.planned job.now limit disk h) }
         ensures refused { IfErr result (λ e. IsRefusedOver D.device D.planned e.0 job.now disk e.1) }
 
-        // Where a store of this job is read, it is opened, or the device failed, or no epoch or commit is left.
+        // Where a store of this job is read, it is opened, or the device failed, or no epoch or
+        // commit is left.
         ensures alone { IfErr result (λ e. (n : ℕ) (r : Stored)
             → ReadsAsStore (bytes_of (D.device disk).file) n r → r.job ≡ job.now.number
             → (e.0 ≡ HouseError.Device) ⊎ (e.0 ≡ HouseError.Spent)) }
-        // Where whatever a crash leaves has one current record, it has that one or the one of the new epoch.
+        // Where whatever a crash leaves has one current record, it has that one or the one of the
+        // new epoch.
         ensures kept_back { IfErr result (λ e. (n : ℕ) (r : Stored) → KeepsRecord (D.device disk).file n r
             → KeepsOneOf (D.device e.1).file r (next_of r (r.epoch + 1) r.outcome)) }
     {
@@ -98,10 +102,12 @@ impl<'a, D: Disk> House<'a, D> {
         }
     }
 
-    /// What comes in a packet's bytes is done, by the kind of the packet. Bytes that are no packet are refused (E30 to E36), and
-    /// nothing changes; a packet of another job, or to somebody else, is ignored. E80 where a new worker joins and 4,096 are
-    /// listed, E62 where a grant or a commit can't be counted any more; nothing changes then. E72 where a call of the device
-    /// failed, and E9 where there is no memory: both stop it, and a stopped one answers each call by what stopped it.
+    /// What comes in a packet's bytes is done, by the kind of the packet. Bytes that are no packet
+    /// are refused (E30 to E36), and nothing changes; a packet of another job, or to somebody else,
+    /// is ignored. E80 where a new worker joins and 4,096 are listed, E62 where a grant or a commit
+    /// can't be counted any more; nothing changes then. E72 where a call of the device failed, and
+    /// E9 where there is no memory: both stop it, and a stopped one answers each call by what
+    /// stopped it.
     pub fn on_bytes(&mut self, alloc: Global, bytes: &[u8]) -> Result<HouseStep, HouseError>
         ensures meets { HouseMeets D.device D.planned (calls.on_bytes self.old.job bytes.now self.old.state)
             result self.old self.new }
@@ -144,9 +150,9 @@ impl<'a, D: Disk> House<'a, D> {
         }
     }
 
-    /// A moment comes: each live member that was last heard more than the limit before it is dead, and then the root's grant is
-    /// settled. One that is no later than the last changes nothing. Refused only when out of memory (E9), which stops it, and
-    /// where it is stopped.
+    /// A moment comes: each live member that was last heard more than the limit before it is dead,
+    /// and then the root's grant is settled. One that is no later than the last changes nothing.
+    /// Refused only when out of memory (E9), which stops it, and where it is stopped.
     pub fn tick(&mut self, alloc: Global, now: u64) -> Result<HouseStep, HouseError>
         ensures meets { HouseMeets D.device D.planned (calls.tick self.old.job now self.old.state)
             result self.old self.new }
@@ -165,7 +171,8 @@ impl<'a, D: Disk> House<'a, D> {
         }
     }
 
-    /// The outcome, once there is one. Refused where the clearinghouse is stopped, by what stopped it.
+    /// The outcome, once there is one. Refused where the clearinghouse is stopped, by what stopped
+    /// it.
     pub fn outcome(&self) -> Result<Option<Outcome>, HouseError>
         ensures { result ≡ calls.outcome self.now.state }
     {
@@ -296,7 +303,9 @@ fn commit_outcome<D: Disk>(book: &mut Book, store: &mut Store<D>, outcome: Outco
     }
 }
 
-/// Other saved values are committed, and then kept; whether the device carried the commit out.
+/// Other saved values are committed, and then kept; whether the device carried the commit out. It
+/// isn't compiled into the call that asks, which would make room for its values with every packet.
+#[inline(never)]
 fn commit_saved<D: Disk>(book: &mut Book, store: &mut Store<D>, saved: SavedTable) -> bool
     requires counted { book.old.sequence + 1 < 2 ^ 64 }
     requires stored { store.old ≡ record store.old { sequence = book.old.sequence; ended = false } }

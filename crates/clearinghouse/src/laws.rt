@@ -12,8 +12,8 @@ ghost use Rattle.clearinghouse.specs.Steps.{HouseStepOf, Refused, Does, sends};
 ghost use Rattle.clearinghouse.specs.declared.error.HouseError.{HouseError};
 ghost use Rattle.clearinghouse.specs.declared.parts.Stop.{Stop as StopOf};
 
-/// By each packet and each moment an outcome stays, what changes of what the checkpoint keeps is committed, and the roster stays
-/// one that can be told.
+/// By each packet and each moment an outcome stays, what changes of what the checkpoint keeps is
+/// committed, and the roster stays one that can be told.
 pub fn each_step()
     ensures opened { (limit : ℕ) (k : Kept) → IsHouse (opened limit k) }
     ensures packet { (job : JobOf) (p : PacketOf) (h : HouseOf) (s : HouseStepOf) → on_packet job p h ≡ Does s
@@ -21,8 +21,8 @@ pub fn each_step()
     ensures moment { (job : JobOf) (now : ℕ) (h : HouseOf) → KeepsHouse h (passes job now h) }
 {}
 
-/// A packet that is one is refused at a limit alone: E80 where 4,096 members are listed, E62 where the grants or the commits are
-/// spent.
+/// A packet that is one is refused at a limit alone: E80 where 4,096 members are listed, E62 where
+/// the grants or the commits are spent.
 pub fn refusals()
     ensures { (job : JobOf) (p : PacketOf) (h : HouseOf) (e : HouseError) → on_packet job p h ≡ Refused e → IsDue h e }
 {}

@@ -1,4 +1,5 @@
-//! The clearinghouse: it lists the workers of an epoch, grants the root task, and keeps the outcome in a checkpoint.
+//! The clearinghouse: it lists the workers of an epoch, grants the root task, and keeps the outcome
+//! in a checkpoint.
 #![tactic(auto)]
 
 mod book;

@@ -51,16 +51,16 @@ impl Stop {
     }
 }
 
-/// What a call of the clearinghouse did: the packets that it sends, in their order, and whether it ignored a packet,
-/// which changes nothing.
+/// What a call of the clearinghouse did: the packets that it sends, in their order, and whether it
+/// ignored a packet, which changes nothing.
 #[derive(Drop)]
 pub struct HouseStep {
     pub sent: Listed<Datagram>,
     pub ignored: bool,
 }
 
-/// What is to be done by a packet or at a moment: it is ignored; packets are sent; an outcome is recorded, and then packets are sent; or
-/// these values are saved.
+/// What is to be done by a packet or at a moment: it is ignored; packets are sent; an outcome is
+/// recorded, and then packets are sent; or these values are saved.
 #[derive(Drop)]
 pub enum Act {
     Ignored,

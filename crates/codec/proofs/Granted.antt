@@ -1,4 +1,5 @@
--- Grants, with saved values or without: when they can be written, and that their values stand by the order of their places then.
+-- Grants, with saved values or without: when they can be written, and that their values stand by
+-- the order of their places then.
 use Rattle.std.proofs.Common.{◌≡◌, ◌≤◌, ◌^◌, ℕ, zero, suc, Bool, true, false, not, nat_le, nat_lt, List, [], ◌∷◌, length, map, Option, Some, None, Ordering, Less, Equal, Greater, IsTrue, refl, sym, ap, arith}
 use Rattle.std.specs.Prelude.{◌&&◌}
 use Rattle.std.specs.List.{AllByRecursion, list_all}

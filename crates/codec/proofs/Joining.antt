@@ -1,4 +1,5 @@
--- All parts of bytes, in their order, are the bytes; and so what is read of the parts of an offer is the offer.
+-- All parts of bytes, in their order, are the bytes; and so what is read of the parts of an offer
+-- is the offer.
 use Rattle.std.proofs.Common.{◌≡◌, ℕ, zero, suc, ◌+◌, ◌*◌, ◌≤◌, true, List, [], ◌∷◌, ◌++◌, length, drop, take, Ok, refl, sym, ap, subst, ◌∙◌, arith}
 use Rattle.std.proofs.lemmas.List.{append-nil, drop-drop, length-append, nil_from_length, take-append-drop}
 use Rattle.codec.specs.Pieces.{AreOf, PartOf, RiseFrom, joined, long_reading, part_at, parts_of}

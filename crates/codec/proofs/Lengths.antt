@@ -1,4 +1,5 @@
--- How many bytes a format writes at most, of what can be written. A packet that is no offer takes fewer than are allowed.
+-- How many bytes a format writes at most, of what can be written. A packet that is no offer takes
+-- fewer than are allowed.
 use Rattle.std.proofs.Common.{◌≡◌, ℕ, zero, suc, ◌+◌, ◌*◌, ◌^◌, ◌≤◌, ◌<◌, Bool, true, false, cond, not, eqb, leb, ltb, List, [], ◌∷◌, ◌++◌, length, reverse, Option, Some, None, ap, ◌∙◌, arith}
 use Rattle.std.specs.Prelude.{◌&&◌}
 use Rattle.std.proofs.lemmas.Bool.{and_parts, eqb-true, leb-true, ltb-true}

@@ -1,4 +1,5 @@
--- Members by rising incarnation, at most 4,096, none of which is its own heir, are those of a roster.
+-- Members by rising incarnation, at most 4,096, none of which is its own heir, are those of a
+-- roster.
 use Rattle.std.proofs.Common.{◌≡◌, ◌<◌, ◌≤◌, ◌^◌, ℕ, Bool, true, false, cond, eqb, nat_lt, List, [], ◌∷◌, length, map, Option, Some, None, Less, Equal, Greater, refl, arith}
 use Rattle.std.specs.Prelude.{IsTrue}
 use Rattle.std.specs.List.{AllByRecursion, list_all}

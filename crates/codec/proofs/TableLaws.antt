@@ -1,4 +1,5 @@
--- The formats of the table keep the laws of formats: those of each kind, those of the fields by kinds, and the packet.
+-- The formats of the table keep the laws of formats: those of each kind, those of the fields by
+-- kinds, and the packet.
 use Rattle.std.proofs.Common.{◌≡◌, ℕ, zero, suc, ◌^◌, ◌<◌, ◌≤◌, Bool, true, false, ◌||◌, cond, eqb, ltb, List, [], ◌∷◌, ◌++◌, length, Result, Ok, Err, refl, sym, ap, subst, ◌∙◌, arith}
 use Rattle.std.specs.Prelude.{◌&&◌, IfOk, nat_eq, not}
 use mathlib.Core.Logic.{⊎_elim}

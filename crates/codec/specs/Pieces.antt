@@ -1,4 +1,5 @@
--- What it is to cut an offer into pieces, each with a part of the offer's spelling, and to join parts again.
+-- What it is to cut an offer into pieces, each with a part of the offer's spelling, and to join
+-- parts again.
 use Rattle.std.specs.Prelude.{◌≡◌, ◌<◌, ◌≤◌, ℕ, zero, suc, ◌+◌, ◌*◌, ◌/◌, ◌&&◌, Bool, not, nat_eq, nat_lt, if◌then◌else◌, List, [], ◌∷◌, length, drop, take, Result, Ok, Err}
 use Rattle.std.specs.List.{flat_map}
 use Rattle.ids.specs.Named.{Name}

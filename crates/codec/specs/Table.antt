@@ -67,7 +67,8 @@ task_result = made (followed field.worker (λ _. followed field.grant (λ _. fie
 unfoldable pub result_ack : Format ResultAck
 result_ack = made field.grant (λ x. record { grant = x }) (λ b. b.grant)
 
--- a subcomputation for the heir: frames and records have numbers below the next one, and there are none where it is finished
+-- a subcomputation for the heir: frames and records have numbers below the next one, and there are
+-- none where it is finished
 unfoldable pub offer : Format Offer
 offer =
     made
@@ -256,7 +257,8 @@ fields kind = record {
 abbrev pub is_kind : ℕ → Bool
 is_kind kind = nat_lt 0 kind && nat_lt kind 16
 
--- the version in which a kind is spelled: a Piece, a Save and a SavedGrant in the second, all others in the first
+-- the version in which a kind is spelled: a Piece, a Save and a SavedGrant in the second, all
+-- others in the first
 abbrev pub version_of : ℕ → ℕ
 version_of kind = if nat_lt kind 13 then 1 else 2
 
@@ -272,8 +274,8 @@ has_kind version kind = is_kind kind && nat_eq (version_of kind) version
 abbrev pub is_house : ℕ → Bool
 is_house word = nat_lt (2 ^ 63) word && nat_lt word (2 ^ 64)
 
--- whom a kind goes to: Join to the clearinghouse of any epoch, Steal and Result to an actor, Leave, Beat and Save to the
--- clearinghouse in an epoch, all others to a worker
+-- whom a kind goes to: Join to the clearinghouse of any epoch, Steal and Result to an actor, Leave,
+-- Beat and Save to the clearinghouse in an epoch, all others to a worker
 abbrev pub suits : ℕ → ℕ → Bool
 suits kind to =
     if nat_eq kind 1 then nat_eq to (2 ^ 63)

@@ -10,8 +10,8 @@ pub struct Join {
     pub from: Incarnation,
 }
 
-/// The clearinghouse tells a worker who is listed: the members by rising incarnation, at most 4,096. Each change of the
-/// roster raises its version by 1.
+/// The clearinghouse tells a worker who is listed: the members by rising incarnation, at most
+/// 4,096. Each change of the roster raises its version by 1.
 #[derive(Drop)]
 pub struct Roster {
     pub epoch: Epoch,
@@ -26,8 +26,9 @@ pub struct Steal {
     pub seq: Count,
 }
 
-/// The answer to a request: a task, under the name of a new grant, and values that are saved below the task's place, at most 64 by the
-/// order of their places. With one or more of these it is spelled as a SavedGrant.
+/// The answer to a request: a task, under the name of a new grant, and values that are saved below
+/// the task's place, at most 64 by the order of their places. With one or more of these it is
+/// spelled as a SavedGrant.
 #[derive(Drop)]
 pub struct Grant {
     pub seq: Count,
@@ -56,9 +57,10 @@ pub struct ResultAck {
     pub grant: GrantId,
 }
 
-/// A worker that leaves offers a subcomputation to its heir: its grant, how often it has moved with this move, the host of
-/// the subcomputation that waits for it, how far it is, its root task, the number of its next frame, its frames by rising
-/// number and its records by rising grant. A finished one has neither frames nor records.
+/// A worker that leaves offers a subcomputation to its heir: its grant, how often it has moved with
+/// this move, the host of the subcomputation that waits for it, how far it is, its root task, the
+/// number of its next frame, its frames by rising number and its records by rising grant. A
+/// finished one has neither frames nor records.
 #[derive(Drop)]
 pub struct Offer {
     pub from: Incarnation,
@@ -100,8 +102,9 @@ pub struct Beat {
     pub version: Count,
 }
 
-/// A part of an offer that is too long for one packet: who leaves, the grant, how often it has moved with this move, into how many
-/// parts the offer's spelling is cut, which of them this is, counted from 0, and its bytes.
+/// A part of an offer that is too long for one packet: who leaves, the grant, how often it has
+/// moved with this move, into how many parts the offer's spelling is cut, which of them this is,
+/// counted from 0, and its bytes.
 #[derive(Drop)]
 pub struct Piece {
     pub from: Incarnation,
@@ -112,7 +115,8 @@ pub struct Piece {
     pub bytes: Listed<u8>,
 }
 
-/// A worker hands the value of a task, with the task's place, to the clearinghouse, which may save it.
+/// A worker hands the value of a task, with the task's place, to the clearinghouse, which may save
+/// it.
 #[derive(Drop)]
 pub struct Save {
     pub from: Incarnation,

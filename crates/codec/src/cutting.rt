@@ -19,9 +19,10 @@ const PART_BYTES: usize = 65_536;
 /// The spelling of an offer has at most so many bytes: those of 16,384 parts.
 const MOST_OFFERED: usize = 1_073_741_824;
 
-/// Adds a packet, as it goes, to those that are sent: an Offer whose spelling has more than 65,536 bytes in Pieces, each with
-/// the next 65,536 of these, the last one with those that are left, and each other packet as it is. E30 only where an Offer's
-/// spelling has more than 1,073,741,824 bytes, E9 where there is no memory; some of the Pieces may have been added then.
+/// Adds a packet, as it goes, to those that are sent: an Offer whose spelling has more than 65,536
+/// bytes in Pieces, each with the next 65,536 of these, the last one with those that are left, and
+/// each other packet as it is. E30 only where an Offer's spelling has more than 1,073,741,824
+/// bytes, E9 where there is no memory; some of the Pieces may have been added then.
 pub fn send_cut(
     alloc: Global,
     sent: &mut Listed<Datagram>,
@@ -144,8 +145,9 @@ fn part_at(alloc: Global, bytes: &[u8], number: u16) -> Result<Listed<u8>, Alloc
     Ok(Listed::from_vec(part))
 }
 
-/// A part with as many bytes as it may have can be written, since these are below 256, as their type sees to it: the prover
-/// then has what the type keeps. It has no effect, and an optimised build leaves nothing of it.
+/// A part with as many bytes as it may have can be written, since these are below 256, as their
+/// type sees to it: the prover then has what the type keeps. It has no effect, and an optimised
+/// build leaves nothing of it.
 fn see_part(pieces: u16, number: u16, bytes: &[u8])
     requires { IsTrue (field.allows_part pieces number (length bytes.now)) }
     ensures { IsTrue ((field.part pieces number).fits bytes.now) }

@@ -27,7 +27,8 @@ impl Model for Datagram {
 }
 
 impl Datagram {
-    /// A packet is written. E30 only where its spelling has more than 1,048,576 bytes, E9 where there is no memory.
+    /// A packet is written. E30 only where its spelling has more than 1,048,576 bytes, E9 where
+    /// there is no memory.
     pub fn of(alloc: Global, packet: &Packet) -> Result<Datagram, EncodeError>
         ensures packet { IfOk result (λ d. d ≡ packet.now) }
         ensures few { OnOk result (length (table.packet.write packet.now) ≤ 1048576) }
@@ -39,7 +40,8 @@ impl Datagram {
         Ok(Datagram { bytes })
     }
 
-    /// A packet that is no offer is written, which is never too big. Refused only when out of memory.
+    /// A packet that is no offer is written, which is never too big. Refused only when out of
+    /// memory.
     pub fn short(alloc: Global, packet: &Packet) -> Result<Datagram, AllocError>
         requires { IsTrue (is_short packet.now.body) }
         ensures { IfOk result (λ d. d ≡ packet.now) }
@@ -65,7 +67,8 @@ impl Datagram {
     }
 }
 
-/// Adds a packet, which is no offer, to those that are sent. Refused only when out of memory, which leaves them as they were.
+/// Adds a packet, which is no offer, to those that are sent. Refused only when out of memory, which
+/// leaves them as they were.
 pub fn send(alloc: Global, sent: &mut Listed<Datagram>, packet: &Packet) -> Result<(), AllocError>
     requires { IsTrue (is_short packet.now.body) }
     ensures ok { OnOk result (sent.new ≡ sent.old ++ packet.now ∷ []) }

@@ -119,8 +119,8 @@ fn whole(alloc: Global, bytes: &[u8]) -> Result<Packet, ReadError>
     Ok(Packet { job, to, body })
 }
 
-/// The packet that the bytes, however many, spell, or the first fault. The bytes are looked through before any memory is
-/// taken.
+/// The packet that the bytes, however many, spell, or the first fault. The bytes are looked through
+/// before any memory is taken.
 fn read_all(alloc: Global, bytes: &[u8]) -> Result<Packet, ReadError>
     ensures read { Gives (λ x. x) result (long_reading bytes.now) }
     // Memory runs out for a packet alone.
@@ -130,10 +130,11 @@ fn read_all(alloc: Global, bytes: &[u8]) -> Result<Packet, ReadError>
     whole(alloc, bytes)
 }
 
-/// The packet that the bytes spell, or the first fault that a reader from the front meets: E30 over 1,048,576 bytes, E31
-/// where they end inside a field, E32 for another magic, E33 for another version, E34 for no kind, E35 for a field outside
-/// its range or out of order, E36 for bytes behind the last field. The bytes are looked through before any memory is taken;
-/// so E9, where there is none, comes for bytes that spell a packet alone.
+/// The packet that the bytes spell, or the first fault that a reader from the front meets: E30 over
+/// 1,048,576 bytes, E31 where they end inside a field, E32 for another magic, E33 for another
+/// version, E34 for no kind, E35 for a field outside its range or out of order, E36 for bytes
+/// behind the last field. The bytes are looked through before any memory is taken; so E9, where
+/// there is none, comes for bytes that spell a packet alone.
 pub fn decode(alloc: Global, bytes: &[u8]) -> Result<Packet, ReadError>
     // What is answered is spelled so.
     ensures found { IfOk result (λ p. Spells bytes.now p) }
@@ -150,8 +151,8 @@ pub fn decode(alloc: Global, bytes: &[u8]) -> Result<Packet, ReadError>
     read_all(alloc, bytes)
 }
 
-/// The packet that the joined parts of its spelling are, of which there may be any number of bytes: as `decode`, but without
-/// E30.
+/// The packet that the joined parts of its spelling are, of which there may be any number of bytes:
+/// as `decode`, but without E30.
 pub fn decode_joined(alloc: Global, bytes: &[u8]) -> Result<Packet, ReadError>
     ensures read { Gives (λ x. x) result (long_reading bytes.now) }
     // Memory runs out for a packet alone.

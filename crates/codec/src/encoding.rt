@@ -30,8 +30,8 @@ impl EncodeError {
         ensures { result ≡ number_of_error self }
     {
         match self {
-            EncodeError::TooBig => 30,
-            EncodeError::Memory => 9,
+            EncodeError::TooBig => ids::error_numbers::PACKET_TOO_BIG,
+            EncodeError::Memory => ids::error_numbers::MEMORY,
         }
     }
 }
@@ -62,7 +62,8 @@ fn put(packet: &Packet, out: &mut Vec<u8>) -> Result<(), AllocError>
     Ok(())
 }
 
-/// The one spelling of a packet. E30 only where it has more than 1,048,576 bytes, E9 where there is no memory.
+/// The one spelling of a packet. E30 only where it has more than 1,048,576 bytes, E9 where there is
+/// no memory.
 pub fn encode(alloc: Global, packet: &Packet) -> Result<Vec<u8>, EncodeError>
     // What is written is the packet's spelling.
     ensures written { IfOk result (λ v. Spells v.items packet.now) }
@@ -80,8 +81,8 @@ pub fn encode(alloc: Global, packet: &Packet) -> Result<Vec<u8>, EncodeError>
     Ok(out)
 }
 
-/// The one spelling of a packet that is no offer: it has at most 69,670 bytes, so it is never too big. Refused only when out of
-/// memory.
+/// The one spelling of a packet that is no offer: it has at most 69,670 bytes, so it is never too
+/// big. Refused only when out of memory.
 pub fn encode_short(alloc: Global, packet: &Packet) -> Result<Vec<u8>, AllocError>
     requires { IsTrue (table.is_short packet.now.body) }
     ensures written { IfOk result (λ v. v.items ≡ table.packet.write packet.now) }

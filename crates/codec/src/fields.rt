@@ -1,4 +1,5 @@
-//! The fields of each kind of packet, listed once, for reading, for writing and for the test of what can be written.
+//! The fields of each kind of packet, listed once, for reading, for writing and for the test of
+//! what can be written.
 ghost use Rattle.std.specs.Prelude.{◌≡◌, ◌++◌, IfSome, IsNone, OnOk, false};
 ghost use Rattle.packet_fields.specs.Format.{Gives, Reads, end_of};
 ghost use Rattle.codec.specs.Table as table;
@@ -16,9 +17,10 @@ pub const FIRST_VERSION: u8 = 1;
 /// The version in which these are spelled.
 pub const SECOND_VERSION: u8 = 2;
 
-/// Hands the table of kinds to another macro: a kind's number, the kind, the variant of its bodies, which of these it is where another
-/// kind has the rest, their struct, and the fields with their formats in the order of their bytes. A format may depend on fields before
-/// it. A Grant that has saved values is a SavedGrant, which so stands before Grant.
+/// Hands the table of kinds to another macro: a kind's number, the kind, the variant of its bodies,
+/// which of these it is where another kind has the rest, their struct, and the fields with their
+/// formats in the order of their bytes. A format may depend on fields before it. A Grant that has
+/// saved values is a SavedGrant, which so stands before Grant.
 macro_rules! each_field {
     ($mode:ident ! $($args:tt)*) => {
         $mode! { [$($args)*]
@@ -124,7 +126,8 @@ impl Kind {
         each_field!(numbered_arms! number)
     }
 
-    /// The version in which a packet of the kind is spelled: 2 for a Piece, a Save and a SavedGrant, else 1.
+    /// The version in which a packet of the kind is spelled: 2 for a Piece, a Save and a
+    /// SavedGrant, else 1.
     pub fn version(self) -> u8
         ensures { result ≡ table.version_of (table.number_of self) }
     {

@@ -8,7 +8,8 @@ ghost use Rattle.codec.specs.declared.body.Grant.{Grant};
 ghost use Rattle.codec.specs.declared.body.Roster.{Roster};
 ghost use Rattle.saved_values.specs.Saved.{IsSavedList};
 
-/// A packet has one spelling, and a spelling one packet; and the packets that have one are those that can be made.
+/// A packet has one spelling, and a spelling one packet; and the packets that have one are those
+/// that can be made.
 pub fn one_to_one()
     ensures spelling { (a b : List ℕ) → (p : PacketOf) → Spelling a p → Spelling b p → a ≡ b }
     ensures packet { (a : List ℕ) → (p q : PacketOf) → Spelling a p → Spelling a q → p ≡ q }
@@ -21,7 +22,8 @@ pub fn rosters_rise()
     ensures { (r : Roster) → IsTrue (fits_body (body.Roster r)) → AreInOrder name_of_member r.members }
 {}
 
-/// The saved values of a Grant that can be written stand by the order of their places, and are at most 64.
+/// The saved values of a Grant that can be written stand by the order of their places, and are at
+/// most 64.
 pub fn saved_values_rise()
     ensures { (g : Grant) → IsTrue (fits_body (body.Grant g)) → IsSavedList g.saved }
 {}

@@ -18,8 +18,8 @@ use packet_fields::fits;
 use saved_values::SavedValue;
 use std::marker::Model;
 
-/// A packet that can be written, but for its size: the number of its job, whom it goes to and what it says. Contracts see
-/// these three.
+/// A packet that can be written, but for its size: the number of its job, whom it goes to and what
+/// it says. Contracts see these three.
 #[derive(Drop)]
 pub struct Packet {
     pub(crate) job: u64,
@@ -39,10 +39,11 @@ impl Model for Packet {
 }
 
 impl Packet {
-    /// The packet of a job with this body to this address; none where the address doesn't suit the kind (a Join goes to
-    /// the clearinghouse of any epoch; a Steal and a Result to a worker or to the clearinghouse in an epoch; a Leave, a
-    /// Beat and a Save to the clearinghouse in an epoch; all others to a worker), or where the body has a field that a packet can't
-    /// hold, as a roster out of order.
+    /// The packet of a job with this body to this address; none where the address doesn't suit the
+    /// kind (a Join goes to the clearinghouse of any epoch; a Steal and a Result to a worker or to
+    /// the clearinghouse in an epoch; a Leave, a Beat and a Save to the clearinghouse in an epoch;
+    /// all others to a worker), or where the body has a field that a packet can't hold, as a roster
+    /// out of order.
     pub fn of(job: u64, to: Address, body: Body) -> Option<Packet>
         ensures { result ≡ (if table.is_packet (record { job = job; to = to; body = body }) then Some
             (record { job = job; to = to; body = body }) else None) }
@@ -66,7 +67,8 @@ impl Packet {
         }
     }
 
-    /// A worker is told who is listed: at most 4,096 members, by rising incarnation, none of which is its own heir.
+    /// A worker is told who is listed: at most 4,096 members, by rising incarnation, none of which
+    /// is its own heir.
     #[tactic(auto, using(crate::proofs::Rosters::members_fit), unfolding(crate::specs::Table::roster, packet_fields::specs::Fields::epoch, packet_fields::specs::Fields::counted))]
     pub fn roster(job: u64, to: Incarnation, roster: Roster) -> Packet
         requires few { length roster.members ≤ 4096 }
@@ -187,7 +189,8 @@ impl Packet {
         }
     }
 
-    /// A worker tells the clearinghouse in its epoch that it has left to an heir, which is another worker.
+    /// A worker tells the clearinghouse in its epoch that it has left to an heir, which is another
+    /// worker.
     #[tactic(auto, unfolding(crate::specs::Table::leave, packet_fields::specs::Fields::worker))]
     pub fn leave(job: u64, epoch: Epoch, leave: Leave) -> Packet
         requires { nat_eq leave.heir leave.from ≡ false }
@@ -245,8 +248,9 @@ impl Packet {
     }
 }
 
-/// The words of members and of their heirs are those of workers, as their types see to it: the prover then has what the
-/// types keep. It has no effect, and an optimised build leaves nothing of it.
+/// The words of members and of their heirs are those of workers, as their types see to it: the
+/// prover then has what the types keep. It has no effect, and an optimised build leaves nothing of
+/// it.
 fn see_workers(members: &[Member])
     ensures { IsTrue (list_all names_workers members.now) }
 {
@@ -258,8 +262,8 @@ fn see_workers(members: &[Member])
     }
 }
 
-/// Saved values can each be written, as their types see to it: the prover then has what the types keep. It has no effect, and an
-/// optimised build leaves nothing of it.
+/// Saved values can each be written, as their types see to it: the prover then has what the types
+/// keep. It has no effect, and an optimised build leaves nothing of it.
 fn see_saved(values: &[SavedValue])
     ensures { IsTrue (list_all (field.saved_value None).fits values.now) }
 {

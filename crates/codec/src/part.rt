@@ -1,7 +1,8 @@
 use ids::{Listed, Named};
 use std::marker::Model;
 
-/// A part of an offer's spelling that has come in a Piece: which it is, counted from 0, and its bytes.
+/// A part of an offer's spelling that has come in a Piece: which it is, counted from 0, and its
+/// bytes.
 #[derive(Drop)]
 pub struct Part {
     pub number: u16,

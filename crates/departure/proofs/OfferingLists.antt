@@ -14,7 +14,8 @@ none_first test x xs none = by_tests (test x) (list_any test xs) none
     by_tests true b is = absurd cc
     by_tests false b is = (refl, is)
 
--- where none has moved for the last time and no Offer is too big, all can be offered; and the reverse
+-- where none has moved for the last time and no Offer is too big, all can be offered; and the
+-- reverse
 pub movable : (m : Move) (subs : List SubOf) → list_any is_last_hop subs ≡ false → list_any is_too_big (wholes m subs) ≡ false → AreMovable m subs
 movable m [] hops sizes = tt
 movable m (s ∷ subs) hops sizes =

@@ -1,4 +1,5 @@
--- Where the values of a sound content go: to the whole, or to a slot below 8 of a frame below the next one.
+-- Where the values of a sound content go: to the whole, or to a slot below 8 of a frame below the
+-- next one.
 use Rattle.std.proofs.Common.{◌≡◌, ℕ, ℤ, ◌+◌, ◌<◌, ◌≤◌, ◌&&◌, zero, suc, Bool, true, false, nat_eq, List, [], ◌∷◌, length, Option, refl, arith}
 use Rattle.std.specs.List.{AllByRecursion, slice_get, sum_by}
 use Rattle.std.proofs.lemmas.List.Sums.{sum_by-cons}

@@ -34,7 +34,8 @@ refusal m pending members subs =
     else if list_any is_too_big (wholes m subs) then Some error.TooBig
     else None
 
--- the Offers are made where nothing is in the way. Being out of memory comes behind all refusals but that of too many bytes
+-- the Offers are made where nothing is in the way. Being out of memory comes behind all refusals
+-- but that of too many bytes
 abbrev pub Freezes : Option FreezeError → List PacketOf → Result (List PacketOf) FreezeError → Type 0
 Freezes refused offers (Ok sent) = (refused ≡ None) × (sent ≡ offers)
 Freezes refused offers (Err error.Pending) = refused ≡ Some error.Pending

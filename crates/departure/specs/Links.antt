@@ -1,4 +1,5 @@
--- Names of numbers and of the places where values go, by which the frames and records of a content are compared.
+-- Names of numbers and of the places where values go, by which the frames and records of a content
+-- are compared.
 use Rattle.std.specs.Prelude.{◌≡◌, ◌<◌, ◌≤◌, ℕ, ◌+◌, ◌&&◌, Bool, nat_eq, List, sum_by}
 use Rattle.ids.specs.Named.{Name}
 use Rattle.ids.specs.declared.returns.Return.{Return}

@@ -26,15 +26,16 @@ use sub_rules::Content;
 use subcomputation::Sub;
 use victim_records::Records;
 
-/// What an Offer of a packet hands on, where it fits the program and the node that it comes to, which holds these
-/// subcomputations; none where it doesn't; refused only when out of memory.
+/// What an Offer of a packet hands on, where it fits the program and the node that it comes to,
+/// which holds these subcomputations; none where it doesn't; refused only when out of memory.
 ///
-/// It fits where the threads of its task, of its frames and of its records' tasks are there and take as many numbers as
-/// these have numbers or slots. Unless it is finished, it also has to fit together and be foreign: no two of its frames and
-/// records have one number; each value that is awaited, that of the whole and one for each empty slot, is owed once, by a
-/// frame or a record, and nothing else is owed; and no grant of its records was minted at this node, nor does a
-/// subcomputation here have a record of it. With n frames, records and slots in it, that takes time n log n; the grants of the
-/// records here are put in order once more.
+/// It fits where the threads of its task, of its frames and of its records' tasks are there and
+/// take as many numbers as these have numbers or slots. Unless it is finished, it also has to fit
+/// together and be foreign: no two of its frames and records have one number; each value that is
+/// awaited, that of the whole and one for each empty slot, is owed once, by a frame or a record,
+/// and nothing else is owed; and no grant of its records was minted at this node, nor does a
+/// subcomputation here have a record of it. With n frames, records and slots in it, that takes time
+/// n log n; the grants of the records here are put in order once more.
 pub fn accept_offer(
     alloc: Global,
     checked: &Checked,
@@ -55,8 +56,8 @@ pub fn accept_offer(
     Ok(Some(sub_of(alloc, offer)?))
 }
 
-/// Whether the threads of the task, of the frames and of the records' tasks are there and take as many numbers as these
-/// have.
+/// Whether the threads of the task, of the frames and of the records' tasks are there and take as
+/// many numbers as these have.
 fn fits_program(checked: &Checked, offer: &Offer) -> bool
     ensures { result ≡ (fitting.task_fits checked.now offer.now.task && list_all
         (fitting.frame_fits checked.now) offer.now.frames && list_all (fitting.record_fits checked.now)
@@ -174,7 +175,8 @@ impl Mark {
     }
 }
 
-/// Whether the numbers of frames and records differ, and each value that is awaited is owed once and nothing else is owed.
+/// Whether the numbers of frames and records differ, and each value that is awaited is owed once
+/// and nothing else is owed.
 fn is_linked(alloc: Global, offer: &Offer) -> Result<bool, AllocError>
     ensures { IfOk result (λ linked. linked ≡ fitting.is_linked (offered offer.now).content) }
 {
@@ -244,7 +246,8 @@ fn are_same(alloc: Global, left: &[Mark], right: &[Mark]) -> Result<bool, AllocE
     }
 }
 
-/// These names, rising: so they are put behind the others, and taken from the end of what is left, where no other has to move.
+/// These names, rising: so they are put behind the others, and taken from the end of what is left,
+/// where no other has to move.
 fn sorted(alloc: Global, names: &[Mark]) -> Result<Vec<Mark>, AllocError>
     ensures { IfOk result (λ sorted. IsPermutation names.now sorted.items) }
 {
@@ -267,7 +270,8 @@ fn kept(alloc: Global, names: &[Mark]) -> Result<Option<SortedMap<Mark>>, AllocE
     Ok(Some(kept))
 }
 
-/// Takes names away, from the last one on, up to the first that isn't there any more; whether all of them were there.
+/// Takes names away, from the last one on, up to the first that isn't there any more; whether all
+/// of them were there.
 fn take_each(rest: &mut SortedMap<Mark>, names: &[Mark]) -> bool
     ensures { MatchBool result (links.AreTaken names.now rest.old rest.new) (links.HasMore names.now rest.old) }
 {

@@ -45,11 +45,11 @@ impl FreezeError {
         ensures { result ≡ number_of_error self }
     {
         match self {
-            FreezeError::Pending => 50,
-            FreezeError::TooBig => 51,
-            FreezeError::HopSpent => 52,
-            FreezeError::NoHeir => 53,
-            FreezeError::Memory => 9,
+            FreezeError::Pending => ids::error_numbers::PENDING,
+            FreezeError::TooBig => ids::error_numbers::OFFER_TOO_BIG,
+            FreezeError::HopSpent => ids::error_numbers::HOP_SPENT,
+            FreezeError::NoHeir => ids::error_numbers::NO_HEIR,
+            FreezeError::Memory => ids::error_numbers::MEMORY,
         }
     }
 }
@@ -63,10 +63,12 @@ pub struct Move {
 }
 
 impl Move {
-    /// The Offers of all that is held, by rising grant, each as a packet to the heir, or in Pieces where its spelling has more
-    /// than 65,536 bytes. Of the refusals the first of these comes: E50 where a request is pending, E53 where the heir isn't
-    /// another live member, E52 where a subcomputation has moved 2^32 - 1 times, E51 where an Offer has more than
-    /// 1,073,741,824 bytes. E9 where there is no memory, which may come in the place of E51. What is held stays as it is.
+    /// The Offers of all that is held, by rising grant, each as a packet to the heir, or in Pieces
+    /// where its spelling has more than 65,536 bytes. Of the refusals the first of these comes: E50
+    /// where a request is pending, E53 where the heir isn't another live member, E52 where a
+    /// subcomputation has moved 2^32 - 1 times, E51 where an Offer has more than 1,073,741,824
+    /// bytes. E9 where there is no memory, which may come in the place of E51. What is held stays
+    /// as it is.
     pub fn freeze_all(
         &self,
         alloc: Global,
@@ -257,7 +259,8 @@ fn law_job_is_a_number(job: u64)
     let _ = job;
 }
 
-/// What fits an accepted program has threads below 64, with at most 8 numbers or slots. Does nothing.
+/// What fits an accepted program has threads below 64, with at most 8 numbers or slots. Does
+/// nothing.
 fn law_what_fits_is_few(checked: &Checked)
     ensures { (c : declared.Content) → Fits checked.now c → IsFew c }
 {

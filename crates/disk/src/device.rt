@@ -8,22 +8,24 @@ use thiserror::Error;
 
 /// A call of a device failed: by the device, or when out of memory.
 #[derive(Clone, Copy, Debug, PartialEq, Eq, Error)]
-#[error("E72")]
+#[error("E{number}", number = ids::error_numbers::DEVICE)]
 pub struct DeviceFailed;
 
 /// A device that holds one file.
 ///
-/// Between two syncs each written range, and what stands past the old end, may hold any bytes after a crash; bytes outside
-/// stay. After a sync that succeeds a crash leaves what a read gives.
+/// Between two syncs each written range, and what stands past the old end, may hold any bytes after
+/// a crash; bytes outside stay. After a sync that succeeds a crash leaves what a read gives.
 ///
-/// A call that fails, for whatever reason, is counted, and settles the file as a crash would. In a device that can be cut it isn't
-/// carried out, and the bytes are planned. In another one it may have been, and by which bytes the file is settled isn't told: such
-/// a device fails each call from then on, and leaves it to whoever opens the file anew to find them.
+/// A call that fails, for whatever reason, is counted, and settles the file as a crash would. In a
+/// device that can be cut it isn't carried out, and the bytes are planned. In another one it may
+/// have been, and by which bytes the file is settled isn't told: such a device fails each call from
+/// then on, and leaves it to whoever opens the file anew to find them.
 pub trait Disk {
     /// The file, and what is known of failures.
     ghost device: { Self → Device };
 
-    /// The failures that are planned: the bytes by which the call after so many others is to settle the file, if it is to fail.
+    /// The failures that are planned: the bytes by which the call after so many others is to settle
+    /// the file, if it is to fail.
     ghost planned: { Self → ℕ → Option (List ℕ) };
 
     /// Whether a call failed of a device that can't be cut. No call passes any more.
@@ -45,7 +47,8 @@ pub trait Disk {
             ⊎ (0 < most × 0 < length (device self.old).file)) }
         ensures plan { (i : ℕ) → planned self.new i ≡ planned self.old (suc i) };
 
-    /// Writes bytes over those at a place, and past the end. It fails where that place is behind the end.
+    /// Writes bytes over those at a place, and past the end. It fails where that place is behind
+    /// the end.
     fn write_at(&mut self, at: usize, bytes: &[u8]) -> Result<(), DeviceFailed>
         ensures place { OnOk result (at ≤ length (device self.old).file) }
         ensures ok { OnOk result (device self.new ≡ passed (device self.old)
@@ -101,14 +104,15 @@ pub trait Disk {
     fn can_cut(&self) -> bool
         ensures { result ≡ (device self.now).can_cut };
 
-    /// Lets so many calls pass. The next one settles the file, by rising offset, what isn't synced becoming these bytes in turn
-    /// and the rest staying as written last. It fails, as does each one after it up to `crash`.
+    /// Lets so many calls pass. The next one settles the file, by rising offset, what isn't synced
+    /// becoming these bytes in turn and the rest staying as written last. It fails, as does each
+    /// one after it up to `crash`.
     fn arm(&mut self, calls: u64, bytes: Vec<u8>)
         ensures armed { IsTrue (device self.old).can_cut → device self.new ≡ armed (device self.old) calls bytes.items }
         ensures unmoved { (device self.old).can_cut ≡ false → self.new ≡ self.old };
 
-    /// Settles what is left unsynced, by the armed bytes if any, and as written last behind their end. Lets all calls pass from
-    /// then on.
+    /// Settles what is left unsynced, by the armed bytes if any, and as written last behind their
+    /// end. Lets all calls pass from then on.
     fn crash(&mut self)
         ensures crashed { IsTrue (device self.old).can_cut → device self.new ≡ crashed (device self.old) }
         ensures unmoved { (device self.old).can_cut ≡ false → self.new ≡ self.old };

@@ -3,8 +3,8 @@ ghost use Rattle.std.specs.Prelude.{◌≡◌, ◌<◌, ℕ, suc, Option, None, 
 use crate::{DeviceFailed, Disk, MemDisk};
 use std::alloc::Global;
 
-/// A disk in memory of which one chosen call fails, and which then goes on: for tests of what stands on a disk. What is armed
-/// stays so.
+/// A disk in memory of which one chosen call fails, and which then goes on: for tests of what
+/// stands on a disk. What is armed stays so.
 #[derive(Drop)]
 pub struct FailOnce {
     inner: MemDisk,
@@ -17,7 +17,8 @@ impl FailOnce {
     ghost use Rattle.disk.specs.Device.{Failed, and_once, once_after, passed};
     ghost use Rattle.disk.specs.Memory.{device_of, planned_of};
 
-    /// The call after so many others fails and settles the file by these bytes, unless the disk is armed to fail it.
+    /// The call after so many others fails and settles the file by these bytes, unless the disk is
+    /// armed to fail it.
     pub fn new(inner: MemDisk, calls: u64, bytes: Vec<u8>) -> FailOnce
         ensures device { ⟦<FailOnce as Disk>⟧.device result ≡ ⟦<MemDisk as Disk>⟧.device inner }
         ensures planned { (i : ℕ) → ⟦<FailOnce as Disk>⟧.planned result i

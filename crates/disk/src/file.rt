@@ -1,5 +1,5 @@
-//! A disk over a file of the system. What a file holds is no matter of proof: the contracts speak of the bytes that this
-//! process read and wrote, and each read is held against them.
+//! A disk over a file of the system. What a file holds is no matter of proof: the contracts speak
+//! of the bytes that this process read and wrote, and each read is held against them.
 ghost use Rattle.std.specs.Prelude.{◌≡◌, ◌+◌, ◌%◌, ◌^◌, ◌<◌, ◌≤◌, None, IsTrue, false, not, length, IfOk, refl};
 
 use crate::cells::{self, Cell};
@@ -14,9 +14,10 @@ const MOST: usize = 8192;
 
 /// A disk over an open file. It can't be cut.
 ///
-/// Its content is at most the first 8,192 bytes of the file: what stands behind them is never read, and a write that would end
-/// behind them fails. A read that doesn't give what was read and written before fails. After a call that failed, for whatever
-/// reason, each call fails: what the file then holds is for whoever opens it anew to find.
+/// Its content is at most the first 8,192 bytes of the file: what stands behind them is never read,
+/// and a write that would end behind them fails. A read that doesn't give what was read and written
+/// before fails. After a call that failed, for whatever reason, each call fails: what the file then
+/// holds is for whoever opens it anew to find.
 #[derive(Drop)]
 pub struct FileDisk<F> {
     file: F,
@@ -65,8 +66,8 @@ impl<F: FileExt + OpenFile + Drop> FileDisk<F> {
     ghost use Rattle.disk.specs.Device.{Unarmed};
     ghost use Rattle.disk.specs.File.{CrashLeaves, bytes_of, synced};
 
-    /// Over a file that is open for reading and writing, which it syncs and reads. The entry of a new file in its folder is for
-    /// the caller to sync.
+    /// Over a file that is open for reading and writing, which it syncs and reads. The entry of a
+    /// new file in its folder is for the caller to sync.
     pub fn new(alloc: Global, file: F) -> io::Result<FileDisk<F>>
         ensures durable { IfOk result (λ disk. Only (bytes_of (⟦<FileDisk<F> as Disk>⟧.device disk).file)
             (CrashLeaves (⟦<FileDisk<F> as Disk>⟧.device disk).file)) }
@@ -88,7 +89,8 @@ impl<F: FileExt + OpenFile + Drop> FileDisk<F> {
         })
     }
 
-    // Counts a failed call, after which each call is to fail: so nothing is read any more of what the file is settled to.
+    // Counts a failed call, after which each call is to fail: so nothing is read any more of what
+    // the file is settled to.
     fn give_up(&mut self) -> DeviceFailed
         ensures cells { self.new.cells.items ≡ synced self.old.cells.items }
         ensures failures { self.new.failures ≡ (self.old.failures + 1) % 2 ^ 64 }
@@ -100,7 +102,8 @@ impl<F: FileExt + OpenFile + Drop> FileDisk<F> {
         DeviceFailed
     }
 
-    // Whether so many bytes may be written at a place: not behind the end, and within the first bytes that are the content.
+    // Whether so many bytes may be written at a place: not behind the end, and within the first
+    // bytes that are the content.
     fn can_write(&self, at: usize, len: usize) -> bool
         ensures place { IsTrue result → at ≤ length self.now.cells.items }
         ensures within { IsTrue result → at + len ≤ MOST }

@@ -7,6 +7,6 @@ pub enum NarratorFault {
     #[error("file")]
     Unwritten,
     /// E9: there is no memory for a line.
-    #[error("E9")]
+    #[error("E{number}", number = ids::error_numbers::MEMORY)]
     Memory,
 }

@@ -14,7 +14,8 @@ pub enum Filled {
     Ready(u16),
 }
 
-/// The frames of one subcomputation, each number once. Contracts see the list of them, by rising number.
+/// The frames of one subcomputation, each number once. Contracts see the list of them, by rising
+/// number.
 #[derive(Drop)]
 pub struct Frames {
     frames: SortedMap<Frame>,
@@ -68,8 +69,8 @@ impl Frames {
         self.frames.get(name(number))
     }
 
-    /// Puts a frame under its number, in the place of one that is there; refused only when out of memory, which changes
-    /// nothing.
+    /// Puts a frame under its number, in the place of one that is there; refused only when out of
+    /// memory, which changes nothing.
     pub fn insert(&mut self, frame: Frame) -> Result<(), AllocError>
         ensures ok { OnOk result (self.new ≡ put_frame frame self.old) }
         ensures err { OnErr result (self.new ≡ self.old) }
@@ -77,8 +78,8 @@ impl Frames {
         self.frames.put(frame)
     }
 
-    /// Adds the frames of a join, numbered from `first` on, which is above all numbers that are there; refused only when out of
-    /// memory, which changes nothing.
+    /// Adds the frames of a join, numbered from `first` on, which is above all numbers that are
+    /// there; refused only when out of memory, which changes nothing.
     pub fn insert_join(&mut self, first: FrameNo, frames: Vec<Frame>) -> Result<(), AllocError>
         requires below { AreBelow first self.old }
         requires numbered { AreNumbered first frames.items }
@@ -127,8 +128,8 @@ impl Frames {
         self.state(number)
     }
 
-    /// Takes away a frame that is ready; none where no frame has the number or it still waits, and then nothing changes.
-    /// Takes no memory.
+    /// Takes away a frame that is ready; none where no frame has the number or it still waits, and
+    /// then nothing changes. Takes no memory.
     pub fn remove_ready(&mut self, number: FrameNo) -> Option<Frame>
         ensures same { result ≡ if_ready (frame_in number self.old) }
         ensures gone { self.new ≡ (if is_some result then without_frame number self.old else self.old) }
@@ -148,7 +149,8 @@ impl Frames {
         self.frames.take(name(number))
     }
 
-    /// Takes the frame of a number away, ready or not, if there is one, and lets it go. Takes no memory.
+    /// Takes the frame of a number away, ready or not, if there is one, and lets it go. Takes no
+    /// memory.
     pub fn discard(&mut self, number: FrameNo)
         ensures { self.new ≡ without_frame number self.old }
     {

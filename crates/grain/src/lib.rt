@@ -18,6 +18,7 @@ mod kept;
 mod large;
 mod left;
 mod sizes;
+mod threads;
 
 pub use kept::KeptValues;
 pub use left::{Left, evaluate, takes_its_numbers};

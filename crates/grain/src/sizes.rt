@@ -4,15 +4,12 @@ ghost use Rattle.kind_check.specs.Total.{Takes};
 
 use crate::budget::Budget;
 use crate::large::LargeTasks;
-use crate::left::{LEVELS, Left};
+use crate::left::Left;
+use crate::threads::Threads;
 use kind_check::{BlockCode, Checked, EndCode, Leaf};
 use node_core::Work;
 use serial_meaning::Whole;
 use std::alloc::{AllocError, Global};
-
-/// After how many evaluations in a row that came to their end the next ones keep values on few
-/// levels.
-const MOST_ENDED: u64 = 64;
 
 /// In how many turns a node's next task should be evaluated, and which ones are known to be large,
 /// by those before.
@@ -20,10 +17,7 @@ const MOST_ENDED: u64 = 64;
 pub struct TaskSizes {
     budget: Budget,
     large: LargeTasks,
-    // On how many levels the next evaluation keeps values, and how many of the last ones came to
-    // their end in a row.
-    levels: u16,
-    ended: u64,
+    threads: Threads,
 }
 
 impl TaskSizes {
@@ -32,9 +26,8 @@ impl TaskSizes {
     pub fn new(alloc: Global, most_turns: u64) -> Result<TaskSizes, AllocError> {
         Ok(TaskSizes {
             budget: Budget::new(most_turns),
-            large: LargeTasks::new(alloc)?,
-            levels: LEVELS,
-            ended: 0,
+            large: LargeTasks::new(alloc),
+            threads: Threads::new(alloc)?,
         })
     }
 
@@ -43,10 +36,10 @@ impl TaskSizes {
         self.budget.most_turns()
     }
 
-    /// On how many levels below it the evaluation of the next task keeps what was finished and what
-    /// was under way.
-    pub fn levels(&self) -> u16 {
-        self.levels
+    /// On how many levels below it the evaluation of a thread's next task keeps what was finished
+    /// and what was under way.
+    pub fn levels(&self, thread: u8) -> u16 {
+        self.threads.levels(thread)
     }
 
     /// Whether a ready frame's task takes one turn, as its thread spawns nothing, and tasks are
@@ -60,18 +53,25 @@ impl TaskSizes {
     /// Whether a ready frame's task is known to be large, which it isn't any more then, or isn't
     /// tried, as its thread's tasks are.
     pub fn was_large(&mut self, work: &Work) -> bool {
-        self.large.take(work) || self.large.pass_over(work.thread)
+        self.large.take(work) || self.threads.pass_over(work.thread)
     }
 
-    /// A task was evaluated to its end. Where those before it were too, the next ones keep few
-    /// values.
+    /// A task was evaluated to its end.
     pub fn succeed(&mut self, whole: &Whole) {
         self.budget.succeed(whole.turns());
-        self.large.succeed(whole.thread());
-        self.ended = self.ended.saturating_add(1);
-        if self.ended >= MOST_ENDED {
-            self.levels = LEVELS;
-        }
+        self.threads.succeed(whole.thread(), whole.turns());
+    }
+
+    /// In at most how many turns a ready frame's task is evaluated where it is small by those of
+    /// its thread before it, so that it is done sooner than another thread is told of it; 0 where
+    /// it isn't.
+    pub fn few_turns(&self, thread: u8) -> u64 {
+        self.threads.few_turns(thread)
+    }
+
+    /// A task took more turns than those of its thread before it.
+    pub fn misjudge(&mut self, thread: u8) {
+        self.threads.misjudge(thread);
     }
 
     /// A frame is carried out by a value that was kept.
@@ -91,9 +91,7 @@ impl TaskSizes {
         } = left;
         if turns > 0 {
             self.budget.fail(turns);
-            self.large.fail(thread);
-            self.levels = levels;
-            self.ended = 0;
+            self.threads.fail(thread, levels);
         }
         self.large.learn(large);
         kept
@@ -102,6 +100,7 @@ impl TaskSizes {
     /// Nothing is known of tasks any more.
     pub fn forget(&mut self) {
         self.large.forget();
+        self.threads.forget();
         self.budget.forget();
     }
 }

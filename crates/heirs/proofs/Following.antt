@@ -62,7 +62,8 @@ ends_nowhere members i p round k =
     let far : IsFar members i k = goes_far members i p round k in
     fewer members k far.most i far.above far.none
 
--- a worker's heirs were followed to one of them, and so many more may be; some steps lead there from a mark
+-- a worker's heirs were followed to one of them, and so many more may be; some steps lead there
+-- from a mark
 pub record IsOnTheWay (members : List Member) (worker mark at left : ℕ) : Type 0 where
   pub rest : follow left members at ≡ resolve members worker
   pub steps : ℕ

@@ -1,4 +1,5 @@
--- What is said of a worker, by looking through members one after another, and whether these stand in order.
+-- What is said of a worker, by looking through members one after another, and whether these stand
+-- in order.
 use Rattle.std.proofs.Common.{◌≡◌, ℕ, ◌+◌, ◌<◌, ◌≤◌, ◌==◌, ◌↔◌, nat_lt, Bool, true, false, List, ◌∷◌, map, length, drop, cond, get_or, Some, None, IsTrue, refl, sym, ap, ◌∙◌, arith, Less, Equal, Greater}
 use Rattle.std.specs.List.{IsAllAdjacentAnswer}
 use Rattle.std.specs.Ordering.{is_eq, nat_cmp, ordering_then}

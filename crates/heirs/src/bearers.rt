@@ -45,8 +45,8 @@ impl Model for Bearers {
 }
 
 impl Bearers {
-    /// Looks through a roster's members once: time about their number, times its logarithm, however long the chains of
-    /// heirs are. Refused only when out of memory.
+    /// Looks through a roster's members once: time about their number, times its logarithm, however
+    /// long the chains of heirs are. Refused only when out of memory.
     pub fn of(alloc: Global, members: &[Member]) -> Result<Bearers, AllocError>
         ensures { IfOk result (λ b. (i : ℕ) → bearer_in i b ≡ resolve members.now i) }
     {
@@ -60,8 +60,8 @@ impl Bearers {
         })
     }
 
-    /// Who has a worker's work: itself where it lives or isn't listed, nobody where it is dead, and where it left,
-    /// whoever has its heir's; a circle of heirs ends at nobody.
+    /// Who has a worker's work: itself where it lives or isn't listed, nobody where it is dead, and
+    /// where it left, whoever has its heir's; a circle of heirs ends at nobody.
     pub fn bearer(&self, worker: Actor) -> Option<Actor>
         ensures { result ≡ bearer_in worker self.now }
     {

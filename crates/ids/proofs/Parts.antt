@@ -1,4 +1,5 @@
--- Items that stand by rising name, in parts: those below a name, the one that has it, and those above.
+-- Items that stand by rising name, in parts: those below a name, the one that has it, and those
+-- above.
 use Rattle.std.proofs.Common.{◌≡◌, suc, List, [], ◌∷◌, ◌++◌, map, length, cond, not, Some, None, refl, ap, ◌∙◌, Less, Equal, Greater, take, drop}
 use Rattle.std.specs.List.{AllByRecursion, insert, remove}
 use Rattle.std.specs.List.Sorted.{IsStrictlySortedBy}

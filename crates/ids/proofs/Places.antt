@@ -70,7 +70,8 @@ passed_on steps i good within known =
     regroup true b c = refl
     regroup false b c = refl
 
--- steps from the root on that are few and pass the test are a place, at the level that counts those to kids
+-- steps from the root on that are few and pass the test are a place, at the level that counts those
+-- to kids
 pub place_of : (steps : List ℕ) (level : ℕ) → length steps ≤ 1024 → list_all (λ step. nat_lt step 9) steps ≡ true → level ≡ count_by (λ (step : ℕ). not (step == 0)) steps → IsPlace (reverse steps) × (level ≡ level_of (reverse steps))
 place_of steps level short test counted = (
   record {
@@ -80,7 +81,8 @@ place_of steps level short test counted = (
   counted ∙ sym (count_by-reverse (λ (step : ℕ). not (step == 0)) steps),
 )
 
--- one step further from a place that isn't full is a place, a level lower where the step goes to a kid
+-- one step further from a place that isn't full is a place, a level lower where the step goes to a
+-- kid
 pub place_below : (place : List ℕ) (hole level : ℕ) → IsPlace place → length place < 1024 → hole < 9 → level ≡ level_of place + cond (not (hole == 0)) 1 0 → IsPlace (hole ∷ place) × (level ≡ level_of (hole ∷ place))
 place_below place hole level is short step counted =
     let more = sum_by-cons (λ (step : ℕ). cond (not (step == 0)) 1 0) hole place in (

@@ -1,5 +1,5 @@
--- Lists of items that have their keys in them and stand in the order of these. They are the finite maps of the protocol:
--- what is listed in a packet or by a call stands in that order.
+-- Lists of items that have their keys in them and stand in the order of these. They are the finite
+-- maps of the protocol: what is listed in a packet or by a call stands in that order.
 use Rattle.std.specs.Prelude.{Bool, not, List, [], ◌∷◌, Option}
 use Rattle.std.specs.List.{find, filter}
 use Rattle.std.specs.declared.cmp.Ordering.{Ordering}

@@ -28,8 +28,8 @@ says_live (Some (Left heir)) = false
 abbrev pub is_live : ℕ → List Member → Bool
 is_live i members = says_live (status_in i members)
 
--- who has a worker's work, by what is said of it: itself where it lives or isn't listed, nobody where it is dead, and where it
--- left, whoever has its heir's
+-- who has a worker's work, by what is said of it: itself where it lives or isn't listed, nobody
+-- where it is dead, and where it left, whoever has its heir's
 abbrev pub bearer : (ℕ → Option ℕ) → ℕ → Option Status → Option ℕ
 bearer bearer_of_heir i None = Some i
 bearer bearer_of_heir i (Some Live) = Some i

@@ -1,4 +1,5 @@
--- How items are kept: in a slab, with an entry for the name and the key of each. The entries stand by rising name.
+-- How items are kept: in a slab, with an entry for the name and the key of each. The entries stand
+-- by rising name.
 use Rattle.std.specs.Prelude.{◌≡◌, ℕ, List, ◌∷◌, ◌++◌, length, IsSomeAnd}
 use Rattle.std.specs.List.{AllByRecursion, filter_map}
 use Rattle.std.specs.declared.cmp.Ordering.TheVariants.{Less}

@@ -1,6 +1,8 @@
-//! Names, places, tasks and frames that every layer speaks of, and the types that contracts see as a list or as a map.
+//! Names, places, tasks and frames that every layer speaks of, and the types that contracts see as
+//! a list or as a map.
 #![tactic(auto)]
 
+pub mod error_numbers;
 pub mod limits;
 mod listed;
 mod member;

@@ -78,7 +78,8 @@ impl<T> Listed<T> {
 }
 
 impl<T: Drop> Listed<T> {
-    /// Adds an item behind the others; refused only when out of memory, which leaves the list as it was.
+    /// Adds an item behind the others; refused only when out of memory, which leaves the list as it
+    /// was.
     pub fn push(&mut self, item: T) -> Result<(), AllocError>
         ensures ok { OnOk result (self.new ≡ self.old ++ item ∷ []) }
         ensures err { OnErr result (self.new ≡ self.old) }

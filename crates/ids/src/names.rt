@@ -52,8 +52,8 @@ impl Incarnation {
     }
 }
 
-/// Who acts: a worker's incarnation, or the clearinghouse in an epoch, which is named 2^63 plus the epoch. Contracts see
-/// the number.
+/// Who acts: a worker's incarnation, or the clearinghouse in an epoch, which is named 2^63 plus the
+/// epoch. Contracts see the number.
 #[derive(Clone, Copy, PartialEq, Eq, Debug)]
 pub struct Actor {
     word: u64,
@@ -286,8 +286,8 @@ impl Hop {
     }
 }
 
-/// A number that is counted from 1, as the requests of a thief and the versions of a roster are. Contracts see the
-/// number.
+/// A number that is counted from 1, as the requests of a thief and the versions of a roster are.
+/// Contracts see the number.
 #[derive(Clone, Copy, PartialEq, Eq, Debug)]
 pub struct Count {
     number: u64,
@@ -386,8 +386,8 @@ impl Epoch {
     }
 }
 
-/// Where a packet goes: to a worker, to the clearinghouse in an epoch, or to the clearinghouse of any epoch, which is
-/// 2^63. Contracts see the number.
+/// Where a packet goes: to a worker, to the clearinghouse in an epoch, or to the clearinghouse of
+/// any epoch, which is 2^63. Contracts see the number.
 #[derive(Clone, Copy, PartialEq, Eq, Debug)]
 pub struct Address {
     word: u64,

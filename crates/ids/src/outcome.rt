@@ -1,4 +1,5 @@
-/// What a job comes to: a number, or too deep, where some task stands at a place of more than 1,024 steps.
+/// What a job comes to: a number, or too deep, where some task stands at a place of more than 1,024
+/// steps.
 #[derive(Clone, Copy, PartialEq, Eq, Debug)]
 pub enum Outcome {
     Value(i64),

@@ -20,21 +20,24 @@ pub enum PlaceError {
 }
 
 impl PlaceError {
+    ghost use Rattle.ids.specs.declared.error_numbers.TheConstants.{PLACE_FULL, MEMORY};
+
     /// The number of the refusal: 1 or 9.
     pub fn number(self) -> u8
         ensures full { self ≡ PlaceError.Full → result ≡ 1 }
         ensures memory { self ≡ PlaceError.Memory → result ≡ 9 }
     {
         match self {
-            PlaceError::Full => 1,
-            PlaceError::Memory => 9,
+            PlaceError::Full => crate::error_numbers::PLACE_FULL,
+            PlaceError::Memory => crate::error_numbers::MEMORY,
         }
     }
 }
 
-/// Where a task stands in the tree of a run: the steps from the root, at most 1,024 of them. Step 0 goes to the
-/// successor of a task, step i of 1 to 8 to the kid of its hole i. Up to 24 steps lie in the place itself, and more in memory of
-/// their own; beside them stands how many go to kids. Contracts see the list of steps, the last step first.
+/// Where a task stands in the tree of a run: the steps from the root, at most 1,024 of them. Step 0
+/// goes to the successor of a task, step i of 1 to 8 to the kid of its hole i. Up to 24 steps lie
+/// in the place itself, and more in memory of their own; beside them stands how many go to kids.
+/// Contracts see the list of steps, the last step first.
 #[derive(Drop)]
 pub struct Place {
     steps: SmallVec<u8, 24>,
@@ -64,8 +67,8 @@ impl Place {
         }
     }
 
-    /// The place that these steps lead to from the root; none where there are more than 1,024, or one is no step. It
-    /// takes no memory.
+    /// The place that these steps lead to from the root; none where there are more than 1,024, or
+    /// one is no step. It takes no memory.
     pub fn of(steps: Listed<u8>) -> Option<Place>
         ensures { result ≡ (if is_place steps then Some (reverse steps) else None) }
     {
@@ -80,7 +83,8 @@ impl Place {
         }
     }
 
-    /// The place that a copy of these steps leads to from the root; none where `of` gives none. Up to 24 steps take no memory.
+    /// The place that a copy of these steps leads to from the root; none where `of` gives none. Up
+    /// to 24 steps take no memory.
     pub fn copy_of(alloc: Global, steps: &[u8]) -> Result<Option<Place>, AllocError>
         ensures { IfOk result (λ p. p ≡ (if is_place steps.now then Some (reverse steps.now) else None)) }
     {
@@ -95,7 +99,8 @@ impl Place {
         }
     }
 
-    /// The place of the kid of a hole, 1 to 8, and for 0 that of the successor. `Full` comes only at 1,024 steps.
+    /// The place of the kid of a hole, 1 to 8, and for 0 that of the successor. `Full` comes only
+    /// at 1,024 steps.
     pub fn child(&self, alloc: Global, hole: u8) -> Result<Place, PlaceError>
         requires { hole < 9 }
         ensures place { IfOk result (λ p. p ≡ hole ∷ self.now) }
@@ -174,7 +179,8 @@ fn levels_down(step: u8) -> u16
     if step == 0 { 0 } else { 1 }
 }
 
-/// Whether each byte is a step: 0 to the successor, or 1 to 8 to a kid. All are looked at, with no way out, so that many are at once.
+/// Whether each byte is a step: 0 to the successor, or 1 to 8 to a kid. All are looked at, with no
+/// way out, so that many are at once.
 pub fn are_steps(bytes: &[u8]) -> bool
     ensures { result ≡ list_all (λ step. nat_lt step 9) bytes.now }
 {

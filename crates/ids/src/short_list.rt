@@ -5,8 +5,8 @@ use std::alloc::{AllocError, Global};
 use std::default::MadeWith;
 use std::marker::Model;
 
-/// A list of mostly few items: up to `N` lie in the value itself, and more in memory of their own. Contracts see the list of its
-/// items.
+/// A list of mostly few items: up to `N` lie in the value itself, and more in memory of their own.
+/// Contracts see the list of its items.
 #[derive(Drop)]
 pub struct ShortList<T, const N: usize> {
     items: SmallVec<T, N>,
@@ -94,7 +94,8 @@ impl<T: MadeWith<Global> + Drop, const N: usize> ShortList<T, N> {
         }
     }
 
-    /// Adds an item behind the others; refused only when out of memory, which leaves the list as it was.
+    /// Adds an item behind the others; refused only when out of memory, which leaves the list as it
+    /// was.
     pub fn push(&mut self, item: T) -> Result<(), AllocError>
         ensures ok { OnOk result (self.new ≡ self.old ++ item ∷ []) }
         ensures err { OnErr result (self.new ≡ self.old) }

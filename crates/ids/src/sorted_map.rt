@@ -40,7 +40,8 @@ pub trait ItemChange<X: Named> {
     ghost keeps_name: { (change : Self) (item : X) → X.name_of (changed change item) ≡ X.name_of item };
 }
 
-/// A change of items that takes memory, which may be wanting; it keeps their names. Of which items it may be made.
+/// A change of items that takes memory, which may be wanting; it keeps their names. Of which items
+/// it may be made.
 pub trait TryItemChange<X: Named> {
     ghost fits: { Self → X → Type 0 };
 
@@ -202,7 +203,8 @@ impl<X: Named> SortedMap<X> {
 }
 
 impl<X: Named> SortedMap<X> {
-    /// Changes the item of a name, which is there, where it stands; refused only when out of memory, which changes nothing.
+    /// Changes the item of a name, which is there, where it stands; refused only when out of
+    /// memory, which changes nothing.
     pub fn try_change<C: TryItemChange<X>>(
         &mut self,
         name: (u64, u64),
@@ -255,8 +257,8 @@ impl<X: Named + Drop> SortedMap<X> {
         }
     }
 
-    /// Adds items that stand by rising name behind the others, whose names are all below theirs; refused only when out
-    /// of memory, which changes nothing.
+    /// Adds items that stand by rising name behind the others, whose names are all below theirs;
+    /// refused only when out of memory, which changes nothing.
     pub fn append(&mut self, items: Vec<X>) -> Result<(), AllocError>
         requires { AreInOrder X.name_of (self.old ++ items.items) }
         ensures ok { OnOk result (self.new ≡ self.old ++ items.items) }
@@ -319,7 +321,8 @@ impl<X: Named + Exact> Clone for SortedMap<X> {
     }
 }
 
-/// The item of a name among items that stand by rising name, found by binary search; takes no memory.
+/// The item of a name among items that stand by rising name, found by binary search; takes no
+/// memory.
 pub fn item_of<X: Named>(items: &[X], name: (u64, u64)) -> Option<&X>
     requires { AreInOrder X.name_of items.now }
     ensures { option_copied result ≡ item_in X.name_of name items.now }
@@ -330,8 +333,8 @@ pub fn item_of<X: Named>(items: &[X], name: (u64, u64)) -> Option<&X>
     }
 }
 
-/// Where the entry of a name stands, and its key; where there is none, where it would stand. Those that came last are looked at first,
-/// since they are what is mostly looked for.
+/// Where the entry of a name stands, and its key; where there is none, where it would stand. Those
+/// that came last are looked at first, since they are what is mostly looked for.
 #[inline(always)]
 fn find(entries: &[Entry], name: (u64, u64)) -> Result<(usize, usize), usize>
     requires { AreInOrder (λ e. e.name) entries.now }

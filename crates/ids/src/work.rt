@@ -8,7 +8,8 @@ use crate::short_list::{Numbers, Slots};
 use crate::sorted_map::{Exact, Named};
 use std::alloc::AllocError;
 
-/// A thread on numbers, and where it stands. In a packet the thread is below 64 and there are at most 8 numbers.
+/// A thread on numbers, and where it stands. In a packet the thread is below 64 and there are at
+/// most 8 numbers.
 #[derive(Drop)]
 pub struct Task {
     pub place: Place,
@@ -16,9 +17,10 @@ pub struct Task {
     pub numbers: Numbers,
 }
 
-/// A frame of a subcomputation: its number there, its thread, its place, its slots, of which the empty ones wait for
-/// their value, and where its own value goes. In a packet the number is below the subcomputation's next one, as is that
-/// of the frame that its value goes to; the thread is below 64, and there are at most 8 slots.
+/// A frame of a subcomputation: its number there, its thread, its place, its slots, of which the
+/// empty ones wait for their value, and where its own value goes. In a packet the number is below
+/// the subcomputation's next one, as is that of the frame that its value goes to; the thread is
+/// below 64, and there are at most 8 slots.
 #[derive(Drop)]
 pub struct Frame {
     pub number: FrameNo,
@@ -28,8 +30,8 @@ pub struct Frame {
     pub returns: Return,
 }
 
-/// A stolen frame: the grant that gave it away, the worker that holds it, its number, its task, and where its value goes.
-/// In a packet its numbers are bounded as a frame's are.
+/// A stolen frame: the grant that gave it away, the worker that holds it, its number, its task, and
+/// where its value goes. In a packet its numbers are bounded as a frame's are.
 #[derive(Drop)]
 pub struct Record {
     pub grant: GrantId,

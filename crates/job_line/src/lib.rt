@@ -1,4 +1,5 @@
-//! The line that names a job: it stands beside a store, so that a run of another program or input is refused.
+//! The line that names a job: it stands beside a store, so that a run of another program or input
+//! is refused.
 //!
 //! **Not proved**: what the line is, but that all is safe; tests show it.
 #![tactic(auto)]
@@ -16,8 +17,8 @@ pub const DIGITS: usize = 64;
 
 pub const LENGTH: u64 = 79;
 
-/// The line that names a job by the digest of its program and its input, whatever its number is. The text is the one that the program was read
-/// from. Refused only when out of memory.
+/// The line that names a job by the digest of its program and its input, whatever its number is.
+/// The text is the one that the program was read from. Refused only when out of memory.
 pub fn line_of(alloc: Global, job: &Job, text: &[u8]) -> Result<Vec<u8>, AllocError> {
     let digest = digest_of(alloc, job, text)?;
     let mut line = Vec::from_slice(alloc, HEAD)?;
@@ -28,8 +29,8 @@ pub fn line_of(alloc: Global, job: &Job, text: &[u8]) -> Result<Vec<u8>, AllocEr
     Ok(line)
 }
 
-/// The digest of a program's one form and, as a line, of its input. Where the form would be too long, the text stands for it, behind a line
-/// with its length.
+/// The digest of a program's one form and, as a line, of its input. Where the form would be too
+/// long, the text stands for it, behind a line with its length.
 fn digest_of(alloc: Global, job: &Job, text: &[u8]) -> Result<[u8; 32], AllocError> {
     let mut hasher = Sha256::new();
     match print(alloc, job.checked().program()) {

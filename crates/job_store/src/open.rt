@@ -9,10 +9,11 @@ use checkpoint::{Store, StoreError, format};
 use disk::Disk;
 use std::alloc::Global;
 
-/// Opens the store of a job on a disk; where the disk is empty, it is made first. Refused, it gives the disk back, in this order: E72; E71 for
-/// a file that doesn't begin as a store; E73 for another version; E71 for one that is no store; E70 for another job; E62 where the sequence of
-/// one of the older form is spent; E72. Where a file is there, nothing is written but what makes a store of the older form one of the newer
-/// form.
+/// Opens the store of a job on a disk; where the disk is empty, it is made first. Refused, it gives
+/// the disk back, in this order: E72; E71 for a file that doesn't begin as a store; E73 for another
+/// version; E71 for one that is no store; E70 for another job; E62 where the sequence of one of the
+/// older form is spent; E72. Where a file is there, nothing is written but what makes a store of
+/// the older form one of the newer form.
 pub fn open_store<D: Disk>(alloc: Global, disk: D, job: u64) -> Result<Store<D>, (StoreError, D)>
     ensures opened { IfOk result (λ s. (s.ended ≡ false) × (s.record.job ≡ job)) }
     ensures made { IfOk result (λ s. bytes_of (D.device disk).file ≡ [] → s.record ≡ fresh job) }

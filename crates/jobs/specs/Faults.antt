@@ -1,5 +1,7 @@
--- Why a text and an input are no job, by what it came from, with its number and the status that a program ends with.
+-- Why a text and an input are no job, by what it came from, with its number and the status that a
+-- program ends with.
 use Rattle.std.specs.Prelude.{ℕ}
+use Rattle.ids.specs.declared.error_numbers.TheConstants.{MEMORY}
 use Rattle.task_syntax.specs.Errors as texts
 use Rattle.task_syntax.specs.declared.error.ParseError.{ParseError}
 use Rattle.task_syntax.specs.declared.error.ParseError.TheVariants as parse
@@ -29,7 +31,7 @@ abbrev pub number_of_fault : JobFault → ℕ
 number_of_fault (faults.Parse e) = texts.number_of_error e
 number_of_fault (faults.Kind e) = kinds.number_of_error e
 number_of_fault (faults.Input e) = number_of_job_error e
-number_of_fault faults.Memory = 9
+number_of_fault faults.Memory = MEMORY
 
 -- a text or an input that is refused is 1, and running out of memory is 3
 abbrev pub status_of : JobFault → ℕ

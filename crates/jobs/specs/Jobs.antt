@@ -15,7 +15,8 @@ pub record IsProgramOf (text : List ℕ) (program : Program) : Type 0 where
   pub reads : ReadsAsProgram text program
   pub accepted : faults program ≡ []
 
--- a job of the text on the input, with this number: the text reads as an accepted program that takes the input
+-- a job of the text on the input, with this number: the text reads as an accepted program that
+-- takes the input
 pub record IsJobOf (text : List ℕ) (input : List ℤ) (number : ℕ) (job : JobOf) : Type 0 where
   pub program : IsProgramOf text job.program
   pub given : job.input ≡ input
@@ -34,7 +35,8 @@ pub record IsUntaken (text : List ℕ) (input : List ℤ) : Type 0 where
   pub is : IsProgramOf text program
   pub untaken : TakesInput program input → ⊥
 
--- what a refusal of a program says of its text; running out of memory says nothing, and is no refusal of the text or of its kinds
+-- what a refusal of a program says of its text; running out of memory says nothing, and is no
+-- refusal of the text or of its kinds
 abbrev pub IsProgramRefusal : List ℕ → JobFault → Type 0
 IsProgramRefusal text (fault.Parse e) = (e ≢ parse.Memory) × MeetsText text e
 IsProgramRefusal text (fault.Kind (check.Fault kind at)) = IsFaulty text (at, kind)

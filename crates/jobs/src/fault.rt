@@ -14,7 +14,7 @@ pub enum FileFault {
     #[error("file")]
     Unreadable,
     /// E9: there is no memory for its bytes.
-    #[error("E9")]
+    #[error("E{number}", number = ids::error_numbers::MEMORY)]
     Memory,
 }
 
@@ -44,11 +44,12 @@ impl JobFault {
             JobFault::Parse(e) => e.number(),
             JobFault::Kind(e) => e.number(),
             JobFault::Input(e) => e.number(),
-            JobFault::Memory => 9,
+            JobFault::Memory => ids::error_numbers::MEMORY,
         }
     }
 
-    /// The status that a program ends with: 1 for a text or an input that is refused, 3 when out of memory.
+    /// The status that a program ends with: 1 for a text or an input that is refused, 3 when out of
+    /// memory.
     pub fn status(self) -> u8
         ensures { result ≡ status_of self }
     {

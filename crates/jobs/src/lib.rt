@@ -1,4 +1,5 @@
-//! Jobs: how a program's text, an input and a number become a job, and which fault is told where they don't.
+//! Jobs: how a program's text, an input and a number become a job, and which fault is told where
+//! they don't.
 #![tactic(auto)]
 
 mod fault;

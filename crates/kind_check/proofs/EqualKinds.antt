@@ -1,4 +1,5 @@
--- Programs that are the same but for where their parts lie in memory have the same faults, and their threads the same turns.
+-- Programs that are the same but for where their parts lie in memory have the same faults, and
+-- their threads the same turns.
 use Rattle.std.proofs.Common.{◌≡◌, ℕ, ℤ, ◌+◌, zero, suc, Bool, true, false, nat_lt, if◌then◌else◌, List, [], ◌∷◌, ◌++◌, length, codes, Option, Some, None, refl, sym, ◌∙◌, ap}
 use Rattle.std.specs.List.{slice_get}
 use Rattle.std.specs.Str.{bytes_eq}

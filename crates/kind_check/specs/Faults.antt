@@ -1,6 +1,8 @@
--- All kind faults of a program, as pairs of an offset and what is wrong there. Their order means nothing.
+-- All kind faults of a program, as pairs of an offset and what is wrong there. Their order means
+-- nothing.
 use Rattle.std.specs.Prelude.{◌≡◌, ℕ, ◌+◌, ◌<◌, ◌≤◌, ◌==◌, ◌⊎◌, nat_lt, if◌then◌else◌, List, [], ◌∷◌, ◌++◌, length, Option, Some, None, codes, All, Contains}
 use Rattle.std.specs.Str.{bytes_eq}
+use Rattle.ids.specs.declared.error_numbers.TheConstants.{NO_MAIN, NAME_TWICE, UNKNOWN_THREAD, UNKNOWN_NAME, ARITY, KIND_MISMATCH, CONT_UNUSED, CONT_TWICE, LIMIT}
 use Rattle.task_tree.specs.declared.tree.Name.{Name}
 use Rattle.task_tree.specs.declared.tree.Expr.{Expr}
 use Rattle.task_tree.specs.declared.tree.Expr.TheVariants.{Number, Variable, Binary'}
@@ -53,7 +55,8 @@ own_faults at (Some Own) = []
 own_faults at (Some Value) = (at, KindMismatch) ∷ []
 own_faults at (Some Waits) = (at, KindMismatch) ∷ []
 
--- a name where a hole is used, and what was given to it before; the own continuation was taken before
+-- a name where a hole is used, and what was given to it before; the own continuation was taken
+-- before
 abbrev pub hole_faults : ℕ → Option Kind → Option Given → List Fault
 hole_faults at None before = (at, UnknownName) ∷ []
 hole_faults at (Some Waits) None = []
@@ -182,15 +185,15 @@ faults p = threads_faults p.threads [] p.threads ++ main_faults p.length (thread
 
 -- the numbers of the faults, which decide at one offset
 abbrev pub number_of_fault : KindFault → ℕ
-number_of_fault NoMain = 10
-number_of_fault NameTwice = 11
-number_of_fault UnknownThread = 12
-number_of_fault UnknownName = 13
-number_of_fault Arity = 14
-number_of_fault KindMismatch = 15
-number_of_fault ContUnused = 16
-number_of_fault ContTwice = 17
-number_of_fault Limit = 18
+number_of_fault NoMain = NO_MAIN
+number_of_fault NameTwice = NAME_TWICE
+number_of_fault UnknownThread = UNKNOWN_THREAD
+number_of_fault UnknownName = UNKNOWN_NAME
+number_of_fault Arity = ARITY
+number_of_fault KindMismatch = KIND_MISMATCH
+number_of_fault ContUnused = CONT_UNUSED
+number_of_fault ContTwice = CONT_TWICE
+number_of_fault Limit = LIMIT
 
 -- f stands no later than g: at a smaller offset, or at the same with a number that isn't greater
 abbrev pub IsNoLater : Fault → Fault → Type 0

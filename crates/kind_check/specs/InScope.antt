@@ -1,5 +1,5 @@
--- Bodies whose names are all there: each variable is one of the names of numbers in scope, each thread that is spawned is
--- there, and each hole is used.
+-- Bodies whose names are all there: each variable is one of the names of numbers in scope, each
+-- thread that is spawned is there, and each hole is used.
 use Rattle.std.specs.Prelude.{ℕ, ◌≤◌, List, [], ◌∷◌, ◌++◌, length, All, IsSome, IsSomeAnd}
 use Rattle.task_tree.specs.declared.tree.Expr.{Expr}
 use Rattle.task_tree.specs.declared.tree.Expr.TheVariants as expr

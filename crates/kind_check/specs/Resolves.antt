@@ -1,4 +1,5 @@
--- A body by places resolves a body by names: each name is found by its first place among the names in scope.
+-- A body by places resolves a body by names: each name is found by its first place among the names
+-- in scope.
 use Rattle.std.specs.Prelude.{◌≡◌, ℕ, ◌+◌, ◌≤◌, List, [], ◌∷◌, ◌++◌, map, IsSomeAnd, Some}
 use Rattle.task_tree.specs.declared.tree.Name.{Name}
 use Rattle.task_tree.specs.declared.tree.Expr.{Expr}

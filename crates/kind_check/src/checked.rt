@@ -10,8 +10,8 @@ use std::marker::Model;
 use task_tree::Program;
 use thiserror::Error;
 
-/// What is wrong with the kinds of a program. Of all faults the one at the smallest offset is answered, at one offset the
-/// one that stands first here.
+/// What is wrong with the kinds of a program. Of all faults the one at the smallest offset is
+/// answered, at one offset the one that stands first here.
 #[derive(Clone, Copy, PartialEq, Eq, Debug)]
 pub enum KindFault {
     /// E10: no thread `main`; at the text's length.
@@ -22,13 +22,15 @@ pub enum KindFault {
     UnknownThread,
     /// E13: a name that isn't in scope; at the name.
     UnknownName,
-    /// E14: a wrong count of arguments, the first thread of that name counting; at the spawned name.
+    /// E14: a wrong count of arguments, the first thread of that name counting; at the spawned
+    /// name.
     Arity,
     /// E15: a number where a continuation stands, or the reverse; at the name.
     KindMismatch,
     /// E16: a hole that isn't used; at the closing brace of its block.
     ContUnused,
-    /// E17: a hole used again, or the own continuation used after `spawn_next` took it; at the second use.
+    /// E17: a hole used again, or the own continuation used after `spawn_next` took it; at the
+    /// second use.
     ContTwice,
     /// E18: the 65th thread or the 9th number parameter; at its name.
     Limit,
@@ -40,15 +42,15 @@ impl KindFault {
         ensures { result ≡ number_of_fault self }
     {
         match self {
-            KindFault::NoMain => 10,
-            KindFault::NameTwice => 11,
-            KindFault::UnknownThread => 12,
-            KindFault::UnknownName => 13,
-            KindFault::Arity => 14,
-            KindFault::KindMismatch => 15,
-            KindFault::ContUnused => 16,
-            KindFault::ContTwice => 17,
-            KindFault::Limit => 18,
+            KindFault::NoMain => ids::error_numbers::NO_MAIN,
+            KindFault::NameTwice => ids::error_numbers::NAME_TWICE,
+            KindFault::UnknownThread => ids::error_numbers::UNKNOWN_THREAD,
+            KindFault::UnknownName => ids::error_numbers::UNKNOWN_NAME,
+            KindFault::Arity => ids::error_numbers::ARITY,
+            KindFault::KindMismatch => ids::error_numbers::KIND_MISMATCH,
+            KindFault::ContUnused => ids::error_numbers::CONT_UNUSED,
+            KindFault::ContTwice => ids::error_numbers::CONT_TWICE,
+            KindFault::Limit => ids::error_numbers::LIMIT,
         }
     }
 }
@@ -73,7 +75,7 @@ impl KindError {
     {
         match self {
             KindError::Fault(fault, _) => fault.number(),
-            KindError::Memory => 9,
+            KindError::Memory => ids::error_numbers::MEMORY,
         }
     }
 }
@@ -114,7 +116,8 @@ impl Checked {
         Checked { program, bodies }
     }
 
-    /// The body of a thread that is there, where each name stands as its place among the names in scope.
+    /// The body of a thread that is there, where each name stands as its place among the names in
+    /// scope.
     #[tactic(auto, using(crate::proofs::Resolving::body_at))]
     pub fn body(&self, thread: u8) -> &BlockCode
         requires { thread < length self.now.threads }

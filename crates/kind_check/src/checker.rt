@@ -8,8 +8,9 @@ use crate::walk::least_fault;
 use std::alloc::Global;
 use task_tree::Program;
 
-/// Accepts a program with no kind fault, else answers its least fault: by its offset, then by its number. It takes
-/// memory for the names in scope and for the bodies by places, and a nesting of blocks and operators is walked by recursion.
+/// Accepts a program with no kind fault, else answers its least fault: by its offset, then by its
+/// number. It takes memory for the names in scope and for the bodies by places, and a nesting of
+/// blocks and operators is walked by recursion.
 ///
 /// # Errors
 /// The least fault and its offset; `Memory` only when out of memory.

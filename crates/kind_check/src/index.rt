@@ -5,7 +5,8 @@ use std::alloc::{AllocError, Global};
 use std::collections::HashMap;
 use std::marker::Model;
 
-/// Names in the order of a text, found by their first place in a time that doesn't grow with their count.
+/// Names in the order of a text, found by their first place in a time that doesn't grow with their
+/// count.
 #[derive(Drop)]
 pub struct Index<'a> {
     names: Vec<&'a [u8]>,
@@ -35,7 +36,8 @@ impl<'a> Index<'a> {
         }
     }
 
-    /// Adds a name behind the others; refused only when out of memory, which leaves the names as they were.
+    /// Adds a name behind the others; refused only when out of memory, which leaves the names as
+    /// they were.
     pub fn add(&mut self, name: &'a [u8]) -> Result<(), AllocError>
         ensures ok { OnOk result (self.new ≡ self.old ++ name.now ∷ []) }
         ensures err { OnErr result (self.new ≡ self.old) }

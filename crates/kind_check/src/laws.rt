@@ -8,8 +8,8 @@ ghost use Rattle.kind_check.specs.Turns.{turn_of};
 ghost use Rattle.kind_check.specs.Total.{HoleFits, IsAccepted, Takes};
 ghost use Rattle.kind_check.specs.Faults.{faults};
 
-/// Programs that are the same but for where their parts lie in memory have the same faults, and their threads the same
-/// turns. Does nothing.
+/// Programs that are the same but for where their parts lie in memory have the same faults, and
+/// their threads the same turns. Does nothing.
 pub fn equal_programs_are_alike()
     ensures faults { (p q : Program) → EqualProgram p q → faults p ≡ faults q }
     ensures turns { (p q : Program) → EqualProgram p q → (t : ℕ) (numbers : List ℤ)
@@ -17,7 +17,8 @@ pub fn equal_programs_are_alike()
     ensures takes { (p q : Program) → EqualProgram p q → (t count : ℕ) → Takes p t count → Takes q t count }
 {}
 
-/// In an accepted program a thread's number is below 64, and it takes at most 8 numbers. Does nothing.
+/// In an accepted program a thread's number is below 64, and it takes at most 8 numbers. Does
+/// nothing.
 pub fn accepted_threads_are_few()
     ensures { (p : Program) (t count : ℕ) → IsAccepted p → Takes p t count → (t < 64) × (count ≤ 8) }
 {}

@@ -1,4 +1,5 @@
-/// What a name in scope stands for: the thread's own continuation, a number, or a hole that waits for its value.
+/// What a name in scope stands for: the thread's own continuation, a number, or a hole that waits
+/// for its value.
 #[derive(Clone, Copy, PartialEq, Eq, Debug)]
 pub enum Kind {
     Own,

@@ -102,8 +102,8 @@ pub fn given(threads: &Threads<'_>, scope: &Scope<'_>, given: &Given, least: &mu
     }
 }
 
-/// The hole of use `number`, behind a `spawn_next` that took the own continuation: it waits, and no use before that one is
-/// of it.
+/// The hole of use `number`, behind a `spawn_next` that took the own continuation: it waits, and no
+/// use before that one is of it.
 #[tactic(auto, using(crate::proofs::Leasts::least_append))]
 fn used_hole(scope: &Scope<'_>, uses: &Uses<'_>, number: usize, hole: &Name, least: &mut Least)
     ensures { least.new ≡ least_with least.old (hole_faults hole.now.offset (kind_of scope.now hole.now.text)

@@ -15,8 +15,8 @@ pub enum Slot {
     Awaits(Kid),
 }
 
-/// The end that a body reaches: it sends a number to its continuation, or spawns a successor thread (its number) with
-/// these slots, and the kids that the slots await.
+/// The end that a body reaches: it sends a number to its continuation, or spawns a successor thread
+/// (its number) with these slots, and the kids that the slots await.
 #[derive(Drop)]
 pub enum Turn {
     Sends(i64),

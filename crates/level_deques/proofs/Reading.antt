@@ -253,7 +253,8 @@ posted_at_new p ls i k new are below above is same =
       levels = by_levels AreLevels (take i ls ++ record { level = p.level; posts = p ∷ [] } ∷ drop i ls) new (sym now) there.1;
     }
 
--- what is left after a post was taken at a place: the levels, or those without the one that has none any more
+-- what is left after a post was taken at a place: the levels, or those without the one that has
+-- none any more
 pub taken_here : (p : Post) (ls : List LevelOf) (i : ℕ) (l k : LevelOf) → AreLevels ls → i < length ls → l ≡ get_or ls i l → l.level ≡ p.level → k ≡ record l { posts = without_post p l.posts } → HasPost k → Changed (without_post p (all_posts ls)) (set ls i k)
 taken_here p ls i l k are within at same is some =
     let split = around ls i l within at in

@@ -30,13 +30,14 @@ pub trait PostTest {
         ensures { result ≡ stays self.now post.now };
 }
 
-/// The ready frames of a node, those of each level in a deque. Contracts see for each level, from the least on, its posts, the
-/// newest last: one list of them all.
+/// The ready frames of a node, those of each level in a deque. Contracts see for each level, from
+/// the least on, its posts, the newest last: one list of them all.
 #[derive(Drop)]
 pub struct Posts {
     alloc: Global,
     levels: Vec<Level>,
-    // an empty deque, kept of a level that lost its last post: the next new level has it, and takes no memory
+    // an empty deque, kept of a level that lost its last post: the next new level has it, and takes
+    // no memory
     spare: VecDeque<Post>,
     count: usize,
 }
@@ -80,7 +81,8 @@ impl Posts {
         let _ = &self.levels;
     }
 
-    /// Adds a post, the newest of its level; refused only when out of memory, which changes nothing.
+    /// Adds a post, the newest of its level; refused only when out of memory, which changes
+    /// nothing.
     pub fn post(&mut self, post: Post) -> Result<(), AllocError>
         ensures ok { OnOk result (self.new ≡ posted post self.old) }
         ensures err { OnErr result (self.new ≡ self.old) }
@@ -93,8 +95,8 @@ impl Posts {
         Ok(())
     }
 
-    /// The post that comes after so many others, from the deepest level on and in a level the newest first. Takes no
-    /// memory.
+    /// The post that comes after so many others, from the deepest level on and in a level the
+    /// newest first. Takes no memory.
     pub fn at(&self, index: usize) -> Option<Post>
         ensures { result ≡ slice_get (by_depth self.now) index }
     {
@@ -186,8 +188,8 @@ fn levels_below(levels: &[Level], level: u16) -> usize
     count
 }
 
-/// Puts a post behind those of its level; refused only when out of memory, which changes nothing. A new level has the spare
-/// deque.
+/// Puts a post behind those of its level; refused only when out of memory, which changes nothing. A
+/// new level has the spare deque.
 fn put(
     alloc: Global,
     levels: &mut Vec<Level>,
@@ -211,8 +213,8 @@ fn put(
     Ok(())
 }
 
-/// Takes the newest of those posts away that are this one, and says whether there was one. The deque of a level that has none
-/// left is kept as the spare one.
+/// Takes the newest of those posts away that are this one, and says whether there was one. The
+/// deque of a level that has none left is kept as the spare one.
 fn take(levels: &mut Vec<Level>, spare: &mut VecDeque<Post>, post: &Post) -> bool
     requires levels { AreLevels levels.old.items }
     requires empty { spare.old.items ≡ [] }
@@ -235,7 +237,8 @@ fn take(levels: &mut Vec<Level>, spare: &mut VecDeque<Post>, post: &Post) -> boo
     left < before
 }
 
-/// The post that comes after so many others, from the greatest level on and in a level the newest first.
+/// The post that comes after so many others, from the greatest level on and in a level the newest
+/// first.
 fn at(levels: &[Level], index: usize) -> Option<Post>
     ensures { result ≡ slice_get (by_depth (all_posts levels.now)) index }
 {

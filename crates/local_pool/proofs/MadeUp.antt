@@ -1,4 +1,5 @@
--- Views that who doesn't look could make up. All that they lack is what a look tells of `never_empty` and of `never`.
+-- Views that who doesn't look could make up. All that they lack is what a look tells of
+-- `never_empty` and of `never`.
 use Rattle.std.proofs.Common.{◌≡◌, ◌≢◌, ℕ, ◌+◌, ◌-◌, ◌^◌, ◌<◌, ◌≤◌, All, List, [], ◌∷◌, ◌++◌, append_assoc, append-nil, length, length-append, set, flat_map, sum_by, None, Some, sym, refl, ap, ◌∙◌, subst, arith}
 use Rattle.std.proofs.lemmas.List.Elements.{All-append, All-push}
 use Rattle.std.proofs.lemmas.List.Sums.{sum_by-append}

@@ -15,7 +15,8 @@ owner_of d room workers = record { pool = worker_deque d; workers = workers; roo
 abbrev pub worker_of : {T : Type 0} → Stealer T Global (Hand T) Law → Pass T (Hand T) Global → WorkerOf T
 worker_of s p = record { pool = stealer_deque s; never_empty = (view p).never_empty; passed = taken p; taken = (view p).taken }
 
--- the deque is first in, first out; the owner has all parts but the workers'; the counts are those of its tickets
+-- the deque is first in, first out; the owner has all parts but the workers'; the counts are those
+-- of its tickets
 pub record IsOwner {T : Type 0} (deque : Worker T Global (Hand T) Law) (room workers offered taken : ℕ) : Type 0 where
   pub first_in : worker_flavor deque ≡ 0
   pub owner : (worker_view deque).owners ≡ 1

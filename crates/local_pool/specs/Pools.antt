@@ -8,8 +8,9 @@ pub use Rattle.local_pool.specs.Items.{SameItems}
 abbrev pub PoolId : Type 0
 PoolId = (ℕ × ℕ) × Global
 
--- the owner: its pool with the number of workers, how many offers have room from the start, and what it offered and took
--- back, the newest last. `never_empty` is 0, as only who finds the pool empty is told (`MayBeEmpty` of Hands)
+-- the owner: its pool with the number of workers, how many offers have room from the start, and
+-- what it offered and took back, the newest last. `never_empty` is 0, as only who finds the pool
+-- empty is told (`MayBeEmpty` of Hands)
 pub record OwnerOf (T : Type 0) : Type 0 where
   pub pool : PoolId
   pub workers : ℕ
@@ -18,8 +19,8 @@ pub record OwnerOf (T : Type 0) : Type 0 where
   pub offered : List T
   pub taken : List T
 
--- a worker: its pool, how many tickets it knows to have left the pool, and those that it stole, the newest last.
--- `never_empty` is as an owner's
+-- a worker: its pool, how many tickets it knows to have left the pool, and those that it stole, the
+-- newest last. `never_empty` is as an owner's
 pub record WorkerOf (T : Type 0) : Type 0 where
   pub pool : PoolId
   pub never_empty : ℕ
@@ -27,8 +28,8 @@ pub record WorkerOf (T : Type 0) : Type 0 where
   pub taken : List T
 
 module _ {T : Type 0} where
-  -- at one moment the pool had no ticket: the owner found it so, and all that was offered was handed out, to the owner what
-  -- it took, and the rest to workers, if there are any
+  -- at one moment the pool had no ticket: the owner found it so, and all that was offered was
+  -- handed out, to the owner what it took, and the rest to workers, if there are any
   abbrev pub AllHandedOut : OwnerOf T → Type 0
   AllHandedOut o = (o.never_empty ≡ 0) × ((others : List T) × SameItems o.offered (o.taken ++ others))
       × (o.workers ≡ 0 → SameItems o.offered o.taken)

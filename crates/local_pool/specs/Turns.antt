@@ -14,7 +14,8 @@ pub record QueueOf : Type 0 where
 abbrev pub queue_code : Coded QueueOf
 queue_code = coded_via (coded× table_id_coded coded_ℕ) (λ (q : QueueOf). (q.queue, q.capacity)) (λ x y e i. record { queue = (e i).0; capacity = (e i).1 })
 
--- a keeper: its queue, how many passes that has, and the first turn, which it put, with its number in the order of the queue
+-- a keeper: its queue, how many passes that has, and the first turn, which it put, with its number
+-- in the order of the queue
 pub record KeeperOf (D : Type 0) : Type 0 where
   pub queue : TableId
   pub passes : ℕ
@@ -23,9 +24,9 @@ pub record KeeperOf (D : Type 0) : Type 0 where
 abbrev pub keeper_code : {D : Type 0} → Coded D → Coded (KeeperOf D)
 keeper_code {D} code = coded_via (coded× table_id_coded (coded× coded_ℕ (coded_list (coded× coded_ℕ code)))) (λ (k : KeeperOf D). (k.queue, (k.passes, k.put))) (λ x y e i. record { queue = (e i).0; passes = (e i).1.0; put = (e i).1.1 })
 
--- a pass: its queue, the turns that it put and that it took, the newest last, each with its number in the order of the queue, and
--- the stamp of all turns in the queue, which is never `None`. `never` is 0, of which a count of the turns tells a little
--- (`MayHaveAny` of Lanes)
+-- a pass: its queue, the turns that it put and that it took, the newest last, each with its number
+-- in the order of the queue, and the stamp of all turns in the queue, which is never `None`.
+-- `never` is 0, of which a count of the turns tells a little (`MayHaveAny` of Lanes)
 pub record PassOf (D S : Type 0) : Type 0 where
   pub queue : TableId
   pub never : ℕ
@@ -59,7 +60,7 @@ module _ {D S : Type 0} where
   abbrev pub taken_by : List (PassOf D S) → List (ℕ × D)
   taken_by passes = flat_map (λ p. p.taken) passes
 
--- First in, first out: the turns that were put have one order. Those that were taken are the first of it, each once, and those
--- that are left are the rest
+-- First in, first out: the turns that were put have one order. Those that were taken are the first
+-- of it, each once, and those that are left are the rest
 abbrev pub FirstInFirstOut : {D : Type 0} → List (ℕ × D) → List (ℕ × D) → List D → Type 0
 FirstInFirstOut {D} put taken left = (gone : List D) × SameItems put (numbered (gone ++ left)) × SameItems taken (numbered gone)

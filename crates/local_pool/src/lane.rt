@@ -1,4 +1,5 @@
-// The rule that the queue of turns and its passes keep, and what each step tells the pass that takes it.
+// The rule that the queue of turns and its passes keep, and what each step tells the pass that
+// takes it.
 ghost use Rattle.std.specs.Prelude.{◌+◌, ◌-◌, ◌++◌, [], None};
 ghost use Rattle.local_pool.specs.Lanes.{lane, Ruled, Marks, Puts, Takes, Found};
 
@@ -6,9 +7,9 @@ use crate::stamped::Stamped;
 use crossbeam_queue::protocol::{Join, Lesson, Outcome, Protocol, Split};
 use std::collections::LinkedList;
 
-// What a pass knows: its parts of the right to put and take; the turns that it put and that it took, each with its number; and
-// the stamp of all turns, once there is one. `never` is 0, of which a count of the turns tells a little (`MayHaveAny`). No value of
-// it is made.
+// What a pass knows: its parts of the right to put and take; the turns that it put and that it
+// took, each with its number; and the stamp of all turns, once there is one. `never` is 0, of which
+// a count of the turns tells a little (`MayHaveAny`). No value of it is made.
 pub(crate) struct Lane<D, S> {
     pub never: u64,
     pub parts: u64,

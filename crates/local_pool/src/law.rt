@@ -1,12 +1,14 @@
-// The rule that the deque and the tokens of a pool keep, and what each step tells the token that takes it.
+// The rule that the deque and the tokens of a pool keep, and what each step tells the token that
+// takes it.
 ghost use Rattle.std.specs.Prelude.{◌+◌, ◌-◌, ◌++◌, []};
 ghost use Rattle.local_pool.specs.Hands.{hand, Accounted, Offers, Takes, FoundEmpty};
 
 use crossbeam_deque::protocol::{Join, Outcome, Protocol, Split};
 use std::collections::LinkedList;
 
-// What a token knows: whether it is the owner's (1, else 0), its parts of the right to take, the tickets that it offered, and
-// those that it took. `never_empty` is 0, as only who finds the pool empty is told (`MayBeEmpty`). No value of it is made.
+// What a token knows: whether it is the owner's (1, else 0), its parts of the right to take, the
+// tickets that it offered, and those that it took. `never_empty` is 0, as only who finds the pool
+// empty is told (`MayBeEmpty`). No value of it is made.
 pub(crate) struct Hand<T> {
     pub never_empty: u64,
     pub owners: u64,

@@ -1,5 +1,6 @@
-//! The pool of a node: tickets that its owner offers and that body workers steal without waiting, each handed out once, and
-//! the queue by which finished turns come back, first in, first out, all with the same stamp.
+//! The pool of a node: tickets that its owner offers and that body workers steal without waiting,
+//! each handed out once, and the queue by which finished turns come back, first in, first out, all
+//! with the same stamp.
 #![tactic(auto)]
 
 mod lane;

@@ -9,9 +9,10 @@ use std::marker::Model;
 
 pub(crate) type Deque<T> = Worker<T, Global, Hand<T>, Law>;
 
-/// The right of one thread to offer tickets to a pool and to take them back. It has no clone, and can go to another thread.
-/// Contracts see the pool that it is of, with the number of its workers, how many offers have room from the start, and the
-/// tickets that it offered and that it took back, the newest last.
+/// The right of one thread to offer tickets to a pool and to take them back. It has no clone, and
+/// can go to another thread. Contracts see the pool that it is of, with the number of its workers,
+/// how many offers have room from the start, and the tickets that it offered and that it took back,
+/// the newest last.
 #[derive(Drop)]
 pub struct Owner<T> {
     pub(crate) deque: Deque<T>,
@@ -34,9 +35,10 @@ impl<T> Model for Owner<T> {
 }
 
 impl<T> Owner<T> {
-    /// Puts a ticket into the pool, or gives it back and changes nothing: never among the first `room` offers, and later where the
-    /// pool can't grow, out of memory or past its limits (2^39 tickets at once, 2^62 in all). No clause says that it comes back only
-    /// there, and that a ticket is put behind all others is shown by tests.
+    /// Puts a ticket into the pool, or gives it back and changes nothing: never among the first
+    /// `room` offers, and later where the pool can't grow, out of memory or past its limits (2^39
+    /// tickets at once, 2^62 in all). No clause says that it comes back only there, and that a
+    /// ticket is put behind all others is shown by tests.
     pub fn offer(&mut self, ticket: T) -> Result<(), T>
         ensures pool { (self.new.pool ≡ self.old.pool) × (self.new.workers ≡ self.old.workers)
             × (self.new.room ≡ self.old.room) }
@@ -53,8 +55,9 @@ impl<T> Owner<T> {
         Ok(())
     }
 
-    /// A ticket of the pool, without waiting and without memory: none more often than it was offered. `None` where the pool
-    /// is found empty. That the ticket is the oldest is shown by tests.
+    /// A ticket of the pool, without waiting and without memory: none more often than it was
+    /// offered. `None` where the pool is found empty. That the ticket is the oldest is shown by
+    /// tests.
     pub fn take_own(&mut self) -> Option<T>
         ensures pool { (self.new.pool ≡ self.old.pool) × (self.new.workers ≡ self.old.workers)
             × (self.new.room ≡ self.old.room) }

@@ -26,7 +26,8 @@ impl<T> Model for LocalPool<T> {
 }
 
 impl<T: Drop> LocalPool<T> {
-    /// An empty pool, its owner, and its workers, at most 1,024 of them. The first `room` offers take no memory.
+    /// An empty pool, its owner, and its workers, at most 1,024 of them. The first `room` offers
+    /// take no memory.
     pub fn new(
         alloc: Global,
         room: usize,
@@ -54,8 +55,9 @@ impl<T: Drop> LocalPool<T> {
         Ok((LocalPool { alloc, thief }, owner, dealt))
     }
 
-    /// Ends the pool, once its owner and all its workers are back, and gives the tickets that are left. What was handed out and
-    /// what is left are the tickets that were offered, each as often. Without memory all comes back.
+    /// Ends the pool, once its owner and all its workers are back, and gives the tickets that are
+    /// left. What was handed out and what is left are the tickets that were offered, each as often.
+    /// Without memory all comes back.
     pub fn close(
         self,
         owner: Owner<T>,

@@ -10,7 +10,8 @@ use std::test::Fail;
 use std::thread;
 use std::thread::join;
 
-/// Offers the tickets 1 to 1,000, takes 10 back, and then says that it is done. Answers whether all were taken in.
+/// Offers the tickets 1 to 1,000, takes 10 back, and then says that it is done. Answers whether all
+/// were taken in.
 fn offer_all(
     pool: &LocalPool<u64>,
     mut owner: Owner<u64>,
@@ -252,7 +253,8 @@ fn turns_come_back_in_their_order(rt: HostRuntime) -> Result<(), Fail> {
     Ok(())
 }
 
-/// What a queue with room for two turns answers to two more than its first, and then which turn comes first.
+/// What a queue with room for two turns answers to two more than its first, and then which turn
+/// comes first.
 fn fill<R: Wait>(
     rt: &R,
     queue: &TurnQueue<Turn>,

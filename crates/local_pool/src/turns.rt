@@ -17,9 +17,10 @@ type Line<D> = RuledArrayQueue<D, View<D>, Order>;
 
 type Seat<D> = Pass<D, View<D>>;
 
-/// The right of one thread to put finished turns into a queue and to take them. It takes no bytes, and can go to another
-/// thread. Contracts see the queue that it is of; the turns that it put and that it took, the newest last, each with its number in
-/// the queue's order; and the stamp of all turns in the queue.
+/// The right of one thread to put finished turns into a queue and to take them. It takes no bytes,
+/// and can go to another thread. Contracts see the queue that it is of; the turns that it put and
+/// that it took, the newest last, each with its number in the queue's order; and the stamp of all
+/// turns in the queue.
 #[derive(Drop)]
 pub struct TurnPass<D: Stamped> {
     seat: Seat<D>,
@@ -39,8 +40,8 @@ impl<D: Stamped> Model for TurnPass<D> {
     ghost invariant = { λ p. IsTurnPass p.seat };
 }
 
-/// The right to end a queue of turns, once all its passes are back. Contracts see the queue that it is of, how many passes that
-/// has, and the first turn, with its number in the queue's order.
+/// The right to end a queue of turns, once all its passes are back. Contracts see the queue that it
+/// is of, how many passes that has, and the first turn, with its number in the queue's order.
 #[derive(Drop)]
 pub struct TurnKeeper<D: Stamped> {
     seat: Seat<D>,
@@ -61,8 +62,9 @@ impl<D: Stamped> Model for TurnKeeper<D> {
     ghost invariant = { λ k. IsKeeper k.seat k.passes };
 }
 
-/// Finished turns on their way back, first in, first out, in a row of fixed size. All turns in it have the same stamp. Threads
-/// share it by reference. Contracts see which queue it is, and how many turns it has room for.
+/// Finished turns on their way back, first in, first out, in a row of fixed size. All turns in it
+/// have the same stamp. Threads share it by reference. Contracts see which queue it is, and how
+/// many turns it has room for.
 #[derive(Drop)]
 pub struct TurnQueue<D: Stamped> {
     alloc: Global,
@@ -82,7 +84,8 @@ impl<D: Stamped> Model for TurnQueue<D> {
 }
 
 impl<D: Stamped> TurnQueue<D> {
-    /// Puts a turn behind all others, which has to have their stamp. It comes back where the queue is found full.
+    /// Puts a turn behind all others, which has to have their stamp. It comes back where the queue
+    /// is found full.
     pub fn put<R: Wait>(&self, rt: &R, pass: &mut TurnPass<D>, turn: D) -> Result<(), D>
         requires queue { pass.old.queue ≡ self.now.queue }
         requires stamp { pass.old.stamp ≡ Some (D.stamp turn) }
@@ -98,7 +101,8 @@ impl<D: Stamped> TurnQueue<D> {
         Ok(())
     }
 
-    /// Takes the first turn, which has the stamp of all others. `None` where the queue is found empty.
+    /// Takes the first turn, which has the stamp of all others. `None` where the queue is found
+    /// empty.
     pub fn take<R: Wait>(&self, rt: &R, pass: &mut TurnPass<D>) -> Option<D>
         requires { pass.old.queue ≡ self.now.queue }
         ensures queue { pass.new.queue ≡ pass.old.queue }
@@ -116,8 +120,9 @@ impl<D: Stamped> TurnQueue<D> {
 }
 
 impl<D: Stamped + Drop> TurnQueue<D> {
-    /// A queue with room for so many turns, in which the first turn is already, its keeper, and its passes, at most 1,024 of them.
-    /// All turns will have the first one's stamp. Without memory the answer is an error, and the first turn is dropped.
+    /// A queue with room for so many turns, in which the first turn is already, its keeper, and its
+    /// passes, at most 1,024 of them. All turns will have the first one's stamp. Without memory the
+    /// answer is an error, and the first turn is dropped.
     pub fn new<R: Wait>(
         rt: &R,
         alloc: Global,
@@ -145,8 +150,9 @@ impl<D: Stamped + Drop> TurnQueue<D> {
         ))
     }
 
-    /// Ends the queue, once all its passes are back, and gives the turns that are left, the oldest first. Turns were taken, and
-    /// are left, in the order in which they were put. Without memory all comes back.
+    /// Ends the queue, once all its passes are back, and gives the turns that are left, the oldest
+    /// first. Turns were taken, and are left, in the order in which they were put. Without memory
+    /// all comes back.
     pub fn close<R: Wait>(
         self,
         rt: &R,

@@ -12,8 +12,9 @@ pub(crate) type Thief<T> = Stealer<T, Global, Hand<T>, Law>;
 
 pub(crate) type Token<T> = Pass<T, Hand<T>>;
 
-/// The right of one thread to steal tickets of a pool. It has no clone, and can go to another thread. Contracts see the pool
-/// that it is of, how many tickets it knows to have left that pool, and those that it stole, the newest last.
+/// The right of one thread to steal tickets of a pool. It has no clone, and can go to another
+/// thread. Contracts see the pool that it is of, how many tickets it knows to have left that pool,
+/// and those that it stole, the newest last.
 #[derive(Drop)]
 pub struct BodyWorker<T> {
     pub(crate) thief: Thief<T>,
@@ -34,9 +35,10 @@ impl<T> Model for BodyWorker<T> {
 }
 
 impl<T> BodyWorker<T> {
-    /// A ticket of the pool, without waiting and without memory. The worker tries again where another took the ticket that it saw.
-    /// `None` where the pool is found empty, or where others took 2^64 - 1 tickets meanwhile. That nobody else is
-    /// given the ticket is what `LocalPool::close` says, once all are back; that it is the oldest is shown by tests.
+    /// A ticket of the pool, without waiting and without memory. The worker tries again where
+    /// another took the ticket that it saw. `None` where the pool is found empty, or where others
+    /// took 2^64 - 1 tickets meanwhile. That nobody else is given the ticket is what
+    /// `LocalPool::close` says, once all are back; that it is the oldest is shown by tests.
     pub fn steal(&mut self) -> Option<T>
         ensures pool { self.new.pool ≡ self.old.pool }
         ensures stolen { IfSome result (λ x. self.new.taken ≡ self.old.taken ++ x ∷ []) }

@@ -23,7 +23,7 @@ use Rattle.codec.specs.declared.body.TaskResult.{TaskResult}
 use Rattle.serial_meaning.specs.Job.{JobOf, IsJob, meaning_of}
 use Rattle.serial_meaning.specs.Places.{outcome_of, room, value_within}
 use Rattle.serial_meaning.specs.Serial.{serial, serial_turns}
-use Rattle.agreement.proofs.Tasks.{numbers_given}
+use Rattle.agreement_laws.proofs.Tasks.{numbers_given}
 use Rattle.sub_rules.specs.Carrying.{holds_numbers}
 use Rattle.sub_rules.specs.Changes.{ends}
 use Rattle.sub_rules.specs.declared.change.ContentChange.{ContentChange}
@@ -49,13 +49,13 @@ use Rattle.actor_laws.proofs.next.Fitting.{arity_fits}
 use Rattle.event_script.specs.declared.event.Asked.TheVariants as asked
 use Rattle.event_script.specs.declared.event.Event.TheVariants.{Start, AtNode}
 use Rattle.event_script.specs.declared.event.NodeEvent.TheVariants.{Deliver, Whole, Ask}
-use Rattle.run_tables.proofs.Lists.{some_same}
+use Rattle.table_laws.proofs.Lists.{some_same}
 use Rattle.world_steps.specs.Answers.{StepResult, stepped, with_some}
 use Rattle.world_steps.specs.Nodes.{can_start, starts}
 use Rattle.world_steps.specs.Steps.{CarriedOut}
 use Rattle.world_steps.specs.World.{Down, HouseAt, IsUp, Up, WorldOf, node_in, open_house, recorded, with_used}
-use Rattle.safe_runs.specs.Right.{HouseIsRight}
-use Rattle.safe_runs.specs.Sound.{IsSound}
+use Rattle.run_laws.specs.Right.{HouseIsRight}
+use Rattle.run_laws.specs.Sound.{IsSound}
 use Rattle.newcomer_laws.specs.Newcomers.{AllCarriedOut, CanCome, CanFinish, newcomers, turns_of}
 use Rattle.newcomer_laws.proofs.Going.{HouseGoes, NodeGoes, house_goes, node_goes, one_more, sent_last, went}
 

@@ -13,13 +13,13 @@ use Rattle.node_core.specs.Steps.{StepOf}
 use Rattle.event_script.specs.declared.event.Event.TheVariants.{AtHouse, AtNode}
 use Rattle.event_script.specs.declared.event.HouseEvent.TheVariants as at_house
 use Rattle.event_script.specs.declared.event.NodeEvent.{NodeEvent}
-use Rattle.run_tables.proofs.Lists.{some_same}
+use Rattle.table_laws.proofs.Lists.{some_same}
 use Rattle.world_steps.specs.Answers.{StepResult, stepped, with_some}
 use Rattle.world_steps.specs.Houses.{Ends}
 use Rattle.world_steps.specs.Nodes.{at_node, comes}
 use Rattle.world_steps.specs.Steps.{CarriedOut, HouseEnds}
 use Rattle.world_steps.specs.World.{Down, HouseAt, IsUp, WorldOf, node_in, open_house}
-use Rattle.safe_runs.proofs.Places.{put_here}
+use Rattle.run_laws.proofs.Places.{put_here}
 
 -- the packet that was sent last
 pub sent_last : (net : List PacketOf) (p : PacketOf) (k : ℕ) → length net ≡ k → slice_get (net ++ p ∷ []) k ≡ Some p

@@ -8,16 +8,16 @@ use Rattle.clearinghouse.specs.declared.parts.RootGrant.{RootGrant}
 use Rattle.event_script.specs.declared.event.Event.{Event}
 use Rattle.event_script.specs.declared.event.Event.TheVariants.{AtHouse}
 use Rattle.event_script.specs.declared.event.HouseEvent.TheVariants.{Tick}
-use Rattle.run_tables.specs.Tables.{◌∈◌}
+use Rattle.table_laws.specs.Tables.{◌∈◌}
 use Rattle.world_steps.specs.Answers.{StepResult}
 use Rattle.world_steps.specs.Runs.{CanBegin, Entry, Runs}
 use Rattle.world_steps.specs.Steps.{CarriedOut}
 use Rattle.world_steps.specs.World.{WorldOf, first_over, open_house, recorded}
-use Rattle.safe_runs.specs.Next.{IsSilent}
-use Rattle.safe_runs.specs.Sound.{IsSound, sound_here, sound_of}
-use Rattle.safe_runs.specs.Standing.{WorldStands}
-use Rattle.safe_runs.proofs.Going.{first_sound, run_sound, step_sound}
-use Rattle.safe_runs.proofs.StandingSteps.{first_stands, runs_stand}
+use Rattle.run_laws.specs.Next.{IsSilent}
+use Rattle.run_laws.specs.Sound.{IsSound, sound_here, sound_of}
+use Rattle.run_laws.specs.Standing.{WorldStands}
+use Rattle.run_laws.proofs.Going.{first_sound, run_sound, step_sound}
+use Rattle.run_laws.proofs.StandingSteps.{first_stands, runs_stand}
 use Rattle.newcomer_laws.specs.Newcomers.{AllCarriedOut, CanCome, IsReady, newcomers, turns_of}
 use Rattle.newcomer_laws.proofs.Alone.{finishes}
 use Rattle.newcomer_laws.proofs.Ready.{moment_readies}

@@ -17,16 +17,16 @@ use Rattle.clearinghouse.specs.declared.parts.Enlisted.{Enlisted}
 use Rattle.clearinghouse.specs.declared.parts.RootGrant.{RootGrant}
 use Rattle.event_script.specs.declared.event.Event.TheVariants.{AtHouse}
 use Rattle.event_script.specs.declared.event.HouseEvent.TheVariants as at_house
-use Rattle.run_tables.proofs.Lists.{some_same}
+use Rattle.table_laws.proofs.Lists.{some_same}
 use Rattle.world_steps.specs.Answers.{StepResult}
 use Rattle.world_steps.specs.Houses.{Opens, Restarts, opened_by, silence}
 use Rattle.world_steps.specs.Nodes.{can_start}
 use Rattle.world_steps.specs.Steps.{CarriedOut, HouseEnds}
 use Rattle.world_steps.specs.World.{Down, HouseAt, IsUp, WorldOf, open_house}
-use Rattle.safe_runs.specs.Next.{IsRootFree, IsSilent}
-use Rattle.safe_runs.specs.Standing.{WorldStands}
-use Rattle.safe_runs.proofs.NextHouse.{moment_does}
-use Rattle.safe_runs.proofs.NextRoot.{root_freed}
+use Rattle.run_laws.specs.Next.{IsRootFree, IsSilent}
+use Rattle.run_laws.specs.Standing.{WorldStands}
+use Rattle.run_laws.proofs.NextHouse.{moment_does}
+use Rattle.run_laws.proofs.NextRoot.{root_freed}
 use Rattle.newcomer_laws.specs.Newcomers.{CanCome, IsReady}
 
 -- who isn't listed isn't where some are declared dead

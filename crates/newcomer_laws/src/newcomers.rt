@@ -7,13 +7,13 @@ ghost use Rattle.clearinghouse.specs.declared.parts.RootGrant.{RootGrant};
 ghost use Rattle.event_script.specs.declared.event.Event.{Event};
 ghost use Rattle.event_script.specs.declared.event.Event.TheVariants.{AtHouse};
 ghost use Rattle.event_script.specs.declared.event.HouseEvent.TheVariants.{Restart, Tick};
-ghost use Rattle.run_tables.specs.Tables.{◌∈◌};
+ghost use Rattle.table_laws.specs.Tables.{◌∈◌};
 ghost use Rattle.world_steps.specs.Answers.{StepResult};
 ghost use Rattle.world_steps.specs.Nodes.{can_start};
 ghost use Rattle.world_steps.specs.Runs.{CanBegin, Entry, Runs};
 ghost use Rattle.world_steps.specs.Steps.{CarriedOut};
 ghost use Rattle.world_steps.specs.World.{WorldOf, first_over, open_house, recorded};
-ghost use Rattle.safe_runs.specs.Next.{IsSilent};
+ghost use Rattle.run_laws.specs.Next.{IsSilent};
 ghost use Rattle.newcomer_laws.specs.Newcomers.{AllCarriedOut, CanCome, IsReady, newcomers, turns_of};
 
 /// In a world of a run whose clearinghouse is open, has no outcome and doesn't grant the root,

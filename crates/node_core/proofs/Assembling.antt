@@ -55,7 +55,8 @@ behind_first y z zs more none = by_same (nat_eq y.number z.number) refl
     by_same true same = let here : Some z ≡ None = rw (more, same) at none in cc
     by_same false same = (rw (more, same) refl, rw (more, same) at none)
 
--- what is still to come of the joined bytes: a part is among them already, or isn't and has no part of its number there
+-- what is still to come of the joined bytes: a part is among them already, or isn't and has no part
+-- of its number there
 abbrev pub to_come : Bool → PartOf → List PartOf → List ℕ
 to_come true y parts = joined parts
 to_come false y parts = joined (put_part y parts)

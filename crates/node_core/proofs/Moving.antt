@@ -1,5 +1,6 @@
--- Worked runs of nodes that leave: an Offer that comes again, at a node that leaves and at one that has finished; a departure that
--- is refused while a request is pending; a leaver that awaits its thief; and an Offer that is dropped as it is accepted.
+-- Worked runs of nodes that leave: an Offer that comes again, at a node that leaves and at one that
+-- has finished; a departure that is refused while a request is pending; a leaver that awaits its
+-- thief; and an Offer that is dropped as it is accepted.
 use Rattle.std.specs.Prelude.{◌≡◌, refl, ℕ, pos, ◌^◌, List, [], ◌∷◌, ◌++◌, Some, map}
 use Rattle.ids.specs.Members.{follow}
 use Rattle.ids.specs.Names.{Grant, house_of}
@@ -70,8 +71,8 @@ offered from hop parent =
 abbrev taken_from : ℕ → ℕ → PacketOf
 taken_from from hop = to from (body.OfferAck (record { from = 4; grant = grant; hop = hop }))
 
--- worker 4 is offered it by 3 at hop 1, and offers it to 5 at hop 2; the first Offer comes again: the same acknowledgement, and no
--- subcomputation changes
+-- worker 4 is offered it by 3 at hop 1, and offers it to 5 at hop 2; the first Offer comes again:
+-- the same acknowledgement, and no subcomputation changes
 abbrev moved_on : List Call
 moved_on = Comes listed ∷ Comes (offered 3 1 6) ∷ Departs 5 ∷ Comes (offered 3 1 6) ∷ []
 
@@ -94,7 +95,8 @@ released : (p : Pointer) → (play (job_of p) (moved_on ++ Comes (body.OfferAck 
 unfolding by_state by_option by_status by_order for_some recovering.for_some on_body on_packet ask exec depart resend follow table.packet table.fields table.offer field.worker field.grant field.actor field.counted field.raised field.progress field.task field.place field.steps field.step field.thread field.numbers field.signed field.frames field.frame field.goes_to field.slots field.slot field.records field.stolen field.hop field.outcome
 released p = refl
 
--- worker 4 finishes it and is acknowledged; the Offer comes again: an acknowledgement, and nothing is held
+-- worker 4 finishes it and is acknowledged; the Offer comes again: an acknowledgement, and nothing
+-- is held
 abbrev finished : List Call
 finished = Comes listed ∷ Comes (offered 3 1 6) ∷ Runs grant 0 ∷ Comes (body.ResultAck (record { grant = grant })) ∷ Comes (offered 3 1 6) ∷ []
 
@@ -124,8 +126,8 @@ sent_after_refuse : (p : Pointer) → (play (job_of p) leaves_after_refuse [] (s
 unfolding by_state by_option by_status by_order for_some recovering.for_some on_body on_packet ask exec depart resend follow
 sent_after_refuse p = refl
 
--- worker 4 has granted its only frame to 3 and departs: the frozen rest is released, but no Leave goes while 3 lacks its Grant; it
--- is sent again, 3 says that it has it, and Leave goes
+-- worker 4 has granted its only frame to 3 and departs: the frozen rest is released, but no Leave
+-- goes while 3 lacks its Grant; it is sent again, 3 says that it has it, and Leave goes
 abbrev the_grant : PacketOf
 the_grant = to 3 (body.Grant (record { seq = 1; grant = record { minter = 4; number = 1 }; task = task; saved = [] }))
 
@@ -155,8 +157,8 @@ sent_awaiting : (p : Pointer) → (play (job_of p) awaiting [] (start (job_of p)
 unfolding by_state by_option by_status by_order for_some recovering.for_some on_body on_packet ask exec depart resend follow table.packet table.fields table.offer field.worker field.grant field.actor field.counted field.raised field.progress field.task field.place field.steps field.step field.thread field.numbers field.signed field.frames field.frame field.goes_to field.slots field.slot field.records field.stolen field.hop field.outcome
 sent_awaiting p = refl
 
--- worker 4 sees 5 dead, and is offered what waits for 5: it is accepted, acknowledged and dropped, and leaves no post behind, so a
--- thief gets Refuse
+-- worker 4 sees 5 dead, and is offered what waits for 5: it is accepted, acknowledged and dropped,
+-- and leaves no post behind, so a thief gets Refuse
 abbrev dropped : List Call
 dropped = Comes (body.Roster (roster 5 Dead)) ∷ Comes (offered 3 1 5) ∷ Comes (body.Steal (record { from = 3; seq = 1 })) ∷ []
 

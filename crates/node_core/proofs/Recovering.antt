@@ -1,4 +1,5 @@
--- One roster that shows a holder dead, another one left to a live heir, and a subcomputation's host dead, computed.
+-- One roster that shows a holder dead, another one left to a live heir, and a subcomputation's host
+-- dead, computed.
 use Rattle.std.specs.Prelude.{◌≡◌, refl, ℕ, pos, List, [], ◌∷◌, None, Some, map}
 use Rattle.ids.specs.Members.{follow}
 use Rattle.ids.specs.Names.{Grant, house_of}
@@ -43,8 +44,8 @@ roster version of_11 of_12 of_14 = record {
       record { incarnation = 13; status = Live } ∷ record { incarnation = 14; status = of_14 } ∷ [];
 }
 
--- worker 3 holds three subcomputations, of hosts 13, 14 and the clearinghouse; 11 holds the frames of grants 1, 2 and 3, and 12
--- that of grant 4
+-- worker 3 holds three subcomputations, of hosts 13, 14 and the clearinghouse; 11 holds the frames
+-- of grants 1, 2 and 3, and 12 that of grant 4
 abbrev before : NodeOf
 before = record (starting 3) {
   state = Member (roster 2 Live Live Live);
@@ -63,7 +64,8 @@ step p = step_of (job_of p) before (on_body (job_of p) None (body.Roster (roster
 abbrev abort : ℕ → PacketOf
 abort n = record { job = 1; to = 11; body = body.Abort (record { grant = own n }) }
 
--- what waited for 14 is dropped first; then the records that 11 held are closed, by rising grant over all subcomputations
+-- what waited for 14 is dropped first; then the records that 11 held are closed, by rising grant
+-- over all subcomputations
 aborts : (p : Pointer) → (step p).sent ≡ abort 3 ∷ abort 1 ∷ abort 2 ∷ []
 unfolding step on_body follow by_state by_option by_status by_order for_some recovering.for_some
 aborts p = refl

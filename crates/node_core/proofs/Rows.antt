@@ -1,4 +1,5 @@
--- Worked runs of the Fibonacci program on 2: one node alone, packets that come twice, a thief, and a node that leaves.
+-- Worked runs of the Fibonacci program on 2: one node alone, packets that come twice, a thief, and
+-- a node that leaves.
 use Rattle.std.specs.Prelude.{◌≡◌, refl, ℕ, pos, ◌^◌, List, [], ◌∷◌, ◌++◌, map}
 use Rattle.ids.specs.Members.{follow}
 use Rattle.ids.specs.Names.{Grant, house_of}
@@ -70,7 +71,8 @@ twice : (p : Pointer) → answer_after (job_of p) (Comes listed ∷ Asks House �
 unfolding on_body on_packet by_state by_option by_status by_order for_some ask exec depart resend follow
 twice p = refl
 
--- a request of worker 5 comes twice to worker 3, which has two ready frames: the same Grant twice, of frame 3, and one record
+-- a request of worker 5 comes twice to worker 3, which has two ready frames: the same Grant twice,
+-- of frame 3, and one record
 abbrev asked_twice : List Call
 asked_twice =
     Comes both_listed ∷ Asks House ∷ Comes root_granted ∷ Runs root 0 ∷ Comes (body.Steal (record { from = 5; seq = 1 })) ∷

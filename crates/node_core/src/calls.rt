@@ -21,9 +21,10 @@ use serial_meaning::Job;
 use std::alloc::{AllocError, Global};
 
 impl<'a> Node<'a> {
-    /// Asks a victim for work, which is another worker that the roster shows live, or the clearinghouse. E60 where the node isn't
-    /// joined or has ended, or the victim isn't such a one; E61 where a request is pending, or the node leaves; E62 where no count of
-    /// requests is left; E63 where there is no memory, behind all of these. A refusal changes nothing.
+    /// Asks a victim for work, which is another worker that the roster shows live, or the
+    /// clearinghouse. E60 where the node isn't joined or has ended, or the victim isn't such a one;
+    /// E61 where a request is pending, or the node leaves; E62 where no count of requests is left;
+    /// E63 where there is no memory, behind all of these. A refusal changes nothing.
     #[tactic(auto, unfolding(crate::specs::Calls::ask, node_state::specs::Node::by_state))]
     pub fn ask(&mut self, alloc: Global, victim: Victim) -> Result<Step, NodeError>
         ensures answer { Meets (calls.ask self.old.job victim self.old.node) result self.old self.new }
@@ -67,9 +68,11 @@ impl<'a> Node<'a> {
         Count::of(asked)
     }
 
-    /// Sends again what isn't answered yet: a joining node its Join, a member its Beat, its pending Steal, and the Result of each
-    /// finished subcomputation, by rising grant; a leaving node its Beat, the Offers of what it holds and the Grants of the
-    /// thieves that it awaits, each by rising grant, and, where there are neither, its Leave. E60 where the node has ended, E63 where there is no memory. It changes nothing.
+    /// Sends again what isn't answered yet: a joining node its Join, a member its Beat, its pending
+    /// Steal, and the Result of each finished subcomputation, by rising grant; a leaving node its
+    /// Beat, the Offers of what it holds and the Grants of the thieves that it awaits, each by
+    /// rising grant, and, where there are neither, its Leave. E60 where the node has ended, E63
+    /// where there is no memory. It changes nothing.
     #[tactic(auto, unfolding(crate::specs::Calls::resend, node_state::specs::Node::by_state))]
     pub fn resend(&self, alloc: Global) -> Result<Step, NodeError>
         ensures answer { Meets (calls.resend self.now.job self.now.node) result self.now self.now }
@@ -128,8 +131,8 @@ impl<'a> Node<'a> {
     }
 }
 
-/// Whom a request to a victim goes to; none where it may not be asked: a worker may that is another one and is shown live, and the
-/// clearinghouse always.
+/// Whom a request to a victim goes to; none where it may not be asked: a worker may that is another
+/// one and is shown live, and the clearinghouse always.
 fn address_of(roster: &Roster, own: Incarnation, victim: Victim) -> Option<Actor>
     requires { AreInOrder name_of_member roster.now.members }
     ensures { (n : NodeOf) → n.incarnation ≡ own → result

@@ -1,4 +1,5 @@
-//! Changes of a subcomputation: an outcome that comes, a turn, and the end of what isn't wanted any more.
+//! Changes of a subcomputation: an outcome that comes, a turn, and the end of what isn't wanted any
+//! more.
 ghost use Rattle.std.specs.Prelude.{◌≡◌, IfOk, Ok, Some};
 ghost use Rattle.codec.specs.declared.body.Body.TheVariants as body;
 ghost use Rattle.node_state.specs.Parts.{IsMember};
@@ -19,8 +20,8 @@ use std::alloc::{AllocError, Global};
 use sub_rules::Prepared;
 
 impl<'a> Node<'a> {
-    /// The outcome of a grant comes: it is acknowledged, and its record closed, if it is open; a value is then handed to the clearinghouse,
-    /// which may save it.
+    /// The outcome of a grant comes: it is acknowledged, and its record closed, if it is open; a
+    /// value is then handed to the clearinghouse, which may save it.
     #[tactic(auto, unfolding(crate::specs::Cases::on_body, crate::specs::Steps::for_some, node_state::specs::Node::by_state))]
     pub(crate) fn member_result(
         &mut self,
@@ -55,8 +56,9 @@ impl<'a> Node<'a> {
         self.change(alloc, sent, held, prepared, last)
     }
 
-    /// The Save of the outcome of a task at a place: none for too deep, nor where no value is saved of the place that is left without the
-    /// steps to successors at its end. Refused only when out of memory.
+    /// The Save of the outcome of a task at a place: none for too deep, nor where no value is saved
+    /// of the place that is left without the steps to successors at its end. Refused only when out
+    /// of memory.
     fn save_of(
         &self,
         alloc: Global,
@@ -81,8 +83,9 @@ impl<'a> Node<'a> {
         alone(alloc, &Packet::save(self.job.number(), roster.epoch, save))
     }
 
-    /// The subcomputation of a grant changes as it was prepared, between packets that are sent before and behind: the holder of each record
-    /// that is dropped is told so, and the host that waits for the outcome gets it if there is one.
+    /// The subcomputation of a grant changes as it was prepared, between packets that are sent
+    /// before and behind: the holder of each record that is dropped is told so, and the host that
+    /// waits for the outcome gets it if there is one.
     pub(crate) fn change(
         &mut self,
         alloc: Global,
@@ -123,7 +126,8 @@ impl<'a> Node<'a> {
         })
     }
 
-    /// A subcomputation isn't wanted any more: it is dropped, and the holders of its records are told so.
+    /// A subcomputation isn't wanted any more: it is dropped, and the holders of its records are
+    /// told so.
     #[tactic(auto, unfolding(crate::specs::Cases::on_body, crate::specs::Cases::by_option, node_state::specs::Node::by_state))]
     pub(crate) fn member_abort(&mut self, alloc: Global, abort: Abort) -> Result<Step, NodeError>
         requires { IsMember self.old.node.state }

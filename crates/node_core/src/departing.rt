@@ -1,4 +1,5 @@
-//! A node that leaves: it offers what it holds to its heir, and says that it has left once the heir and its thieves have all.
+//! A node that leaves: it offers what it holds to its heir, and says that it has left once the heir
+//! and its thieves have all.
 ghost use Rattle.std.specs.Prelude.{◌≡◌, ◌++◌, Ok, Some, None, [], ◌∷◌, IfOk, IfErr, IsErrOf, IsTrue, OnOk, not, nat_eq, true, false, map, is_some, ◌&&◌, ◌+◌};
 ghost use Rattle.std.specs.List.{list_any};
 ghost use Rattle.ids.specs.Members.{is_live};
@@ -33,12 +34,13 @@ use std::marker::Model;
 use steal_protocol::{Heard, Reply};
 
 impl<'a> Node<'a> {
-    /// Leaves to an heir, which is another worker that the roster shows live: what the node holds is frozen and offered to it,
-    /// by rising grant, in Pieces where an Offer has more than 65,536 bytes, and where it holds nothing and awaits no thief it
-    /// says at once that it has left. E60 where the node isn't joined or has ended; E61 where it leaves already; E50 where a
-    /// request is pending; E53 where the heir isn't another live member; E52 where a subcomputation has moved 2^32 - 1 times;
-    /// E51 where an Offer has more than 1,073,741,824 bytes; E63 where there is no memory, which may come in the place of E51.
-    /// A refusal changes nothing.
+    /// Leaves to an heir, which is another worker that the roster shows live: what the node holds
+    /// is frozen and offered to it, by rising grant, in Pieces where an Offer has more than 65,536
+    /// bytes, and where it holds nothing and awaits no thief it says at once that it has left. E60
+    /// where the node isn't joined or has ended; E61 where it leaves already; E50 where a request
+    /// is pending; E53 where the heir isn't another live member; E52 where a subcomputation has
+    /// moved 2^32 - 1 times; E51 where an Offer has more than 1,073,741,824 bytes; E63 where there
+    /// is no memory, which may come in the place of E51. A refusal changes nothing.
     #[tactic(auto, unfolding(crate::specs::Calls::depart, node_state::specs::Node::by_state))]
     pub fn depart(&mut self, alloc: Global, heir: Incarnation) -> Result<Step, NodeError>
         ensures answer { Meets (calls.depart self.old.job heir self.old.node) result self.old self.new }
@@ -104,8 +106,8 @@ impl<'a> Node<'a> {
         self.parts.held().law_stand_in_order();
     }
 
-    /// A newer roster is kept, and nothing that is frozen changes; but a node that holds something ends where its heir isn't
-    /// live any more.
+    /// A newer roster is kept, and nothing that is frozen changes; but a node that holds something
+    /// ends where its heir isn't live any more.
     #[tactic(auto, unfolding(crate::specs::Cases::on_body, node_state::specs::Node::by_state))]
     pub(crate) fn leaving_roster(
         &mut self,
@@ -138,7 +140,8 @@ impl<'a> Node<'a> {
         }
     }
 
-    /// A thief asks a leaving node for work, which has none to give: as a member answers where no frame is ready.
+    /// A thief asks a leaving node for work, which has none to give: as a member answers where no
+    /// frame is ready.
     #[tactic(auto, unfolding(crate::specs::Cases::on_body, steal_protocol::specs::Replies::by_order, node_state::specs::Node::by_state))]
     pub(crate) fn leaving_steal(&mut self, alloc: Global, steal: Steal) -> Result<Step, NodeError>
         requires { IsLeaving self.old.node.state }
@@ -159,7 +162,8 @@ impl<'a> Node<'a> {
         }
     }
 
-    /// A grant that was taken here already, and was minted by a worker, is acknowledged again; no task is taken any more.
+    /// A grant that was taken here already, and was minted by a worker, is acknowledged again; no
+    /// task is taken any more.
     #[tactic(auto, unfolding(crate::specs::Cases::on_body, node_state::specs::Node::by_state))]
     pub(crate) fn leaving_grant(&mut self, alloc: Global, grant: Grant) -> Result<Step, NodeError>
         requires { IsLeaving self.old.node.state }
@@ -183,8 +187,9 @@ impl<'a> Node<'a> {
         Ok(sends(alloc, sent))
     }
 
-    /// The heir has a subcomputation at the hop with which it was offered, or an awaited thief has its grant: what is left is
-    /// awaited no more, and where nothing else is, the node says that it has left.
+    /// The heir has a subcomputation at the hop with which it was offered, or an awaited thief has
+    /// its grant: what is left is awaited no more, and where nothing else is, the node says that it
+    /// has left.
     #[tactic(auto, unfolding(crate::specs::Cases::on_body, node_state::specs::Node::by_state))]
     pub(crate) fn leaving_offer_ack(
         &mut self,

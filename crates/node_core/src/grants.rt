@@ -29,8 +29,8 @@ use sub_rules::{Opening, Readied};
 use subcomputation::Sub;
 
 impl<'a> Node<'a> {
-    /// A thief asks for work: one that isn't shown live, or asks again what it asked before its last request, is ignored, and
-    /// the same request again gets the same answer.
+    /// A thief asks for work: one that isn't shown live, or asks again what it asked before its
+    /// last request, is ignored, and the same request again gets the same answer.
     #[tactic(auto, unfolding(crate::specs::Cases::on_body, steal_protocol::specs::Replies::by_order, node_state::specs::Node::by_state))]
     pub(crate) fn member_steal(&mut self, alloc: Global, steal: Steal) -> Result<Step, NodeError>
         requires { IsMember self.old.node.state }
@@ -51,8 +51,8 @@ impl<'a> Node<'a> {
         }
     }
 
-    /// A request that is newer than the thief's last one: the newest ready frame of the least level is granted, and where none
-    /// is ready it is refused.
+    /// A request that is newer than the thief's last one: the newest ready frame of the least level
+    /// is granted, and where none is ready it is refused.
     fn serve(&mut self, alloc: Global, steal: Steal) -> Result<Step, NodeError>
         requires { IsMember self.old.node.state }
         ensures { Meets (cases.served self.old.job steal
@@ -96,8 +96,8 @@ impl<'a> Node<'a> {
         Ok(sends(alloc, sent))
     }
 
-    /// A ready frame of the subcomputation of a grant is given away, and granted under the next number, which is this name, with the values
-    /// that stand below its place.
+    /// A ready frame of the subcomputation of a grant is given away, and granted under the next
+    /// number, which is this name, with the values that stand below its place.
     fn give(
         &mut self,
         alloc: Global,
@@ -150,7 +150,8 @@ impl<'a> Node<'a> {
         let _ = self.job.checked();
     }
 
-    /// The name of the next grant that is minted here; none where as many were minted as are counted.
+    /// The name of the next grant that is minted here; none where as many were minted as are
+    /// counted.
     fn next_grant(&self) -> Option<GrantId>
         ensures { result ≡ (if nat_lt (self.now.node.minted + 1) (2 ^ 64) then Some
             (record { minter = self.now.node.incarnation; number = self.now.node.minted + 1 }) else None) }
@@ -159,8 +160,9 @@ impl<'a> Node<'a> {
         GrantId::of(Actor::worker(self.parts.incarnation()), number)
     }
 
-    /// A task comes that answers the pending request: it is taken if its grant was never taken here and it fits the program, and the values
-    /// that come with it stand below it. A grant that was taken here already, and was minted by a worker, is acknowledged again.
+    /// A task comes that answers the pending request: it is taken if its grant was never taken here
+    /// and it fits the program, and the values that come with it stand below it. A grant that was
+    /// taken here already, and was minted by a worker, is acknowledged again.
     #[tactic(auto, unfolding(crate::specs::Cases::on_body, node_state::specs::Node::by_state))]
     pub(crate) fn member_grant(&mut self, alloc: Global, grant: Grant) -> Result<Step, NodeError>
         requires member { IsMember self.old.node.state }
@@ -178,7 +180,8 @@ impl<'a> Node<'a> {
         self.acknowledge_grant(alloc, grant.grant)
     }
 
-    /// A grant that was taken here already, and was minted by a worker, is acknowledged again, at hop 0.
+    /// A grant that was taken here already, and was minted by a worker, is acknowledged again, at
+    /// hop 0.
     pub(crate) fn acknowledge_grant(
         &mut self,
         alloc: Global,

@@ -25,7 +25,8 @@ use std::alloc::Global;
 use subcomputation::Sub;
 
 impl<'a> Node<'a> {
-    /// As `exec_ready`, for a grant and a frame by their numbers: E40 too where these name none, at a node that is joined.
+    /// As `exec_ready`, for a grant and a frame by their numbers: E40 too where these name none, at
+    /// a node that is joined.
     pub fn exec_ready_named(
         &mut self,
         alloc: Global,
@@ -44,7 +45,8 @@ impl<'a> Node<'a> {
         }
     }
 
-    /// As `exec_turn`, for a grant and a frame by their numbers: E40 too where these name none, at a node that is joined.
+    /// As `exec_turn`, for a grant and a frame by their numbers: E40 too where these name none, at
+    /// a node that is joined.
     pub fn exec_turn_named(
         &mut self,
         alloc: Global,
@@ -65,7 +67,8 @@ impl<'a> Node<'a> {
         }
     }
 
-    /// As `whole_ready`, for a grant and a frame by their numbers: E40 too where these name none, at a node that is joined.
+    /// As `whole_ready`, for a grant and a frame by their numbers: E40 too where these name none,
+    /// at a node that is joined.
     pub fn whole_ready_named(
         &mut self,
         alloc: Global,
@@ -87,7 +90,8 @@ impl<'a> Node<'a> {
         }
     }
 
-    /// As `whole_with`, for a grant and a frame by their numbers: E40 too where these name none, at a node that is joined.
+    /// As `whole_with`, for a grant and a frame by their numbers: E40 too where these name none, at
+    /// a node that is joined.
     pub fn whole_with_named(
         &mut self,
         alloc: Global,
@@ -113,8 +117,8 @@ impl<'a> Node<'a> {
         }
     }
 
-    /// The grant and the frame of these numbers; none where no subcomputation of that grant is held, or where no frame of it can
-    /// have that number.
+    /// The grant and the frame of these numbers; none where no subcomputation of that grant is
+    /// held, or where no frame of it can have that number.
     fn named(&self, minter: u64, number: u64, frame: u64) -> Option<(GrantId, FrameNo)>
         ensures grant { IfSome result (λ at. at.0 ≡ record { minter = minter; number = number }) }
         ensures frame { IfSome result (λ at. at.1 ≡ frame) }
@@ -126,7 +130,8 @@ impl<'a> Node<'a> {
         Some((sub.grant(), frame))
     }
 
-    /// Why a frame that has no name isn't carried out: E60 where the node isn't joined or has ended, else E40.
+    /// Why a frame that has no name isn't carried out: E60 where the node isn't joined or has
+    /// ended, else E40.
     #[tactic(auto, unfolding(node_state::specs::Node::by_state))]
     fn unnamed(&self) -> NodeError
         ensures { result ≡ by_state self.now.node.state NotJoined (λ _. Stale) (λ _ _. Stale) NotJoined }
@@ -152,7 +157,8 @@ impl<'a> Node<'a> {
         }
     }
 
-    /// As `depart`, for an heir by its start word: E53 too for a word that is no worker's, where `depart` would say so.
+    /// As `depart`, for an heir by its start word: E53 too for a word that is no worker's, where
+    /// `depart` would say so.
     pub fn depart_named(&mut self, alloc: Global, heir: u64) -> Result<Step, NodeError>
         ensures answer { Meets (calls.depart self.old.job heir self.old.node) result self.old self.new }
         ensures out_of_memory { IsErrOf result Memory → MayLackMemory (calls.depart self.old.job heir self.old.node) }
@@ -166,8 +172,8 @@ impl<'a> Node<'a> {
         }
     }
 
-    /// Why a node doesn't leave to a word that is no worker's: E60 where it isn't joined or has ended, E61 where it leaves
-    /// already, E50 where a request is pending, else E53.
+    /// Why a node doesn't leave to a word that is no worker's: E60 where it isn't joined or has
+    /// ended, E61 where it leaves already, E50 where a request is pending, else E53.
     #[tactic(auto, unfolding(node_state::specs::Node::by_state))]
     fn heirless(&self) -> NodeError
         ensures { result ≡ by_state self.now.node.state NotJoined (λ _.

@@ -45,8 +45,8 @@ macro_rules! case {
     };
 }
 
-/// A node of a job: what it holds, and what each packet and each call does at it. Contracts see the job, the node and the
-/// posts of its ready frames.
+/// A node of a job: what it holds, and what each packet and each call does at it. Contracts see the
+/// job, the node and the posts of its ready frames.
 #[derive(Drop)]
 pub struct Node<'a> {
     pub(crate) job: &'a Job,
@@ -72,7 +72,8 @@ impl<'a> Model for Node<'a> {
 }
 
 impl<'a> Node<'a> {
-    /// A node that starts, and the Join with which it asks to be listed; refused only when out of memory (E63).
+    /// A node that starts, and the Join with which it asks to be listed; refused only when out of
+    /// memory (E63).
     pub fn start(
         alloc: Global,
         job: &'a Job,
@@ -107,9 +108,10 @@ impl<'a> Node<'a> {
         ))
     }
 
-    /// What comes in a packet's bytes is done, by the kind of the packet and by where the node stands. Bytes that are no packet
-    /// are refused (E30 to E36), also by a node that has ended; a packet of another job, or to somebody else, is ignored. E62
-    /// where a request would be granted and no grant is left to mint, E63 where there is no memory. A refusal changes nothing.
+    /// What comes in a packet's bytes is done, by the kind of the packet and by where the node
+    /// stands. Bytes that are no packet are refused (E30 to E36), also by a node that has ended; a
+    /// packet of another job, or to somebody else, is ignored. E62 where a request would be granted
+    /// and no grant is left to mint, E63 where there is no memory. A refusal changes nothing.
     #[tactic(auto, unfolding(crate::specs::Cases::on_packet))]
     pub fn on_bytes(&mut self, alloc: Global, bytes: &[u8]) -> Result<Step, NodeError>
         ensures { Meets (cases.on_bytes self.old.job (own_candidate self.old.posts) bytes.now self.old.node)
@@ -128,7 +130,8 @@ impl<'a> Node<'a> {
         self.on_body(alloc, packet.into_body())
     }
 
-    /// The table: a row for each kind, and a column for a joining node, a member, a leaving node and an ended one.
+    /// The table: a row for each kind, and a column for a joining node, a member, a leaving node
+    /// and an ended one.
     #[tactic(auto, unfolding(crate::specs::Cases::on_body, node_state::specs::Node::by_state))]
     fn on_body(&mut self, alloc: Global, body: Body) -> Result<Step, NodeError>
         requires { IsTrue (fits_body body) }
@@ -163,7 +166,8 @@ impl<'a> Node<'a> {
         let _ = &self.parts;
     }
 
-    /// The frame that a thief would be granted now is one that is ready, and none only where none is. Does nothing.
+    /// The frame that a thief would be granted now is one that is ready, and none only where none
+    /// is. Does nothing.
     pub fn law_may_choose(&self)
         ensures { IsCandidate self.now.node (own_candidate self.now.posts) }
     {

@@ -1,4 +1,5 @@
-//! Offers that come to a member: what fits is taken, and recovered by the roster that the member has.
+//! Offers that come to a member: what fits is taken, and recovered by the roster that the member
+//! has.
 ghost use Rattle.std.specs.Prelude.{◌≡◌, Ok, Some, None, [], ◌∷◌, IfOk, IsTrue, true};
 ghost use Rattle.codec.specs.Table as table;
 ghost use Rattle.codec.specs.declared.body.Body.TheVariants as body;
@@ -26,8 +27,9 @@ use std::alloc::{AllocError, Global};
 use subcomputation::Sub;
 
 impl<'a> Node<'a> {
-    /// An Offer comes: where its hop is above the greatest one with which its grant was taken, it is accepted if it fits and
-    /// nothing of that name is held, and recovered by the present roster; else it is acknowledged again.
+    /// An Offer comes: where its hop is above the greatest one with which its grant was taken, it
+    /// is accepted if it fits and nothing of that name is held, and recovered by the present
+    /// roster; else it is acknowledged again.
     #[tactic(auto, unfolding(crate::specs::Cases::on_body, node_state::specs::Node::by_state))]
     pub(crate) fn member_offer(&mut self, alloc: Global, offer: Offer) -> Result<Step, NodeError>
         requires member { IsMember self.old.node.state }
@@ -50,8 +52,8 @@ impl<'a> Node<'a> {
         }
     }
 
-    /// A subcomputation that fits comes, behind packets that are sent before: it is taken as it is left by a recovery by the
-    /// present roster.
+    /// A subcomputation that fits comes, behind packets that are sent before: it is taken as it is
+    /// left by a recovery by the present roster.
     fn accept(
         &mut self,
         alloc: Global,
@@ -80,7 +82,8 @@ impl<'a> Node<'a> {
         Ok(sends(alloc, sent))
     }
 
-    /// What fits here has no record of what is held here, and none of a grant that was minted here. Does nothing.
+    /// What fits here has no record of what is held here, and none of a grant that was minted here.
+    /// Does nothing.
     fn law_is_foreign(&self, sub: &Sub)
         requires { progress_fits self.now.node.incarnation self.now.node.subs sub.now.content sub.now.content.progress
             ≡ true }

@@ -25,8 +25,9 @@ use std::alloc::{AllocError, Global};
 const PART_BYTES: usize = 65_536;
 
 impl<'a> Node<'a> {
-    /// A Piece comes to a member: where its hop is above the greatest one with which its grant was taken its part is kept, and with the last
-    /// one the Offer that they spell is taken as one that comes whole; else it is acknowledged again.
+    /// A Piece comes to a member: where its hop is above the greatest one with which its grant was
+    /// taken its part is kept, and with the last one the Offer that they spell is taken as one that
+    /// comes whole; else it is acknowledged again.
     #[tactic(auto, unfolding(crate::specs::Cases::on_body, node_state::specs::Node::by_state))]
     pub(crate) fn member_piece(&mut self, alloc: Global, piece: Piece) -> Result<Step, NodeError>
         requires { IsMember self.old.node.state }
@@ -38,7 +39,8 @@ impl<'a> Node<'a> {
         self.collect(alloc, piece)
     }
 
-    /// A Piece comes to a node that leaves: an Offer that was taken is acknowledged again, none is taken any more.
+    /// A Piece comes to a node that leaves: an Offer that was taken is acknowledged again, none is
+    /// taken any more.
     #[tactic(auto, unfolding(crate::specs::Cases::on_body, node_state::specs::Node::by_state))]
     pub(crate) fn leaving_piece(&mut self, alloc: Global, piece: Piece) -> Result<Step, NodeError>
         requires { IsLeaving self.old.node.state }
@@ -59,7 +61,8 @@ impl<'a> Node<'a> {
         Ok(sends(alloc, sent))
     }
 
-    /// The part of a Piece is kept beside those that have come of the same Offer, or ignored; with the last one they are put together.
+    /// The part of a Piece is kept beside those that have come of the same Offer, or ignored; with
+    /// the last one they are put together.
     #[tactic(auto, unfolding(crate::specs::Cases::collected, crate::specs::Cases::collects))]
     fn collect(&mut self, alloc: Global, piece: Piece) -> Result<Step, NodeError>
         requires { IsMember self.old.node.state }
@@ -113,7 +116,8 @@ impl<'a> Node<'a> {
         Ok(offer_in(packet.into_body(), piece))
     }
 
-    /// What the parts of a grant's Offer spelled is taken as an Offer that comes whole, and they go.
+    /// What the parts of a grant's Offer spelled is taken as an Offer that comes whole, and they
+    /// go.
     #[tactic(auto, unfolding(crate::specs::Cases::put_together, crate::specs::Cases::or_forgets))]
     fn take_offer(
         &mut self,
@@ -181,8 +185,8 @@ fn part_of(piece: Piece) -> (GrantId, Part)
     (grant, Part { number, bytes })
 }
 
-/// The bytes of the parts that have come and of that of a Piece, which hasn't, in their order. There is room for all of them at
-/// once: each part has as many as it can but for the last one.
+/// The bytes of the parts that have come and of that of a Piece, which hasn't, in their order.
+/// There is room for all of them at once: each part has as many as it can but for the last one.
 fn joined_with(alloc: Global, parts: &SortedMap<Part>, piece: &Piece) -> Result<Vec<u8>, AllocError>
     requires { part_in piece.now.number parts.now ≡ None }
     ensures { IfOk result (λ bytes. bytes.items ≡ joined (put_part (part_of piece.now) parts.now)) }

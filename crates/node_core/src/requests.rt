@@ -22,8 +22,8 @@ use node_state::State;
 use std::alloc::Global;
 
 impl<'a> Node<'a> {
-    /// A roster comes to a joining node: the first that lists it as live makes it a member, and one that lists it as dead or
-    /// left ends it.
+    /// A roster comes to a joining node: the first that lists it as live makes it a member, and one
+    /// that lists it as dead or left ends it.
     #[tactic(auto, unfolding(crate::specs::Cases::by_status))]
     pub(crate) fn joining_roster(
         &mut self,
@@ -50,8 +50,9 @@ impl<'a> Node<'a> {
         }
     }
 
-    /// A roster comes to a member: a newer one of its epoch that lists it as live is kept, and what the node holds is recovered by
-    /// it; one of a greater epoch, or a newer one that lists it as dead or left, ends it.
+    /// A roster comes to a member: a newer one of its epoch that lists it as live is kept, and what
+    /// the node holds is recovered by it; one of a greater epoch, or a newer one that lists it as
+    /// dead or left, ends it.
     #[tactic(auto, unfolding(crate::specs::Cases::on_body, node_state::specs::Node::by_state))]
     pub(crate) fn member_roster(&mut self, alloc: Global, roster: Roster) -> Result<Step, NodeError>
         requires member { IsMember self.old.node.state }
@@ -71,8 +72,8 @@ impl<'a> Node<'a> {
         }
     }
 
-    /// A newer roster is kept, what is held is recovered by it, and a pending request is forgotten whose victim isn't live any
-    /// more.
+    /// A newer roster is kept, what is held is recovered by it, and a pending request is forgotten
+    /// whose victim isn't live any more.
     fn recover(&mut self, alloc: Global, roster: Roster) -> Result<Step, NodeError>
         requires member { IsMember self.old.node.state }
         requires rising { AreInOrder name_of_member roster.members }

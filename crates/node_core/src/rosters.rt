@@ -11,7 +11,8 @@ ghost use Rattle.node_core.specs.Meeting.{by_news};
 use codec::Roster;
 use ids::{Actor, Incarnation, Member, Status, item_of};
 
-/// What is said of a worker by members that stand by rising incarnation; none of one that isn't listed. It is found by binary search.
+/// What is said of a worker by members that stand by rising incarnation; none of one that isn't
+/// listed. It is found by binary search.
 pub fn status_of(members: &[Member], worker: Actor) -> Option<Status>
     requires { AreInOrder name_of_member members.now }
     ensures { result ≡ status_in worker members.now }

@@ -110,7 +110,8 @@ fn send_outcome(
     )
 }
 
-/// Adds an Abort to the holder of each record of a subcomputation that a frame or a record leaves, by rising grant.
+/// Adds an Abort to the holder of each record of a subcomputation that a frame or a record leaves,
+/// by rising grant.
 fn send_dropped(
     alloc: Global,
     job: &Job,
@@ -130,8 +131,9 @@ fn send_dropped(
     }
 }
 
-/// Adds what is sent where an update is made of a subcomputation that goes on: nothing unless it ends that; else an Abort to the
-/// holder of each record that is dropped, by rising grant, and the Result to the host that waits for it.
+/// Adds what is sent where an update is made of a subcomputation that goes on: nothing unless it
+/// ends that; else an Abort to the holder of each record that is dropped, by rising grant, and the
+/// Result to the host that waits for it.
 pub fn send_end(
     alloc: Global,
     job: &Job,

@@ -18,9 +18,11 @@ use std::alloc::Global;
 use sub_rules::{is_stale, law_turn_is_few};
 
 impl<'a> Node<'a> {
-    /// Carries out a ready frame of a grant's subcomputation by the end to which that thread comes on these numbers, whoever found it. E60
-    /// where the node isn't joined or has ended; E40 where the frame isn't ready here with that thread and those numbers, as none is at a
-    /// leaving node; E62 where no frame numbers are left; E63 where there is no memory. A refusal changes nothing.
+    /// Carries out a ready frame of a grant's subcomputation by the end to which that thread comes
+    /// on these numbers, whoever found it. E60 where the node isn't joined or has ended; E40 where
+    /// the frame isn't ready here with that thread and those numbers, as none is at a leaving node;
+    /// E62 where no frame numbers are left; E63 where there is no memory. A refusal changes
+    /// nothing.
     #[tactic(auto, unfolding(crate::specs::Calls::exec, crate::specs::Cases::by_option, node_state::specs::Node::by_state))]
     pub(crate) fn ends(
         &mut self,
@@ -80,9 +82,10 @@ impl<'a> Node<'a> {
         )
     }
 
-    /// Evaluates a ready frame of a grant's subcomputation, and carries it out by that turn. E60 where the node isn't joined or
-    /// has ended; E40 where the frame isn't ready here, as none is at a leaving node; E62 where no frame numbers are left; E63
-    /// where there is no memory. A refusal changes nothing.
+    /// Evaluates a ready frame of a grant's subcomputation, and carries it out by that turn. E60
+    /// where the node isn't joined or has ended; E40 where the frame isn't ready here, as none is
+    /// at a leaving node; E62 where no frame numbers are left; E63 where there is no memory. A
+    /// refusal changes nothing.
     #[tactic(auto, unfolding(crate::specs::Cases::by_option, node_state::specs::Node::by_state))]
     pub fn exec_ready(
         &mut self,
@@ -114,8 +117,9 @@ impl<'a> Node<'a> {
         self.exec(alloc, grant, frame, &done)
     }
 
-    /// As `exec_ready`, with a turn that was evaluated before, of the job's program: one of the ready frame's thread on its numbers
-    /// is that frame's own and is used; another one is put aside, and the body is evaluated here.
+    /// As `exec_ready`, with a turn that was evaluated before, of the job's program: one of the
+    /// ready frame's thread on its numbers is that frame's own and is used; another one is put
+    /// aside, and the body is evaluated here.
     pub fn exec_turn(
         &mut self,
         alloc: Global,
@@ -135,7 +139,8 @@ impl<'a> Node<'a> {
         }
     }
 
-    /// Whether a turn is a ready frame's own: carrying the frame out by its own turn is carrying it out by this one then.
+    /// Whether a turn is a ready frame's own: carrying the frame out by its own turn is carrying it
+    /// out by this one then.
     fn is_own(&self, grant: GrantId, frame: FrameNo, done: &Done) -> bool
         requires { done.now.program ≡ self.now.job.program }
         ensures { result ≡ true → calls.exec_ready self.now.job grant frame self.now.node

@@ -16,8 +16,8 @@ use sub_rules::numbers_in;
 use subcomputation::Sub;
 use victim_records::Records;
 
-/// A ready frame: the grant of its subcomputation, its number there, the thread that is to run, the numbers that the thread takes, and
-/// how many places can be below its own.
+/// A ready frame: the grant of its subcomputation, its number there, the thread that is to run, the
+/// numbers that the thread takes, and how many places can be below its own.
 #[derive(Drop)]
 pub struct Work {
     pub grant: GrantId,
@@ -27,8 +27,8 @@ pub struct Work {
     pub room: u16,
 }
 
-/// The state of a subcomputation, as it is shown: active; frozen for the heir to which the node leaves, with how far it was then; or
-/// finished, with its outcome.
+/// The state of a subcomputation, as it is shown: active; frozen for the heir to which the node
+/// leaves, with how far it was then; or finished, with its outcome.
 #[derive(Clone, Copy, PartialEq, Eq, Debug)]
 pub enum SubState {
     Active,
@@ -36,8 +36,8 @@ pub enum SubState {
     Finished(Outcome),
 }
 
-/// A subcomputation, as it is shown: its grant, how often it had moved when it came, its state, the numbers of its ready frames and
-/// of those that wait, and the grants of its open records.
+/// A subcomputation, as it is shown: its grant, how often it had moved when it came, its state, the
+/// numbers of its ready frames and of those that wait, and the grants of its open records.
 #[derive(Drop)]
 pub struct SubView {
     pub grant: GrantId,
@@ -49,8 +49,8 @@ pub struct SubView {
 }
 
 impl<'a> Node<'a> {
-    /// The work that comes after so many others, from the deepest level on and in a level the newest first; none where fewer
-    /// frames are ready. Refused only when out of memory (E63).
+    /// The work that comes after so many others, from the deepest level on and in a level the
+    /// newest first; none where fewer frames are ready. Refused only when out of memory (E63).
     pub fn ready_at(&self, alloc: Global, index: usize) -> Result<Option<Work>, NodeError>
         ensures work { IfOk result (λ o. o ≡ views.work_at self.now.node self.now.posts index) }
         ensures memory { IfErr result (λ e. e ≡ Memory) }
@@ -74,8 +74,8 @@ impl<'a> Node<'a> {
         &self.parts
     }
 
-    /// The subcomputations that it holds, by rising grant, each with its state: those of a node that leaves are frozen for its heir.
-    /// Refused only when out of memory (E63).
+    /// The subcomputations that it holds, by rising grant, each with its state: those of a node
+    /// that leaves are frozen for its heir. Refused only when out of memory (E63).
     pub fn subs(&self, alloc: Global) -> Result<Listed<SubView>, NodeError>
         ensures subs { IfOk result (λ s. s ≡ map (views.view_of (views.heir_of self.now.node.state))
             self.now.node.subs) }

@@ -19,10 +19,11 @@ use std::alloc::Global;
 use sub_rules::is_stale_for;
 
 impl<'a> Node<'a> {
-    /// Evaluates the task of a ready frame of a grant's subcomputation with all that comes of it, in at most so many turns, and carries the
-    /// frame out by the number that it gives. E60 where the node isn't joined or has ended; E40 where the frame isn't ready here, as none
-    /// is at a leaving node; E41 where the task takes more turns, or gives nothing in the room below its place; E63 where there is no
-    /// memory. A refusal changes nothing.
+    /// Evaluates the task of a ready frame of a grant's subcomputation with all that comes of it,
+    /// in at most so many turns, and carries the frame out by the number that it gives. E60 where
+    /// the node isn't joined or has ended; E40 where the frame isn't ready here, as none is at a
+    /// leaving node; E41 where the task takes more turns, or gives nothing in the room below its
+    /// place; E63 where there is no memory. A refusal changes nothing.
     #[tactic(auto, unfolding(crate::specs::Cases::by_option, node_state::specs::Node::by_state))]
     pub fn whole_ready(
         &mut self,
@@ -71,9 +72,10 @@ impl<'a> Node<'a> {
         }
     }
 
-    /// As `whole_ready`, with a task that was evaluated whole before, of the job's program: one of the ready frame's thread on its numbers,
-    /// in the room below its place, that took no more turns gives that frame's own value and is used; another one is put aside, and the
-    /// frame's task is evaluated here.
+    /// As `whole_ready`, with a task that was evaluated whole before, of the job's program: one of
+    /// the ready frame's thread on its numbers, in the room below its place, that took no more
+    /// turns gives that frame's own value and is used; another one is put aside, and the frame's
+    /// task is evaluated here.
     pub fn whole_with(
         &mut self,
         alloc: Global,
@@ -97,7 +99,8 @@ impl<'a> Node<'a> {
         }
     }
 
-    /// In how many turns the task was evaluated that was last carried out whole; 0 where none was. No clause speaks of it.
+    /// In how many turns the task was evaluated that was last carried out whole; 0 where none was.
+    /// No clause speaks of it.
     pub fn last_whole(&self) -> u64 {
         self.whole_turns
     }
@@ -128,7 +131,8 @@ impl<'a> Node<'a> {
         )
     }
 
-    /// Whether a task that was evaluated whole is a ready frame's own: carrying the frame out by its whole value is sending this one's then.
+    /// Whether a task that was evaluated whole is a ready frame's own: carrying the frame out by
+    /// its whole value is sending this one's then.
     fn is_own_whole(&self, grant: GrantId, frame: FrameNo, most_turns: u64, whole: &Whole) -> bool
         requires { whole.now.program ≡ self.now.job.program }
         ensures { result ≡ true → calls.whole_ready self.now.job most_turns grant frame self.now.node

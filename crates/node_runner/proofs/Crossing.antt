@@ -46,6 +46,8 @@ use Rattle.grain.specs.contracts.kept.KeptValues as KeptValues
 use Rattle.grain.specs.contracts.large.LargeTasks as LargeTasks
 use Rattle.grain.specs.contracts.left.Left as Left
 use Rattle.grain.specs.contracts.sizes.TaskSizes as TaskSizes
+use Rattle.grain.specs.contracts.threads.Known as Known
+use Rattle.grain.specs.contracts.threads.Threads as Threads
 use Rattle.node_runner.specs.contracts.leavers.Leavers as Leavers
 use Rattle.node_runner.specs.contracts.line.Line as Line
 use Rattle.node_runner.specs.contracts.pace.Pace as Pace
@@ -145,11 +147,20 @@ kept = search (sendable, wholes, crosses) depth 25
 home_field : IsSend (Home.the_field).row
 home_field = struct_send (shape Home.the_type) (line_field, (search (sendable, kept) depth 12, tt))
 
+by_depth : IsSend (Vec.the_row (Vec.the_row UnderWay.the_row Heap.the_row ghosts) Heap.the_row ghosts)
+by_depth = Vec-send (Vec.the_row UnderWay.the_row Heap.the_row ghosts) under_ways
+
 large_field : IsSend (LargeTasks.the_field).row
-large_field = struct_send (shape LargeTasks.the_type) (search (sendable, under_ways) depth 12, (search (sendable, crosses) depth 12, (search (sendable, crosses) depth 12, tt)))
+large_field = struct_send (shape LargeTasks.the_type) (search (sendable, crosses) depth 12, (search (sendable, by_depth) depth 12, (search sendable depth 12, tt)))
+
+known : IsSend (Vec.the_row Known.the_row Heap.the_row ghosts)
+known = Vec-send Known.the_row (search sendable depth 20)
+
+threads_field : IsSend (Threads.the_field).row
+threads_field = struct_send (shape Threads.the_type) (search (sendable, known) depth 12, tt)
 
 sizes_field : IsSend (TaskSizes.the_field).row
-sizes_field = struct_send (shape TaskSizes.the_type) (search (sendable, budget.the_send) depth 12, (large_field, (search sendable depth 12, (search sendable depth 12, tt))))
+sizes_field = struct_send (shape TaskSizes.the_type) (search (sendable, budget.the_send) depth 12, (large_field, (threads_field, tt)))
 
 own : IsSend (Owner.the_row Ticket.the_row)
 own = search (sendable, owner.the_send, ticket) depth 25

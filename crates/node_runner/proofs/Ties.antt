@@ -3,7 +3,7 @@ use Rattle.std.proofs.Common.{◌≡◌, ◌==◌, Bool, true, List, [], ◌∷�
 use Rattle.disk.specs.Device.{Device}
 use Rattle.saved_values.specs.declared.value.SavedValue.{SavedValue}
 use Rattle.serial_meaning.specs.Job.{JobOf, meaning_of}
-use Rattle.agreement.specs.Agreement.{AllSavedAgree}
+use Rattle.agreement_laws.specs.Agreement.{AllSavedAgree}
 use Rattle.world_steps.specs.Agrees.{StoredAgree}
 use Rattle.chronicle.specs.Seats.{ChronicleOf}
 use Rattle.chronicle.specs.declared.kept.Entry.{Entry}

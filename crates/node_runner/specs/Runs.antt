@@ -55,7 +55,7 @@ IsContextIn c words context = IsSeatIn c context.seat × IfSome context.node (Is
 
 -- what a node's thread has, in a chronicle and over a table of start words
 abbrev pub IsRunIn : {D : Type 0} → ChronicleOf → TableOf → NodeRun D → Type 0
-IsRunIn c words run = IsSeatIn c run.seat × (run.pen.table ≡ words.table) × IsHomeOf c.job.program run.desk.home
+IsRunIn c words run = IsSeatIn c run.seat × (run.pen.table ≡ words.table) × IsHomeOf c.job.program run.desk.home × (run.flat.program ≡ c.job.program)
 
 -- a body worker's context, for turns of the job's program
 abbrev pub IsWorkerOf : JobOf → WorkerContext → Type 0

@@ -1,4 +1,4 @@
-ghost use Rattle.std.specs.Prelude.{◌≡◌, length, IfOk, IfSome};
+ghost use Rattle.std.specs.Prelude.{◌≡◌, ◌≤◌, length, IfOk, IfSome};
 ghost use Rattle.kind_check.specs.Total.{Takes};
 ghost use Rattle.node_runner.specs.Lines.{IsHomeOf};
 ghost use Rattle.node_runner.specs.Turns.{IsFoundOf};
@@ -8,11 +8,11 @@ use crate::line::Line;
 use crate::turn::{Evaluated, Found};
 use chronicle::frame_of;
 use event_script::FrameOf;
-use grain::{KeptValues, TaskSizes};
+use grain::{KeptValues, TaskSizes, evaluate};
 use kind_check::Checked;
 use local_pool::Owner;
 use node_core::Work;
-use serial_meaning::Whole;
+use serial_meaning::{Flat, Whole};
 use std::alloc::{AllocError, Global};
 use std::sync::{Arc, Wait};
 
@@ -122,8 +122,8 @@ impl Desk {
         let ticket = Ticket {
             number,
             most_turns: self.sizes.most_turns(),
+            levels: self.sizes.levels(work.thread),
             work,
-            levels: self.sizes.levels(),
         };
         if self.owner.offer(ticket).is_err() {
             self.remove(number);
@@ -160,6 +160,57 @@ impl Desk {
         let whole = self.home.kept.take(work)?;
         self.sizes.use_kept(&whole);
         Some(whole)
+    }
+
+    /// Whether a ready frame's task is small by those of its thread before it.
+    pub(crate) fn is_small(&self, work: &Work) -> bool {
+        self.few_turns(work.thread) > 0
+    }
+
+    /// In at most how many turns such a task of a thread is evaluated.
+    pub(crate) fn few_turns(&self, thread: u8) -> u64 {
+        self.sizes.few_turns(thread)
+    }
+
+    /// Evaluates the task of a ready frame that is small whole, in at most so many turns. Where
+    /// that isn't done the frame comes back, whose task counts as small no more.
+    pub(crate) fn evaluate_small(
+        &mut self,
+        alloc: Global,
+        checked: &Checked,
+        flat: &Flat,
+        work: Work,
+        most_turns: u64,
+    ) -> Result<Whole, Work>
+        requires flat { flat.now.program ≡ checked.now }
+        requires takes { Takes checked.now work.thread (length work.numbers) }
+        ensures home { self.new.home ≡ self.old.home }
+        ensures own { IfOk result (λ w. w.program ≡ checked.now) }
+        ensures within { IfOk result (λ w. w.turns ≤ most_turns) }
+    {
+        let Work {
+            grant,
+            frame,
+            thread,
+            numbers,
+            room,
+        } = work;
+        match evaluate(alloc, checked, flat, room, thread, numbers, most_turns, 0) {
+            Ok(whole) => {
+                self.sizes.succeed(&whole);
+                Ok(whole)
+            }
+            Err((numbers, _)) => {
+                self.sizes.misjudge(thread);
+                Err(Work {
+                    grant,
+                    frame,
+                    thread,
+                    numbers,
+                    room,
+                })
+            }
+        }
     }
 
     /// A ticket is out. Whether there was memory.

@@ -22,7 +22,9 @@
 //! of its ticket whole, in as many turns as those before it suggest (`grain::TaskSizes`). What it
 //! finished below a task that takes more is kept, and frames are carried out by it; the frames of
 //! tasks that are known to be large, and those of threads that spawn nothing, take their turns in
-//! the node itself (`run_here`).
+//! the node itself (`run_here`). So does the node evaluate a task that is small by those before it,
+//! where its body workers have as much as they take, or nothing beside which it could run
+//! (`evaluate_here`).
 //!
 //! **Faults** are drawn from one word, for each place by itself: packets that are lost and that
 //! come twice (`Fates`), and whom a node asks. Crash i comes once 50 i events were committed, on

@@ -5,6 +5,7 @@ ghost use Rattle.node_runner.specs.Lines.{IsHomeOf};
 ghost use Rattle.node_runner.specs.Runs.{IsRunIn};
 ghost use Rattle.node_runner.specs.Turns.{IsFoundOf};
 
+use crate::config::RunConfig;
 use crate::counts::{Counts, End, Turns};
 use crate::desk::Desk;
 use crate::fates::Fates;
@@ -23,6 +24,7 @@ use disk::SteadyDisk;
 use event_script::{Event, FrameOf, NodeEvent, NodePlace};
 use grain::takes_its_numbers;
 use node_core::{NodeError, Work};
+use serial_meaning::Flat;
 use start_words::Pen;
 use std::alloc::Global;
 use std::sync::Wait;
@@ -85,13 +87,14 @@ struct Node {
     left_out: bool,
 }
 
-/// What a node's thread has in a run: a seat, a pen, a desk for its body workers, and the node of
-/// its place.
+/// What a node's thread has in a run: a seat, a pen, a desk for its body workers, the flat code by
+/// which it evaluates small tasks itself, and the node of its place.
 #[derive(Drop)]
 struct NodeRun<'a, D: SteadyDisk + Drop> {
     seat: ActorSeat<'a, D>,
     pen: Pen,
     desk: Desk,
+    flat: Flat,
     node: Node,
 }
 
@@ -110,38 +113,18 @@ pub(crate) fn run_node<'a, R: Wait + Clock, G: Gate + Sync, D: SteadyDisk + Drop
     requires home { IsHomeOf shared.now.chronicle.now.job.program desk.home }
     ensures { IsSeatIn shared.entry.now.chronicle.now result }
 {
-    let mut note = shared.board.note();
-    let faults = shared.config.faults();
-    let number = u64::from(place.index());
-    let fates = Fates::new(faults.word, number, faults.lose, faults.repeat);
-    let node = Node {
-        place,
-        word: 0,
-        inbox: Inbox::new(Some(place), Receiver::Worker(0), fates),
-        members: Members::new(alloc, faults.word, number),
-        plans: Plans::new(shared.config, place),
-        may_be_ready: false,
-        next: None,
-        has_asked: false,
-        leaves: false,
-        is_over: false,
-        rested: 0,
-        idle: 0,
-        patience: PATIENCE,
-        sent: 0,
-        holds: false,
-        held: 0,
-        dry: 0,
-        pauses: 0,
-        returned: 0,
-        passed: 0,
-        left_out: false,
+    let Ok(flat) = Flat::of(alloc, shared.chronicle.job().checked()) else {
+        shared.counts.end_by(End::Memory);
+        desk.bells().end();
+        return seat;
     };
+    let mut note = shared.board.note();
     let mut run = NodeRun {
         seat,
         pen,
         desk,
-        node,
+        flat,
+        node: Node::new(alloc, shared.config, place),
     };
     let mut turns = Turns::new();
     if start(rt, shared, &mut run) {
@@ -404,8 +387,9 @@ fn take_packet<G: Gate + Sync, D: SteadyDisk + Drop>(
 }
 
 /// A ready frame that isn't out is carried out by its own turn, where its task is short work or
-/// known to be large, or by its task's value, where an evaluation kept it; else it is offered to
-/// the body workers, if they take one more. Whether one was; none where there was no memory.
+/// known to be large, or by its task's value, where an evaluation kept it, or where it is small and
+/// no body worker waits for one; else it is offered to the body workers, if they take one more.
+/// Whether one was; none where there was no memory.
 fn offer_next<'a, R: Wait, G: Gate + Sync, D: SteadyDisk + Drop>(
     rt: &R,
     alloc: Global,
@@ -445,11 +429,36 @@ fn offer_next<'a, R: Wait, G: Gate + Sync, D: SteadyDisk + Drop>(
     if fits && run.desk.was_large(&work) {
         return run_here(rt, alloc, shared, run, work);
     }
+    if fits && run.desk.is_small(&work) && is_alone(rt, alloc, shared, run, &work) {
+        return evaluate_here(rt, alloc, shared, run, work);
+    }
     if run.desk.is_full() {
         run.node.next = Some(work);
         return Some(false);
     }
     Some(run.desk.offer(work))
+}
+
+/// Whether body workers need not be told of a ready frame: they have as much as they take, or
+/// nothing at all, and there is no other ready frame, so that no two would run at once.
+fn is_alone<'a, R: Wait, G: Gate + Sync, D: SteadyDisk + Drop>(
+    rt: &R,
+    alloc: Global,
+    shared: &Shared<'_, 'a, G, D>,
+    run: &mut NodeRun<'a, D>,
+    work: &Work,
+) -> bool
+    requires { IsRunIn shared.now.chronicle.now shared.now.words.now run.old }
+    ensures { IsRunIn shared.entry.now.chronicle.now shared.entry.now.words.now run.new }
+{
+    if run.desk.is_waiting() {
+        return run.desk.is_full();
+    }
+    let this = [frame_of(work)];
+    let other = shared
+        .chronicle
+        .ready(rt, alloc, &mut run.seat, run.node.place, &this);
+    other.is_none()
 }
 
 /// The ready frame that was found right behind the last one, or else the next one that isn't out,
@@ -490,6 +499,40 @@ fn run_here<'a, R: Wait, G: Gate + Sync, D: SteadyDisk + Drop>(
     };
     if !carry_out(rt, alloc, shared, run, frame, &Found::Turn(turn)) {
         return None;
+    }
+    Some(true)
+}
+
+/// The small task of a ready frame is evaluated by the node's own thread. Where it takes more turns
+/// than those before it the frame is the next one that is offered. None where there was no memory.
+fn evaluate_here<'a, R: Wait, G: Gate + Sync, D: SteadyDisk + Drop>(
+    rt: &R,
+    alloc: Global,
+    shared: &Shared<'_, 'a, G, D>,
+    run: &mut NodeRun<'a, D>,
+    work: Work,
+) -> Option<bool>
+    requires run { IsRunIn shared.now.chronicle.now shared.now.words.now run.old }
+    requires takes { Takes shared.now.chronicle.now.job.program work.thread (length work.numbers) }
+    ensures { IsRunIn shared.entry.now.chronicle.now shared.entry.now.words.now run.new }
+{
+    let frame = frame_of(&work);
+    let checked = shared.chronicle.job().checked();
+    let most = shared.counts.take_for(run.desk.few_turns(work.thread));
+    match run
+        .desk
+        .evaluate_small(alloc, checked, &run.flat, work, most)
+    {
+        Ok(whole) => {
+            shared.counts.give_back(most - whole.turns());
+            if !carry_out(rt, alloc, shared, run, frame, &Found::Whole(whole)) {
+                return None;
+            }
+        }
+        Err(work) => {
+            shared.counts.waste(most);
+            run.node.next = Some(work);
+        }
     }
     Some(true)
 }
@@ -566,6 +609,36 @@ fn ask<'a, R: Wait + Clock, G: Gate + Sync, D: SteadyDisk + Drop>(
 }
 
 impl Node {
+    /// The node of a place, which hasn't started yet.
+    fn new(alloc: Global, config: &RunConfig, place: NodePlace) -> Node {
+        let faults = config.faults();
+        let number = u64::from(place.index());
+        let fates = Fates::new(faults.word, number, faults.lose, faults.repeat);
+        Node {
+            place,
+            word: 0,
+            inbox: Inbox::new(Some(place), Receiver::Worker(0), fates),
+            members: Members::new(alloc, faults.word, number),
+            plans: Plans::new(config, place),
+            may_be_ready: false,
+            next: None,
+            has_asked: false,
+            leaves: false,
+            is_over: false,
+            rested: 0,
+            idle: 0,
+            patience: PATIENCE,
+            sent: 0,
+            holds: false,
+            held: 0,
+            dry: 0,
+            pauses: 0,
+            returned: 0,
+            passed: 0,
+            left_out: false,
+        }
+    }
+
     /// The number of its place.
     fn index(&self) -> usize {
         usize::from(self.place.index())

@@ -17,6 +17,9 @@ const AWAKE: u64 = 32;
 /// How long an actor sleeps in a turn then in a run of few nodes, in microseconds.
 const SLEEP: u64 = 50;
 
+/// The same in a run of one node, which nobody asks for work.
+const SLEEP_ALONE: u64 = 200;
+
 /// How long a node sleeps at least that asks in vain while others go on, in microseconds.
 const LONG_SLEEP: u64 = 250;
 
@@ -90,6 +93,9 @@ fn rest_after(rt: &impl Clock, nodes: u8, idle: u64, yields: u64) {
 /// How long an actor sleeps in a run of so many nodes, in microseconds: so long that all of them
 /// together wake as often as a few do.
 pub(crate) fn nap(nodes: u8) -> u64 {
+    if nodes == 1 {
+        return SLEEP_ALONE;
+    }
     let many = u64::from(nodes).saturating_add(FEW - 1) / FEW;
     SLEEP.saturating_mul(many)
 }

@@ -1,5 +1,6 @@
 ghost use Rattle.std.specs.Prelude.{◌≡◌, length, IfSome};
 ghost use Rattle.kind_check.specs.Total.{Takes};
+ghost use Rattle.serial_meaning.specs.Whole.{AreWholesOf};
 ghost use Rattle.node_runner.specs.Lines.{IsLineOf};
 ghost use Rattle.node_runner.specs.Turns.{IsEvaluatedOf};
 
@@ -17,7 +18,9 @@ use board::Note;
 use body_eval::Done;
 use chronicle::frame_of;
 use disk::SteadyDisk;
+use event_script::FrameOf;
 use grain::{Left, evaluate, takes_its_numbers};
+use ids::Numbers;
 use kind_check::Checked;
 use node_core::Work;
 use serial_meaning::Flat;
@@ -133,8 +136,9 @@ fn work<R: Wait + Clock, G: Gate + Sync, D: SteadyDisk + Drop>(
     )
 }
 
-/// Evaluates a ticket's task whole, in as many turns as it says or are left; where that isn't done,
-/// its frame's turn, with what was kept on the way. None where there is no memory for that.
+/// Evaluates a ticket's task whole, in as many turns as it says or are left; where these are none,
+/// or that isn't done, its frame's turn, with what was kept on the way. None where there is no
+/// memory for that.
 fn evaluate_ticket(
     alloc: Global,
     checked: &Checked,
@@ -146,7 +150,7 @@ fn evaluate_ticket(
     requires takes { Takes checked.now ticket.work.thread (length ticket.work.numbers) }
     ensures { IfSome result (IsEvaluatedOf checked.now) }
 {
-    let frame = frame_of(&ticket.work);
+    let (number, frame) = (ticket.number, frame_of(&ticket.work));
     let Work {
         thread,
         numbers,
@@ -154,6 +158,10 @@ fn evaluate_ticket(
         ..
     } = ticket.work;
     let most = counts.take_for(ticket.most_turns);
+    if most == 0 {
+        let left = Left::nothing(alloc);
+        return evaluate_turn(alloc, checked, number, frame, thread, numbers, left);
+    }
     match evaluate(
         alloc,
         checked,
@@ -167,7 +175,7 @@ fn evaluate_ticket(
         Ok(whole) => {
             counts.give_back(most - whole.turns());
             Some(Evaluated {
-                ticket: ticket.number,
+                ticket: number,
                 frame,
                 found: Found::Whole(whole),
                 left: Left::nothing(alloc),
@@ -175,15 +183,33 @@ fn evaluate_ticket(
         }
         Err((numbers, left)) => {
             counts.waste(most);
-            let turn = Done::on(alloc, checked, thread, numbers).ok()?;
-            Some(Evaluated {
-                ticket: ticket.number,
-                frame,
-                found: Found::Turn(turn),
-                left,
-            })
+            evaluate_turn(alloc, checked, number, frame, thread, numbers, left)
         }
     }
+}
+
+/// Evaluates the turn of a ticket's frame, of whose task this is left. None where there is no
+/// memory.
+fn evaluate_turn(
+    alloc: Global,
+    checked: &Checked,
+    ticket: u64,
+    frame: FrameOf,
+    thread: u8,
+    numbers: Numbers,
+    left: Left,
+) -> Option<Evaluated>
+    requires takes { Takes checked.now thread (length numbers) }
+    requires left { AreWholesOf checked.now left.kept.items }
+    ensures { IfSome result (IsEvaluatedOf checked.now) }
+{
+    let turn = Done::on(alloc, checked, thread, numbers).ok()?;
+    Some(Evaluated {
+        ticket,
+        frame,
+        found: Found::Turn(turn),
+        left,
+    })
 }
 
 /// Numbers a body, and asks the gate, each time in a turn, until it lets it be evaluated. Whether

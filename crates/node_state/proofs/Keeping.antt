@@ -277,7 +277,8 @@ member_kept w r a may are = ap (λ posts. record { node = record w.node { state 
 pub member_view : (v w : PartsOf) (r : Roster) (a b : AskerOf) → v ≡ w → a ≡ b → MayBeMember w.node.state → AreParts w → as_member v r a ≡ with_posts (record w.node { state = Member r; asker = b }) [] w.posts
 member_view v w r a b same equal may are = rw same (rw equal (member_kept w r b may are))
 
--- the whole, seen after a move of subcomputations: the posts that are left are those of ready frames
+-- the whole, seen after a move of subcomputations: the posts that are left are those of ready
+-- frames
 abbrev record_of : NodeOf → List Post → PartsOf
 record_of m posts = record { node = m; posts = posts }
 

@@ -11,7 +11,8 @@ use Rattle.ids.specs.declared.member.Status.TheVariants.{Live, Dead, Left}
 use Rattle.codec.specs.Pieces.{PartOf, name_of_part}
 use Rattle.codec.specs.declared.body.Piece.{Piece}
 
--- those of one Offer: its grant, who offers it, its hop, into how many parts it is cut, and those that came, by rising number
+-- those of one Offer: its grant, who offers it, its hop, into how many parts it is cut, and those
+-- that came, by rising number
 pub record AssemblyOf : Type 0 where
   pub grant : Grant
   pub from : ℕ

@@ -15,9 +15,9 @@ use Rattle.node_state.specs.declared.parts.Seen.{Seen}
 use Rattle.node_state.specs.declared.parts.State.{State}
 use Rattle.node_state.specs.declared.parts.State.TheVariants.{Joining, Member, Leaving, Ended}
 
--- a node: its name, where it stands, its subcomputations by rising grant, its requests, how many grants it has minted, its last
--- answer to each thief, which grant each thief has said last that it has, and which grants it has taken. What it has taken it
--- remembers as long as it lives
+-- a node: its name, where it stands, its subcomputations by rising grant, its requests, how many
+-- grants it has minted, its last answer to each thief, which grant each thief has said last that it
+-- has, and which grants it has taken. What it has taken it remembers as long as it lives
 pub record NodeOf : Type 0 where
   pub incarnation : ℕ
   pub state : State

@@ -117,8 +117,8 @@ pub record IsNext (n : NodeOf) (s : SubOf) (told : List Readied) : Type 0 where
 abbrev pub HasNoNewRecord : NodeOf → SubOf → Type 0
 HasNoNewRecord n s = (h : Grant) → IsFresh n h → record_in h s.content.records ≡ None
 
--- an update may be made of the subcomputation of a grant: what it leaves is kept, the frames that became ready are told, and it has
--- no record of a grant of which it had none
+-- an update may be made of the subcomputation of a grant: what it leaves is kept, the frames that
+-- became ready are told, and it has no record of a grant of which it had none
 pub record MayUpdateIn (n : NodeOf) (g : Grant) (u : Update) (told : List Readied) : Type 0 where
   pub sub : SubOf
   pub there : sub_in g n.subs ≡ Some sub
@@ -128,8 +128,8 @@ pub record MayUpdateIn (n : NodeOf) (g : Grant) (u : Update) (told : List Readie
   pub next : IsNext n (updated_sub u sub) told
   pub records : HasNoNewRecord n (updated_sub u sub)
 
--- a record may be opened of the subcomputation of a grant, in the place of its frame: nothing else becomes ready, and it has no record of
--- a grant of which it had none but the next one
+-- a record may be opened of the subcomputation of a grant, in the place of its frame: nothing else
+-- becomes ready, and it has no record of a grant of which it had none but the next one
 pub record MayOpenIn (n : NodeOf) (g : Grant) (x : Record) : Type 0 where
   pub sub : SubOf
   pub there : sub_in g n.subs ≡ Some sub
@@ -139,8 +139,8 @@ pub record MayOpenIn (n : NodeOf) (g : Grant) (x : Record) : Type 0 where
   pub counted : n.minted + 1 < 2 ^ 64
   pub records : HasNoNewRecord (record n { minted = n.minted + 1 }) (opened_sub x sub)
 
--- what comes of an Offer of a grant, which a recovery may have dropped: a subcomputation of that grant, with no record of a
--- grant that is still to be minted here
+-- what comes of an Offer of a grant, which a recovery may have dropped: a subcomputation of that
+-- grant, with no record of a grant that is still to be minted here
 abbrev pub MayCome : NodeOf → Grant → List Readied → Option SubOf → Type 0
 MayCome n g told None = Unit {0}
 MayCome n g told (Some s) = (s.grant ≡ g) × ComesTold s told × HasNoNewRecord n s

@@ -1,4 +1,5 @@
--- The ready frames of a node, in the order in which they are posted. Those of the same level stand together, the newest last.
+-- The ready frames of a node, in the order in which they are posted. Those of the same level stand
+-- together, the newest last.
 use Rattle.std.specs.Prelude.{ℕ, Bool, List, [], ◌∷◌, Option, Some, is_some}
 use Rattle.std.specs.List.{filter}
 use Rattle.ids.specs.Names.{Grant}
@@ -43,6 +44,7 @@ posted_all (r ∷ rs) posts = posted_all rs (posted (post_of r) posts)
 abbrev pub is_ready_post : NodeOf → Post → Bool
 is_ready_post n p = is_some (ready_at n p.grant p.frame)
 
--- the posts of a node after a step: what became ready stands behind the others of its level, and what is ready no more goes
+-- the posts of a node after a step: what became ready stands behind the others of its level, and
+-- what is ready no more goes
 abbrev pub posts_after : NodeOf → List ReadiedOf → List Post → List Post
 posts_after after became posts = filter (is_ready_post after) (posted_all became posts)

@@ -11,8 +11,8 @@ use ids::{GrantId, Hop, Incarnation, Named, SortedMap, Status, TryItemChange, it
 use std::alloc::{AllocError, Global};
 use std::marker::Model;
 
-/// The parts of an Offer that have come in Pieces, before all are there: of which grant it is, who offers it, at which hop,
-/// into how many parts it is cut, and those that came, by their numbers.
+/// The parts of an Offer that have come in Pieces, before all are there: of which grant it is, who
+/// offers it, at which hop, into how many parts it is cut, and those that came, by their numbers.
 #[derive(Drop)]
 pub struct Assembly {
     grant: GrantId,

@@ -54,8 +54,9 @@ impl Named for Confirmed {
     }
 }
 
-/// The parts of a node, and the posts of its ready frames: each ready frame of a subcomputation that isn't frozen has one
-/// post, of the level of its place, and there are no others. Contracts see the node and its posts.
+/// The parts of a node, and the posts of its ready frames: each ready frame of a subcomputation
+/// that isn't frozen has one post, of the level of its place, and there are no others. Contracts
+/// see the node and its posts.
 #[derive(Drop)]
 pub struct Parts {
     alloc: Global,
@@ -135,7 +136,8 @@ impl Parts {
         self.minted
     }
 
-    /// How many stolen frames became ready again, since their thieves were lost. No clause speaks of it.
+    /// How many stolen frames became ready again, since their thieves were lost. No clause speaks
+    /// of it.
     pub fn redone(&self) -> u64 {
         self.redone
     }
@@ -221,7 +223,8 @@ impl Parts {
         Some(found)
     }
 
-    /// Keeps a roster, as a member's, and forgets a pending request whose victim isn't live by what is said of it.
+    /// Keeps a roster, as a member's, and forgets a pending request whose victim isn't live by what
+    /// is said of it.
     pub fn keep_roster(&mut self, roster: Roster, victim: Option<Status>)
         requires { MayBeMember self.old.node.state }
         ensures { self.new ≡ with_posts (record self.old.node {
@@ -233,7 +236,8 @@ impl Parts {
         self.asker.settle(victim);
     }
 
-    /// Leaves to an heir, by the roster that it has: all that it holds is frozen, and the parts of Offers that came go.
+    /// Leaves to an heir, by the roster that it has: all that it holds is frozen, and the parts of
+    /// Offers that came go.
     pub fn leave(&mut self, heir: Incarnation)
         requires member { IsMember self.old.node.state }
         requires silent { self.old.node.asker.pending ≡ None }
@@ -255,7 +259,8 @@ impl Parts {
         self.state = State::Leaving(roster, heir);
     }
 
-    /// Notes that a thief has its grant, in the place of the one before; refused only when out of memory, which changes nothing.
+    /// Notes that a thief has its grant, in the place of the one before; refused only when out of
+    /// memory, which changes nothing.
     pub fn confirm(&mut self, confirmed: Confirmed) -> Result<(), AllocError>
         ensures ok { OnOk result (self.new
             ≡ with_posts (record self.old.node { confirmed = put_confirmed confirmed self.old.node.confirmed })
@@ -274,8 +279,8 @@ impl Parts {
         Some(assembly)
     }
 
-    /// Keeps the first part that comes of an Offer, in the place of what came of another one of its grant; refused only when
-    /// out of memory, which changes nothing.
+    /// Keeps the first part that comes of an Offer, in the place of what came of another one of its
+    /// grant; refused only when out of memory, which changes nothing.
     pub fn begin_assembly(&mut self, piece: Piece) -> Result<(), AllocError>
         ensures ok { OnOk result (self.new
             ≡ with_posts (record self.old.node { assemblies = put_assembly (begun piece) self.old.node.assemblies })
@@ -287,7 +292,8 @@ impl Parts {
         Ok(())
     }
 
-    /// Keeps one part more of the grant's Offer, where it stands; refused only when out of memory, which changes nothing.
+    /// Keeps one part more of the grant's Offer, where it stands; refused only when out of memory,
+    /// which changes nothing.
     pub fn add_part(&mut self, grant: GrantId, part: Part) -> Result<(), AllocError>
         requires { IsSome (assembly_in grant self.old.node.assemblies) }
         ensures ok { (a : AssemblyOf) → assembly_in grant self.old.node.assemblies ≡ Some a
@@ -317,9 +323,9 @@ impl Parts {
         &self.subs
     }
 
-    /// Keeps a roster, as a member's, carries out the recovery by it that was planned, and forgets a pending request whose victim
-    /// isn't live by what is said of it, and the parts of the Offers of those who are dead by the roster; refused only when out of
-    /// memory, which changes nothing.
+    /// Keeps a roster, as a member's, carries out the recovery by it that was planned, and forgets
+    /// a pending request whose victim isn't live by what is said of it, and the parts of the Offers
+    /// of those who are dead by the roster; refused only when out of memory, which changes nothing.
     pub fn recover(
         &mut self,
         roster: Roster,
@@ -354,8 +360,8 @@ impl Parts {
         Ok(())
     }
 
-    /// Takes what an Offer of a grant handed on at a hop, which is nothing where a recovery dropped it, and whose frames are
-    /// `ready`; refused only when out of memory, which changes nothing.
+    /// Takes what an Offer of a grant handed on at a hop, which is nothing where a recovery dropped
+    /// it, and whose frames are `ready`; refused only when out of memory, which changes nothing.
     pub fn accept(
         &mut self,
         grant: GrantId,
@@ -398,7 +404,8 @@ impl Parts {
         self.posts = Posts::new(self.alloc);
     }
 
-    /// A member makes a request of a victim: E61 where one waits for its answer, E62 where no count is left. A refusal changes nothing.
+    /// A member makes a request of a victim: E61 where one waits for its answer, E62 where no count
+    /// is left. A refusal changes nothing.
     pub fn ask(&mut self, victim: Actor) -> Result<Request, AskError>
         requires { IsMember self.old.node.state }
         ensures asked { IsAsked (asked victim self.old.node.asker) self.old.node.asker self.new.node.asker result }
@@ -426,8 +433,9 @@ impl Parts {
         Ok(())
     }
 
-    /// Makes a change that was prepared of the subcomputation that a member holds under a grant, where it stands, and posts the
-    /// frames that became ready in it; refused only when out of memory, which changes nothing.
+    /// Makes a change that was prepared of the subcomputation that a member holds under a grant,
+    /// where it stands, and posts the frames that became ready in it; refused only when out of
+    /// memory, which changes nothing.
     pub fn update(
         &mut self,
         grant: GrantId,
@@ -460,8 +468,9 @@ impl Parts {
         Ok(())
     }
 
-    /// Gives a ready frame away of the subcomputation that a member holds under a grant, where it stands, under the next number: its
-    /// record stands in its place. Keeps the answer to the thief. Refused only when out of memory, which changes nothing.
+    /// Gives a ready frame away of the subcomputation that a member holds under a grant, where it
+    /// stands, under the next number: its record stands in its place. Keeps the answer to the
+    /// thief. Refused only when out of memory, which changes nothing.
     pub fn give(&mut self, grant: GrantId, opened: Record, reply: Reply) -> Result<(), AllocError>
         requires { MayOpenIn self.old.node grant opened }
         ensures ok { (s : SubOf) → sub_in grant self.old.node.subs ≡ Some s
@@ -483,8 +492,8 @@ impl Parts {
         Ok(())
     }
 
-    /// Takes a subcomputation, under a grant that was never taken here, whose frames are `ready`: it answers the pending
-    /// request; refused only when out of memory, which changes nothing.
+    /// Takes a subcomputation, under a grant that was never taken here, whose frames are `ready`:
+    /// it answers the pending request; refused only when out of memory, which changes nothing.
     pub fn take(&mut self, sub: Sub, ready: &[Readied]) -> Result<(), AllocError>
         requires member { IsMember self.old.node.state }
         requires never { hop_in sub.grant self.old.node.seen ≡ None }
@@ -535,9 +544,7 @@ fn find_host(subs: &SortedMap<Sub>, grant: GrantId) -> Option<&Sub>
 fn law_frames_stand_in_order(subs: &SortedMap<Sub>, grant: GrantId)
     ensures { (s : SubOf) → sub_in grant subs.now ≡ Some s → AreInOrder name_of_frame s.content.frames }
 {
-    if let Some(sub) = subs.get(name_of(grant)) {
-        law_stands_in_order(sub);
-    }
+    law_are_whole(subs);
 }
 
 /// The frames of a subcomputation stand by rising number. Does nothing.
@@ -592,8 +599,8 @@ fn post_in(grant: GrantId, ready: Readied) -> Post
     }
 }
 
-/// Posts frames of a grant's subcomputation that became ready, behind the others; refused only when out of memory, which changes
-/// nothing.
+/// Posts frames of a grant's subcomputation that became ready, behind the others; refused only when
+/// out of memory, which changes nothing.
 fn post_ready(posts: &mut Posts, grant: GrantId, ready: &[Readied]) -> Result<(), AllocError>
     requires { IsByLevel posts.old }
     ensures ok { OnOk result (posts.new ≡ posted_all (ready_of grant ready.now) posts.old) }
@@ -620,8 +627,8 @@ fn take_back(posts: &mut Posts, grant: GrantId, ready: &[Readied])
     }
 }
 
-/// What an update of the subcomputation of a grant takes of the posts: all of its frames may go where it ends, and else the post
-/// of the frame that leaves does. Notes what turn that is.
+/// What an update of the subcomputation of a grant takes of the posts: all of its frames may go
+/// where it ends, and else the post of the frame that leaves does. Notes what turn that is.
 fn stale_by(subs: &SortedMap<Sub>, grant: GrantId, update: &Update, turn: &mut LastTurn) -> Stale
     ensures { result ≡ stale_by grant update.now (sub_in grant subs.now) }
 {
@@ -640,7 +647,8 @@ fn stale_by(subs: &SortedMap<Sub>, grant: GrantId, update: &Update, turn: &mut L
     }
 }
 
-/// What a frame that leaves the subcomputation of a grant takes of the posts: its own, if it is there. Notes which frame it is.
+/// What a frame that leaves the subcomputation of a grant takes of the posts: its own, if it is
+/// there. Notes which frame it is.
 fn stale_in(subs: &SortedMap<Sub>, grant: GrantId, number: FrameNo, turn: &mut LastTurn) -> Stale
     ensures { result ≡ stale_in grant number (sub_in grant subs.now) }
 {
@@ -694,8 +702,8 @@ fn withdraw_stale(posts: &mut Posts, subs: &SortedMap<Sub>)
     posts.retain(&StillReady { subs })
 }
 
-/// Takes the posts away of frames that came with a grant's subcomputation and aren't ready there. Such frames alone can be stale, so
-/// the other posts are looked at only where one of them is.
+/// Takes the posts away of frames that came with a grant's subcomputation and aren't ready there.
+/// Such frames alone can be stale, so the other posts are looked at only where one of them is.
 fn withdraw_come(posts: &mut Posts, subs: &SortedMap<Sub>, grant: GrantId, ready: &[Readied])
     requires { list_all (λ r. is_some (ready_of_sub r.frame (sub_in grant subs.now))) ready.now ≡ true
         → still_ready subs.now posts.old ≡ posts.old }
@@ -716,8 +724,8 @@ fn are_ready(subs: &SortedMap<Sub>, grant: GrantId, ready: &[Readied]) -> bool
         .all(|frame| test.stays(&post_in(grant, *frame)))
 }
 
-/// Puts a subcomputation under its grant, and remembers with which hop it came, where it never did; running out of memory changes
-/// neither.
+/// Puts a subcomputation under its grant, and remembers with which hop it came, where it never did;
+/// running out of memory changes neither.
 fn hold(subs: &mut SortedMap<Sub>, seen: &mut SortedMap<Seen>, sub: Sub) -> Result<(), AllocError>
     requires { hop_in sub.grant seen.old ≡ None }
     ensures subs { OnOk result (subs.new ≡ put_sub sub subs.old) }
@@ -736,7 +744,8 @@ fn hold(subs: &mut SortedMap<Sub>, seen: &mut SortedMap<Seen>, sub: Sub) -> Resu
     Ok(())
 }
 
-/// Puts what comes of an Offer under its grant, and remembers with which hop it came; running out of memory changes neither.
+/// Puts what comes of an Offer under its grant, and remembers with which hop it came; running out
+/// of memory changes neither.
 fn note(
     subs: &mut SortedMap<Sub>,
     seen: &mut SortedMap<Seen>,
@@ -760,8 +769,9 @@ fn note(
     Ok(())
 }
 
-/// Opens a record in the subcomputation of a grant, in the place of its frame, and keeps the answer to a thief; running out of memory changes
-/// neither. Where the thief has an answer, its place takes no memory; else the answer is forgotten again.
+/// Opens a record in the subcomputation of a grant, in the place of its frame, and keeps the answer
+/// to a thief; running out of memory changes neither. Where the thief has an answer, its place
+/// takes no memory; else the answer is forgotten again.
 fn open_and_answer(
     subs: &mut SortedMap<Sub>,
     replies: &mut Replies,

@@ -16,7 +16,7 @@ use Rattle.sub_rules.specs.Changes.{readied}
 use Rattle.sub_rules.specs.Debts.{one_if}
 use Rattle.sub_rules.proofs.Contents.{granted_is_sound, ready_test}
 use Rattle.sub_rules.proofs.Slots.{none_missing}
-use Rattle.agreement.specs.Agreement.{ContentAgrees}
+use Rattle.agreement_laws.specs.Agreement.{ContentAgrees}
 use Rattle.one_node.specs.Runs.{begun, post_of}
 use Rattle.one_node.specs.Holding.{Holds, is_ready_at, names}
 use Rattle.one_node.proofs.Posting.{and_true}

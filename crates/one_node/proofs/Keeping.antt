@@ -35,7 +35,7 @@ use Rattle.sub_rules.specs.Leaving.{LacksDebtor}
 use Rattle.sub_rules.proofs.Arrivals.{awaited}
 use Rattle.sub_rules.proofs.Departures.{frame_leaves, frame_number}
 use Rattle.sub_rules.proofs.Slots.{numbers_full}
-use Rattle.agreement.specs.Agreement.{ContentAgrees, KnownAgrees}
+use Rattle.agreement_laws.specs.Agreement.{ContentAgrees, KnownAgrees}
 use Rattle.one_node.specs.declared.fault.RunFault.{RunFault}
 use Rattle.one_node.specs.declared.fault.RunFault.TheVariants.{TurnsSpent, NumbersSpent, Memory}
 use Rattle.one_node.specs.Runs.{RunOf, after, one_turn, own_grant, posted_readied, with_change}

@@ -28,7 +28,7 @@ use Rattle.sub_rules.proofs.Contents.{has_ready, test_ready}
 use Rattle.sub_rules.proofs.Departures.{frame_number}
 use Rattle.sub_rules.proofs.Slots.{full_numbers}
 use Rattle.sub_rules.proofs.Sums.{part}
-use Rattle.agreement.specs.Agreement.{ContentAgrees}
+use Rattle.agreement_laws.specs.Agreement.{ContentAgrees}
 use Rattle.one_node.specs.Runs.{RunOf, next_of, one_turn, own_grant, posted_readied, with_change}
 use Rattle.one_node.specs.Runs as runs
 use Rattle.one_node.specs.Holding.{Holds, IsFrame, IsTurnOf, is_ready_at, names}

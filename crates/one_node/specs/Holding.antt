@@ -18,7 +18,7 @@ use Rattle.sub_rules.specs.declared.change.SubError.TheVariants.{Spent}
 use Rattle.sub_rules.specs.declared.content.Content.{Content}
 use Rattle.sub_rules.specs.Content.{is_ready}
 use Rattle.sub_rules.specs.Debts.{IsSound, one_if}
-use Rattle.agreement.specs.Agreement.{ContentAgrees}
+use Rattle.agreement_laws.specs.Agreement.{ContentAgrees}
 use Rattle.one_node.specs.declared.fault.RunFault.{RunFault}
 use Rattle.one_node.specs.declared.fault.RunFault.TheVariants.{TurnsSpent, NumbersSpent, Memory}
 use Rattle.one_node.specs.Runs.{RunOf, one_turn, own_grant}
@@ -36,8 +36,8 @@ pub record ArePosted (frames : List Frame) (posts : List Post) : Type 0 where
   pub own : AllByRecursion (λ p. p.grant ≡ own_grant) posts
   pub each : (n : ℕ) → sum_by (names n) posts ≡ sum_by (is_ready_at n) frames
 
--- a run that goes on: its content is sound and agrees with the job, it is that of the root task, of which no frame was
--- stolen, and its ready frames are posted
+-- a run that goes on: its content is sound and agrees with the job, it is that of the root task, of
+-- which no frame was stolen, and its ready frames are posted
 pub record Holds (job : JobOf) (run : RunOf) : Type 0 where
   pub known : IsJob job
   pub active : run.content.progress ≡ Active

@@ -31,8 +31,8 @@ pub record IsCounted (job : JobOf) (turns : ℕ) : Type 0 where
   pub turn : one_turn job.program run ≡ Some next
   pub spent : 2 ^ 32 ≤ next.content.next
 
--- an outcome is that of the run and the meaning of the job, and a refusal says why there is none within these turns; running
--- out of memory says nothing
+-- an outcome is that of the run and the meaning of the job, and a refusal says why there is none
+-- within these turns; running out of memory says nothing
 abbrev pub IsRunOf : JobOf → ℕ → Result Outcome RunFault → Type 0
 IsRunOf job turns (Ok o) = IsRunEnd job turns o × (o ≡ meaning_of job)
 IsRunOf job turns (Err TurnsSpent) = IsShort job turns

@@ -1,4 +1,5 @@
--- A run on one node: a subcomputation of the root task alone. A turn runs the newest ready frame of the greatest level.
+-- A run on one node: a subcomputation of the root task alone. A turn runs the newest ready frame of
+-- the greatest level.
 use Rattle.std.specs.Prelude.{ℕ, zero, suc, List, [], ◌∷◌, Option, Some}
 use Rattle.ids.specs.Names.{Grant, house_of}
 use Rattle.ids.specs.Options.{◌>>=◌}
@@ -58,7 +59,8 @@ frame_to_run run = do
   post ← deepest run.posts
   ready_in post.frame run.content
 
--- a run after the change that a frame's turn makes: the frame is posted no longer, and those that became ready are
+-- a run after the change that a frame's turn makes: the frame is posted no longer, and those that
+-- became ready are
 abbrev pub with_change : ℕ → ContentChange → RunOf → RunOf
 with_change n change run = record { content = change.after; posts = posted_readied change.ready (withdrawn own_grant n run.posts) }
 

@@ -1,10 +1,10 @@
 ghost use Rattle.std.specs.Prelude.{◌≡◌, IfOk, Some, []};
 ghost use Rattle.ids.specs.Names.{house_of};
-ghost use Rattle.agreement.specs.Agreement.{TaskAgrees};
+ghost use Rattle.agreement_laws.specs.Agreement.{TaskAgrees};
 ghost use Rattle.one_node.specs.Runs.{own_grant, post_of, root_task, run_of, start_of};
 ghost use Rattle.one_node.specs.Holding.{Holds};
 
-use agreement::{granted_content_agrees, root_content_agrees};
+use agreement_laws::{granted_content_agrees, root_content_agrees};
 use ids::{Actor, Epoch, FrameNo, GrantId, Numbers, Place, Task};
 use level_deques::{Post, Posts};
 use serial_meaning::Job;

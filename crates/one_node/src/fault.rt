@@ -24,9 +24,9 @@ impl RunFault {
         ensures { result ≡ number_of_error self }
     {
         match self {
-            RunFault::TurnsSpent => 95,
-            RunFault::NumbersSpent => 62,
-            RunFault::Memory => 9,
+            RunFault::TurnsSpent => ids::error_numbers::RUN_TURNS_SPENT,
+            RunFault::NumbersSpent => ids::error_numbers::SPENT,
+            RunFault::Memory => ids::error_numbers::MEMORY,
         }
     }
 }

@@ -7,7 +7,7 @@ ghost use Rattle.one_node.specs.Holding.{Follows, Holds, IsCarried, IsFrame, IsT
 
 use crate::begin::{Run, post_of};
 use crate::fault::RunFault;
-use agreement::turn_keeps_agreement;
+use agreement_laws::turn_keeps_agreement;
 use body_eval::Done;
 use ids::FrameNo;
 use level_deques::Posts;
@@ -17,7 +17,8 @@ use sub_rules::{
     Content, NothingKnown, Prepared, Readied, ReadyList, SubError, numbers_in, prepare_exec,
 };
 
-/// One turn of a run that goes on, where it stands: the newest ready frame of the greatest level runs, and is counted.
+/// One turn of a run that goes on, where it stands: the newest ready frame of the greatest level
+/// runs, and is counted.
 pub fn turn<C: CountsTurns>(
     alloc: Global,
     job: &Job,

@@ -1,5 +1,5 @@
--- The laws of the words that put formats together: what is read is spelled so, what is spelled is read, a value has one
--- spelling, and what can be written is spelled by what is written.
+-- The laws of the words that put formats together: what is read is spelled so, what is spelled is
+-- read, a value has one spelling, and what can be written is spelled by what is written.
 use Rattle.std.proofs.Common.{◌≡◌, ℕ, zero, suc, ◌+◌, ◌*◌, ◌%◌, ◌^◌, ◌<◌, ◌≤◌, Bool, true, false, cond, eqb, ltb, List, [], ◌∷◌, ◌++◌, length, take, drop, Option, Some, None, Result, Ok, Err, refl, sym, ap, subst, ◌∙◌, append_assoc, arith, inl, inr}
 use Rattle.std.specs.List.{list_all}
 use Rattle.std.proofs.Math.Seq.{take-append_seam}

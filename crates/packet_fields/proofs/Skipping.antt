@@ -1,4 +1,5 @@
--- Passing over fields one after the other: what their readings give of a value and of the bytes that are left.
+-- Passing over fields one after the other: what their readings give of a value and of the bytes
+-- that are left.
 use Rattle.std.proofs.Common.{◌≡◌, ℕ, suc, ◌-◌, ◌+◌, ◌<◌, List, ◌∷◌, Option, Some, Result, Ok, Err, refl, sym, ap, subst, ◌∙◌, arith}
 use Rattle.packet_fields.specs.declared.fault.Fault.{Fault}
 use Rattle.packet_fields.proofs.FormatLaws.{ok_is}

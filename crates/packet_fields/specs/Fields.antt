@@ -190,7 +190,8 @@ slot = tagged_arm (number 1) slot_arm tag_of_slot
 unfoldable pub slots : Format (List (Option ℤ))
 slots = listed 1 (at_most 8) (plain slot)
 
--- where a value goes: 0 for the whole subcomputation, or 1, a frame below the next one and a slot of at most 7
+-- where a value goes: 0 for the whole subcomputation, or 1, a frame below the next one and a slot
+-- of at most 7
 abbrev pub tag_of_return : Return → ℕ
 tag_of_return Whole = 0
 tag_of_return (Local f s) = 1
@@ -308,7 +309,8 @@ abbrev pub is_later : Option (List ℕ) → List ℕ → Bool
 is_later None p = true
 is_later (Some last) p = is_lt (place_cmp last p)
 
--- a saved value, whose place stands behind the last one: else it is a fault, as soon as the place was read
+-- a saved value, whose place stands behind the last one: else it is a fault, as soon as the place
+-- was read
 unfoldable pub saved_value : Option (List ℕ) → Format SavedValue
 saved_value last = made (followed (checked saved_place (is_later last)) (λ _. signed)) (λ x. record { place = x.0; value = x.1 }) (λ s. (s.place, s.value))
 

@@ -1,5 +1,6 @@
--- How values stand in bytes. A format gives a kind of value four meanings: which bytes spell a value, how it is read from
--- the front of bytes, what is written for it, and whether it can be written. Formats are put together by the words below.
+-- How values stand in bytes. A format gives a kind of value four meanings: which bytes spell a
+-- value, how it is read from the front of bytes, what is written for it, and whether it can be
+-- written. Formats are put together by the words below.
 use Rattle.std.specs.Prelude.{◌≡◌, ◌++◌, ◌<◌, ◌^◌, ◌&&◌, ℕ, zero, suc, Bool, true, false, nat_eq, nat_lt, nat_le, if◌then◌else◌, IsTrue, List, [], ◌∷◌, length, drop, take, get_or, Option, Some, None, Result, Ok, Err}
 use Rattle.std.specs.List.{list_all}
 use Rattle.byteorder.specs.Endian.{big_bytes, big_number}

@@ -37,13 +37,13 @@ impl Fault {
         ensures { result ≡ number_of_fault self }
     {
         match self {
-            Fault::TooBig => 30,
-            Fault::Short => 31,
-            Fault::Magic => 32,
-            Fault::Version => 33,
-            Fault::Kind => 34,
-            Fault::Field => 35,
-            Fault::Trailing => 36,
+            Fault::TooBig => ids::error_numbers::PACKET_TOO_BIG,
+            Fault::Short => ids::error_numbers::SHORT,
+            Fault::Magic => ids::error_numbers::MAGIC,
+            Fault::Version => ids::error_numbers::PACKET_VERSION,
+            Fault::Kind => ids::error_numbers::PACKET_KIND,
+            Fault::Field => ids::error_numbers::FIELD,
+            Fault::Trailing => ids::error_numbers::TRAILING,
         }
     }
 }
@@ -68,7 +68,7 @@ impl ReadError {
     {
         match self {
             ReadError::Fault(fault) => fault.number(),
-            ReadError::Memory => 9,
+            ReadError::Memory => ids::error_numbers::MEMORY,
         }
     }
 }

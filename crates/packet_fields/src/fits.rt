@@ -1,5 +1,6 @@
-//! Whether values can be written: for each field a test that answers what its format's `fits` says. Where any value can be
-//! written, as its type sees to it, the test looks at the value all the same: the prover then has what the type keeps.
+//! Whether values can be written: for each field a test that answers what its format's `fits` says.
+//! Where any value can be written, as its type sees to it, the test looks at the value all the
+//! same: the prover then has what the type keeps.
 ghost use Rattle.std.specs.Prelude.{◌≡◌, ◌<◌, ◌≤◌, IsTrue, length, None};
 ghost use Rattle.std.specs.List.{list_all};
 ghost use Rattle.packet_fields.specs.Format.{checked, items, number};
@@ -98,7 +99,8 @@ pub fn piece_of(pieces: &u16, value: &u16) -> bool
     *value < *pieces
 }
 
-/// Whether the part of an offer's spelling with a number, of so many pieces, may have so many bytes.
+/// Whether the part of an offer's spelling with a number, of so many pieces, may have so many
+/// bytes.
 pub(crate) fn allows_part(pieces: u16, number: u16, count: usize) -> bool
     ensures { result ≡ field.allows_part pieces number count }
 {
@@ -109,7 +111,8 @@ pub(crate) fn allows_part(pieces: u16, number: u16, count: usize) -> bool
     }
 }
 
-/// The part of an offer's spelling with a number, of so many pieces: 65,536 bytes, the last one 1 to so many.
+/// The part of an offer's spelling with a number, of so many pieces: 65,536 bytes, the last one 1
+/// to so many.
 pub fn part(pieces: &u16, number: &u16, value: &Listed<u8>) -> bool
     ensures { result ≡ (field.part pieces.now number.now).fits value.now }
 {
@@ -318,8 +321,8 @@ fn count(progress: &Progress, count: usize) -> bool
     }
 }
 
-/// A frame: its number below the next one and behind the last one, its thread below 64, at most 8 slots, and its value
-/// goes where one can.
+/// A frame: its number below the next one and behind the last one, its thread below 64, at most 8
+/// slots, and its value goes where one can.
 #[tactic(auto, unfolding(crate::specs::Fields::frame))]
 fn frame(next: &FrameNo, last: Option<FrameNo>, value: &Frame) -> bool
     ensures { result ≡ (field.frame next.now last).fits value.now }
@@ -358,8 +361,8 @@ pub fn frames(progress: &Progress, next: &FrameNo, value: &Listed<Frame>) -> boo
     count(progress, value.len()) && each_frame(next, value.as_slice())
 }
 
-/// A record: its grant behind the last one, its frame below the next one, its task and where its value goes as they
-/// have to be.
+/// A record: its grant behind the last one, its frame below the next one, its task and where its
+/// value goes as they have to be.
 #[tactic(auto, unfolding(crate::specs::Fields::stolen))]
 fn stolen(next: &FrameNo, last: Option<GrantId>, value: &Record) -> bool
     ensures { result ≡ (field.stolen next.now last).fits value.now }

@@ -4,8 +4,9 @@ ghost use Rattle.packet_fields.specs.Format.{OneSpelling, number};
 ghost use Rattle.packet_fields.specs.Fields as field;
 ghost use Rattle.ids.specs.declared.outcome.Progress.{Progress};
 
-/// Each field has one spelling: bytes spell at most one value and a value has at most one spelling; what is spelled is
-/// read and what is read is spelled; and what can be written is spelled by what is written.
+/// Each field has one spelling: bytes spell at most one value and a value has at most one spelling;
+/// what is spelled is read and what is read is spelled; and what can be written is spelled by what
+/// is written.
 pub fn one_spelling()
     ensures byte { OneSpelling (number 1) }
     ensures two_bytes { OneSpelling (number 2) }

@@ -1,4 +1,5 @@
-//! The fields of packets: how each stands in bytes, and its reader, its writer and the test of what can be written.
+//! The fields of packets: how each stands in bytes, and its reader, its writer and the test of what
+//! can be written.
 #![tactic(auto)]
 
 mod fault;

@@ -1,7 +1,7 @@
-//! The readers of fields. Each answers the value and leaves the bytes behind it, or answers the first fault: E31 where the
-//! bytes end inside the field, E35 where it is outside its range or out of order, E9 where there is no memory. After a
-//! refusal it is open how much was read. Only readers of lists take memory, each for what the bytes back, and for a list
-//! once.
+//! The readers of fields. Each answers the value and leaves the bytes behind it, or answers the
+//! first fault: E31 where the bytes end inside the field, E35 where it is outside its range or out
+//! of order, E9 where there is no memory. After a refusal it is open how much was read. Only
+//! readers of lists take memory, each for what the bytes back, and for a list once.
 ghost use Rattle.std.specs.Prelude.{◌≡◌, ◌<◌, ◌&&◌, [], IfOk, Some, None, nat_le, nat_lt};
 ghost use Rattle.packet_fields.specs.Format.{Gives, Reads, checked, items, number, plain};
 ghost use Rattle.packet_fields.specs.Format as format;
@@ -22,17 +22,20 @@ use std::alloc::AllocError;
 /// A member has at least so many bytes: 8 of its incarnation and 1 of its status.
 const LEAST_MEMBER: usize = 9;
 
-/// A frame has at least so many bytes: 4 of its number, 2 of its place, and 1 each of its thread, its slots and its return.
+/// A frame has at least so many bytes: 4 of its number, 2 of its place, and 1 each of its thread,
+/// its slots and its return.
 const LEAST_FRAME: usize = 9;
 
-/// A record has at least so many bytes: 28 of its grant, holder and frame, 4 of its task and 1 of its return.
+/// A record has at least so many bytes: 28 of its grant, holder and frame, 4 of its task and 1 of
+/// its return.
 const LEAST_RECORD: usize = 33;
 
-/// A saved value has at least so many bytes: 2 of its place's count, 1 of a step and 8 of its value.
+/// A saved value has at least so many bytes: 2 of its place's count, 1 of a step and 8 of its
+/// value.
 const LEAST_SAVED: usize = 11;
 
-/// No items, with room for so many of at least so many bytes each. Where the bytes that are left can't hold them all, a
-/// fault comes before the last one, so there is room for none.
+/// No items, with room for so many of at least so many bytes each. Where the bytes that are left
+/// can't hold them all, a fault comes before the last one, so there is room for none.
 fn with_room<T>(count: usize, least: usize, input: &Input<'_>) -> Result<Listed<T>, AllocError>
     requires { 0 < least }
     ensures { IfOk result (λ l. l ≡ []) }
@@ -158,7 +161,8 @@ pub fn piece_of(pieces: &u16, input: &mut Input<'_>) -> Result<u16, Fault>
     Ok(number)
 }
 
-/// How many bytes a part of an offer's spelling has: 65,536, the last one at most so many, and at least 1. It comes before the bytes.
+/// How many bytes a part of an offer's spelling has: 65,536, the last one at most so many, and at
+/// least 1. It comes before the bytes.
 pub(crate) fn part_count(pieces: &u16, index: &u16, input: &mut Input<'_>) -> Result<u32, Fault>
     ensures { Reads (λ x. (x, input.new)) result
         ((checked (number 4) (field.allows_part pieces.now index.now)).read input.old) }

@@ -1,5 +1,6 @@
-//! Passing over fields: each answers the first fault, as its reader in `read` does, or leaves the bytes behind the field; no
-//! memory is taken. A field that other fields depend on is answered, and so is one that has a fixed size.
+//! Passing over fields: each answers the first fault, as its reader in `read` does, or leaves the
+//! bytes behind the field; no memory is taken. A field that other fields depend on is answered, and
+//! so is one that has a fixed size.
 ghost use Rattle.std.specs.Prelude.{None};
 ghost use Rattle.packet_fields.specs.Format.{Reads, end_of, items, keeping, plain};
 ghost use Rattle.packet_fields.specs.Fields as field;

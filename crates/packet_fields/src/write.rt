@@ -1,5 +1,5 @@
-//! The writers of fields. Each adds the bytes of a value behind those already there. Being out of memory is the only refusal, and
-//! then it is open how much was added.
+//! The writers of fields. Each adds the bytes of a value behind those already there. Being out of
+//! memory is the only refusal, and then it is open how much was added.
 ghost use Rattle.std.specs.Prelude.{◌≡◌, ◌++◌, ℕ, List, OnOk, Option, None};
 ghost use Rattle.std.specs.List.{flat_map};
 ghost use Rattle.ids.specs.Names.{Grant};

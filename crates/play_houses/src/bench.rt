@@ -38,8 +38,14 @@ impl<D: Disk> Bench<D> {
 
 impl<D: Disk + Drop> Bench<D> {
     /// Something has the disk again, which nothing had while a command was carried out.
-    pub fn holds(&mut self, held: Held<D>) {
+    pub fn hold(&mut self, held: Held<D>) {
         keep(mem::replace(&mut self.held, Some(held)));
+    }
+
+    /// The same behind a command that takes the disk; none where it wasn't carried out.
+    pub fn hold_behind(&mut self, (held, is_done): (Held<D>, bool)) -> Option<()> {
+        self.hold(held);
+        if is_done { Some(()) } else { None }
     }
 
     /// The disk is let go.

@@ -1,8 +1,9 @@
 //! Commands on a bare disk.
 
 use crate::bench::{Bench, Held, go_on};
-use crate::shown::{bytes_in, count_in, write_bytes, write_failures, write_kind};
+use crate::shown::{MOST_SHOWN, bytes_in, plan_in, write_failures, write_kind};
 use disk::{DeviceFailed, Disk};
+use play_packets::{size_at, write_bytes};
 use play_words::{Answers, CommandLine};
 use std::alloc::Global;
 
@@ -25,79 +26,30 @@ fn is_behind<D: Disk>(disk: &mut D, alloc: Global, at: usize) -> bool {
     }
 }
 
-fn read<D: Disk>(
-    disk: &mut D,
-    is_planned: bool,
-    alloc: Global,
-    line: &CommandLine<'_>,
-    out: &mut Answers,
-) -> Option<()> {
-    let most = count_in(line, 2)?;
+fn read<D: Disk>(disk: &mut D, is_planned: bool, alloc: Global, most: usize, out: &mut Answers) {
     match disk.read(alloc, most) {
-        Ok(bytes) => write_bytes(out, &bytes),
+        Ok(bytes) => write_bytes(out, &bytes, MOST_SHOWN),
         Err(failed) => write_answer(Err(failed), is_planned, out),
     }
-    Some(())
 }
 
-fn write<D: Disk>(
+/// Writes bytes at a place, or cuts the file there where there are none to be written.
+fn change<D: Disk>(
     disk: &mut D,
     is_planned: bool,
     alloc: Global,
-    line: &CommandLine<'_>,
+    (at, written): (usize, Option<&[u8]>),
     out: &mut Answers,
-) -> Option<()> {
-    let at = count_in(line, 2)?;
-    let bytes = bytes_in(alloc, line, 3, out)?;
-    let answer = disk.write_at(at, &bytes);
+) {
+    let answer = match written {
+        Some(bytes) => disk.write_at(at, bytes),
+        None => disk.cut(at),
+    };
     let is_expected = is_planned || answer.is_ok() || is_behind(disk, alloc, at);
     write_answer(answer, is_expected, out);
-    Some(())
 }
 
-fn cut<D: Disk>(
-    disk: &mut D,
-    is_planned: bool,
-    alloc: Global,
-    line: &CommandLine<'_>,
-    out: &mut Answers,
-) -> Option<()> {
-    let at = count_in(line, 2)?;
-    let answer = disk.cut(at);
-    let is_expected = is_planned || answer.is_ok() || is_behind(disk, alloc, at);
-    write_answer(answer, is_expected, out);
-    Some(())
-}
-
-/// The calls and the bytes that the words of a command `arm` or `fails` name.
-pub fn plan_in(alloc: Global, line: &CommandLine<'_>, out: &mut Answers) -> Option<(u64, Vec<u8>)> {
-    let calls = line.number(2)?;
-    let bytes = bytes_in(alloc, line, 3, out)?;
-    Some((calls, bytes))
-}
-
-/// Plays a command on a bare disk, which may be called so.
-fn play_bare<D: Disk>(
-    disk: &mut D,
-    is_planned: bool,
-    alloc: Global,
-    line: &CommandLine<'_>,
-    out: &mut Answers,
-) -> Option<()> {
-    match line.word(1)? {
-        "read" => read(disk, is_planned, alloc, line, out),
-        "write" => write(disk, is_planned, alloc, line, out),
-        "cut" => cut(disk, is_planned, alloc, line, out),
-        "arm" => {
-            let (calls, bytes) = plan_in(alloc, line, out)?;
-            disk.arm(calls, bytes);
-            Some(())
-        }
-        verb => show(disk, is_planned, verb, out),
-    }
-}
-
-/// The same of those that take no other word.
+/// Plays a command that takes no other word.
 fn show<D: Disk>(disk: &mut D, is_planned: bool, verb: &str, out: &mut Answers) -> Option<()> {
     match verb {
         "sync" => write_answer(disk.sync(), is_planned, out),
@@ -116,12 +68,23 @@ pub fn play_disk<D: Disk>(
     line: &CommandLine<'_>,
     out: &mut Answers,
 ) -> Option<()> {
+    let is_planned = bench.is_planned;
     let Some(Held::Bare(disk)) = &mut bench.held else {
         return None;
     };
-    play_bare(disk, bench.is_planned, alloc, line, out)?;
-    if line.word(1) == Some("arm") {
-        bench.is_planned = true;
+    match line.word(1)? {
+        "read" => read(disk, is_planned, alloc, size_at(line, 2)?, out),
+        "write" => {
+            let at = size_at(line, 2)?;
+            let bytes = bytes_in(alloc, line, 3, out)?;
+            change(disk, is_planned, alloc, (at, Some(bytes.as_slice())), out);
+        }
+        "cut" => change(disk, is_planned, alloc, (size_at(line, 2)?, None), out),
+        "arm" => {
+            let (calls, bytes) = plan_in(alloc, line, out)?;
+            disk.arm(calls, bytes);
+        }
+        verb => return show(disk, is_planned, verb, out),
     }
     Some(())
 }

@@ -1,6 +1,7 @@
 //! The file of a transcript, and files that fail.
 
-use crate::shown::{bytes_in, write_bytes};
+use crate::shown::{MOST_SHOWN, bytes_in};
+use play_packets::write_bytes;
 use play_words::{Answers, CommandLine};
 use std::alloc::Global;
 use std::cell::Cell;
@@ -82,7 +83,7 @@ fn made<R: Env + Files<File = File> + AllocGlobal>(
 /// Shows the bytes of a file.
 fn read(alloc: Global, file: &File, out: &mut Answers) {
     match content(alloc, file) {
-        Ok(bytes) => write_bytes(out, &bytes),
+        Ok(bytes) => write_bytes(out, &bytes, MOST_SHOWN),
         Err(error) => out.fails(&error),
     }
 }

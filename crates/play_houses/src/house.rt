@@ -1,14 +1,13 @@
 //! Commands on a clearinghouse.
 
 use crate::bench::{Bench, Held, go_on};
-use crate::device::plan_in;
 use crate::job::Setting;
-use crate::shown::{MOST_SHOWN, bytes_in, write_failures, write_found};
+use crate::shown::{bytes_in, plan_in, write_failures, write_found};
 use clearinghouse::{House, HouseError, HouseStep};
-use codec::{Datagram, EncodeError, Join, Packet, ReadError, decode};
+use codec::{EncodeError, Join, Packet, encode};
 use disk::Disk;
 use ids::{Incarnation, Outcome};
-use play_packets::{Mail, kind_name, let_go, packet_number, read_packet, write_packet};
+use play_packets::{Mail, let_go, packet_number, read_packet};
 use play_words::{Answers, CommandLine};
 use serial_meaning::Job;
 use std::alloc::Global;
@@ -33,36 +32,6 @@ fn write_refused(refused: HouseError, is_planned: bool, out: &mut Answers) {
     }
 }
 
-/// Writes a packet that is sent, behind its number.
-fn write_packet_sent(mail: &mut Mail, packet: &Packet, datagram: Datagram, out: &mut Answers) {
-    let length = datagram.as_bytes().len();
-    let number = mail.send(None, packet, datagram, out);
-    out.text("> #");
-    out.number(number);
-    out.text(" ");
-    if length > MOST_SHOWN {
-        out.text(kind_name(packet.body()));
-        out.text(" of ");
-        out.number(length as u64);
-        out.text(" bytes");
-    } else {
-        write_packet(out, packet);
-    }
-    out.end();
-}
-
-/// The same of bytes that are to be a packet's.
-fn write_sent(alloc: Global, mail: &mut Mail, datagram: Datagram, out: &mut Answers) {
-    match decode(alloc, datagram.as_bytes()) {
-        Ok(packet) => {
-            write_packet_sent(mail, &packet, datagram, out);
-            let_go(packet);
-        }
-        Err(ReadError::Memory) => out.lacks(),
-        Err(ReadError::Fault(fault)) => out.refusal_number(fault.number()),
-    }
-}
-
 /// Writes what a call did, unless this is left out.
 fn write_step(desk: &mut Desk, step: HouseStep, out: &mut Answers) {
     if step.ignored {
@@ -72,7 +41,7 @@ fn write_step(desk: &mut Desk, step: HouseStep, out: &mut Answers) {
     }
     for datagram in step.sent.into_vec() {
         if !desk.is_brief {
-            write_sent(desk.alloc, &mut desk.mail, datagram, out);
+            desk.mail.write_sent(desk.alloc, None, datagram, out);
         }
     }
 }
@@ -91,9 +60,9 @@ fn write_answer(
 }
 
 /// The bytes of a packet; none where it is too big.
-fn spelled(alloc: Global, packet: &Packet, out: &mut Answers) -> Option<Datagram> {
-    match Datagram::of(alloc, packet) {
-        Ok(datagram) => Some(datagram),
+fn spelled(alloc: Global, packet: &Packet, out: &mut Answers) -> Option<Vec<u8>> {
+    match encode(alloc, packet) {
+        Ok(bytes) => Some(bytes),
         Err(EncodeError::TooBig) => None,
         Err(EncodeError::Memory) => {
             out.lacks();
@@ -103,11 +72,23 @@ fn spelled(alloc: Global, packet: &Packet, out: &mut Answers) -> Option<Datagram
 }
 
 /// The bytes of a packet in words.
-fn in_words(alloc: Global, line: &CommandLine<'_>, out: &mut Answers) -> Option<Datagram> {
+fn in_words(alloc: Global, line: &CommandLine<'_>, out: &mut Answers) -> Option<Vec<u8>> {
     let packet = read_packet(alloc, line, 2, out)?;
-    let datagram = spelled(alloc, &packet, out);
+    let bytes = spelled(alloc, &packet, out);
     let_go(packet);
-    datagram
+    bytes
+}
+
+/// The bytes that the words of a command `hear` name.
+fn heard(desk: &Desk, line: &CommandLine<'_>, out: &mut Answers) -> Option<Vec<u8>> {
+    let first = line.word(2)?;
+    if first == "bytes" {
+        return bytes_in(desk.alloc, line, 3, out);
+    }
+    match packet_number(first) {
+        Some(number) => out.made(Vec::from_slice(desk.alloc, desk.mail.at(number)?)),
+        None => in_words(desk.alloc, line, out),
+    }
 }
 
 /// Carries bytes to a clearinghouse, and writes what it answers.
@@ -122,35 +103,13 @@ fn carry<D: Disk>(
     write_answer(desk, answer, is_planned, out);
 }
 
-/// Carries the bytes to it that the words of a command name.
-fn hear<D: Disk>(
-    house: &mut House<'static, D>,
-    is_planned: bool,
-    desk: &mut Desk,
-    line: &CommandLine<'_>,
-    out: &mut Answers,
-) -> Option<()> {
-    let first = line.word(2)?;
-    if first == "bytes" {
-        let bytes = bytes_in(desk.alloc, line, 3, out)?;
-        carry(house, is_planned, desk, &bytes, out);
-    } else if let Some(number) = packet_number(first) {
-        let bytes = out.made(Vec::from_slice(desk.alloc, desk.mail.at(number)?))?;
-        carry(house, is_planned, desk, &bytes, out);
-    } else {
-        let datagram = in_words(desk.alloc, line, out)?;
-        carry(house, is_planned, desk, datagram.as_bytes(), out);
-    }
-    Some(())
-}
-
 /// The Join of a worker, as bytes.
-fn join(desk: &Desk, word: u64, out: &mut Answers) -> Option<Datagram> {
+fn join(desk: &Desk, word: u64, out: &mut Answers) -> Option<Vec<u8>> {
     let from = Incarnation::worker(word)?;
     let packet = Packet::join(desk.setting.number(), Join { from });
-    let datagram = spelled(desk.alloc, &packet, out);
+    let bytes = spelled(desk.alloc, &packet, out);
     let_go(packet);
-    datagram
+    bytes
 }
 
 /// A worker joins.
@@ -160,8 +119,8 @@ fn joined<D: Disk>(
     word: u64,
     out: &mut Answers,
 ) -> Option<Result<HouseStep, HouseError>> {
-    let datagram = join(desk, word, out)?;
-    Some(house.on_bytes(desk.alloc, datagram.as_bytes()))
+    let bytes = join(desk, word, out)?;
+    Some(house.on_bytes(desk.alloc, &bytes))
 }
 
 /// Lets what was sent go, here alone, as each place where it may be let go is long to prove.
@@ -170,7 +129,7 @@ fn let_go_step(step: HouseStep) {
 }
 
 /// Workers join in turn, up to one that is refused: what the last one answers.
-fn joins<D: Disk>(
+fn join_each<D: Disk>(
     house: &mut House<'static, D>,
     desk: &Desk,
     (first, last): (u64, u64),
@@ -213,10 +172,13 @@ fn play_open<D: Disk>(
     out: &mut Answers,
 ) -> Option<()> {
     match line.word(1)? {
-        "hear" => return hear(house, is_planned, desk, line, out),
+        "hear" => {
+            let bytes = heard(desk, line, out)?;
+            carry(house, is_planned, desk, &bytes, out);
+        }
         "joins" => {
             let (first, last) = (line.number(2)?, line.number(3)?);
-            let answer = joins(house, desk, (first, last), out)?;
+            let answer = join_each(house, desk, (first, last), out)?;
             write_answer(desk, answer, is_planned, out);
         }
         "tick" => {
@@ -230,23 +192,6 @@ fn play_open<D: Disk>(
             house.arm(calls, bytes);
         }
         _ => return None,
-    }
-    Some(())
-}
-
-/// Plays a command on the clearinghouse that has the disk.
-fn play_held<D: Disk>(
-    bench: &mut Bench<D>,
-    desk: &mut Desk,
-    line: &CommandLine<'_>,
-    out: &mut Answers,
-) -> Option<()> {
-    let Some(Held::House(house)) = &mut bench.held else {
-        return None;
-    };
-    play_open(house, bench.is_planned, desk, line, out)?;
-    if line.word(1) == Some("arm") {
-        bench.is_planned = true;
     }
     Some(())
 }
@@ -304,16 +249,14 @@ fn play_opening<D: Disk + Drop>(
     let limit = line.number(2)?;
     let job = desk.setting.job(desk.alloc, out)?;
     let held = bench.held.take()?;
-    let (held, is_done) = open(held, bench.is_planned, desk.alloc, (job, limit), out);
-    bench.holds(held);
-    if is_done { Some(()) } else { None }
+    let behind = open(held, bench.is_planned, desk.alloc, (job, limit), out);
+    bench.hold_behind(behind)
 }
 
 /// Closes it.
 fn play_closing<D: Disk + Drop>(bench: &mut Bench<D>) -> Option<()> {
-    let (held, is_done) = close(bench.held.take()?);
-    bench.holds(held);
-    if is_done { Some(()) } else { None }
+    let behind = close(bench.held.take()?);
+    bench.hold_behind(behind)
 }
 
 /// Plays a command on a clearinghouse.
@@ -326,6 +269,9 @@ pub fn play_house<D: Disk + Drop>(
     match line.word(1)? {
         "open" => play_opening(bench, desk, line, out),
         "close" => play_closing(bench),
-        _ => play_held(bench, desk, line, out),
+        _ => match &mut bench.held {
+            Some(Held::House(house)) => play_open(house, bench.is_planned, desk, line, out),
+            _ => None,
+        },
     }
 }

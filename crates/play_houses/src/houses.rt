@@ -1,14 +1,14 @@
 //! The disk of a transcript, its jobs and its packets.
 
 use crate::bench::{Bench, Held};
-use crate::device::{plan_in, play_disk};
+use crate::device::play_disk;
 use crate::file::{FailingFile, play_file};
 use crate::house::{Desk, play_house};
 use crate::job::Setting;
-use crate::shown::write_bytes;
+use crate::shown::{MOST_SHOWN, plan_in};
 use crate::store::{play_epoch, play_store};
 use disk::{Disk, FailOnce, FileDisk, MemDisk};
-use play_packets::{Mail, packet_number};
+use play_packets::{Mail, write_bytes};
 use play_words::{Answers, CommandLine, Played};
 use std::alloc::Global;
 use std::fs::File;
@@ -40,7 +40,7 @@ pub struct Houses {
     desk: Desk,
 }
 
-/// Plays a command on what there is over a disk.
+/// Plays a command on what there is over a disk. Where it plans that a call fails, this is kept.
 fn play_over<D: Disk + Drop>(
     bench: &mut Bench<D>,
     desk: &mut Desk,
@@ -48,10 +48,14 @@ fn play_over<D: Disk + Drop>(
     out: &mut Answers,
 ) -> Option<()> {
     match line.word(0)? {
-        "disk" => play_disk(bench, desk.alloc, line, out),
-        "store" => play_store(bench, desk.alloc, line, out),
-        _ => play_house(bench, desk, line, out),
+        "disk" => play_disk(bench, desk.alloc, line, out)?,
+        "store" => play_store(bench, desk.alloc, line, out)?,
+        _ => play_house(bench, desk, line, out)?,
     }
+    if line.word(1) == Some("arm") {
+        bench.is_planned = true;
+    }
+    Some(())
 }
 
 /// The disk over a file, unless that fails, and writes which.
@@ -72,26 +76,9 @@ fn made<D: Drop>(answer: io::Result<D>, out: &mut Answers) -> Option<D> {
     }
 }
 
-/// The bytes of the packet whose number the word at an index is.
-fn numbered<'a>(mail: &'a Mail, line: &CommandLine<'_>, index: usize) -> Option<&'a [u8]> {
-    mail.at(packet_number(line.word(index)?)?)
-}
-
-/// Tells whether two packets have the same bytes.
-fn write_same(mail: &Mail, line: &CommandLine<'_>, out: &mut Answers) -> Option<()> {
-    let one = numbered(mail, line, 2)?;
-    let other = numbered(mail, line, 3)?;
-    out.line(if one == other {
-        "same bytes"
-    } else {
-        "other bytes"
-    });
-    Some(())
-}
-
 /// Shows the bytes of a packet.
 fn write_packet_bytes(mail: &Mail, line: &CommandLine<'_>, out: &mut Answers) -> Option<()> {
-    write_bytes(out, numbered(mail, line, 2)?);
+    write_bytes(out, mail.named(line, 2)?, MOST_SHOWN);
     Some(())
 }
 
@@ -111,7 +98,7 @@ impl Houses {
             file: None,
             desk: Desk {
                 alloc,
-                mail: Mail::new(alloc),
+                mail: Mail::new(alloc, MOST_SHOWN),
                 setting: Setting::new(alloc),
                 is_brief: false,
             },
@@ -137,7 +124,7 @@ impl Houses {
     fn play_disk(&mut self, line: &CommandLine<'_>, out: &mut Answers) -> Option<()> {
         match line.word(1)? {
             "new" => self.in_memory(),
-            "fails" => self.fails(line, out),
+            "fails" => self.fail(line, out),
             "file" => self.over_file(out),
             "failing" => self.over_failing_file(line, out),
             _ => self.play_on(line, out),
@@ -157,7 +144,7 @@ impl Houses {
             "program" => desk.setting.set_program(desk.alloc, line.rest(2), out),
             "input" => desk.setting.set_input(desk.alloc, line, out),
             "job" => desk.setting.set_number(line.number(2)),
-            "same" => write_same(&desk.mail, line, out),
+            "same" => desk.mail.write_same(line, 2, out),
             "hex" => write_packet_bytes(&desk.mail, line, out),
             "brief" | "full" => {
                 desk.is_brief = verb == "brief";
@@ -180,7 +167,7 @@ impl Houses {
     }
 
     /// There is another disk; what was there is let go.
-    fn moves(&mut self, place: Place) {
+    fn move_to(&mut self, place: Place) {
         match mem::replace(&mut self.place, place) {
             Place::Empty => {}
             Place::Memory(bench) => bench.empties(),
@@ -192,12 +179,12 @@ impl Houses {
 
     /// An empty disk in memory.
     fn in_memory(&mut self) -> Option<()> {
-        self.moves(Place::Memory(Bench::of(MemDisk::new(self.desk.alloc), false)));
+        self.move_to(Place::Memory(Bench::of(MemDisk::new(self.desk.alloc), false)));
         Some(())
     }
 
     /// A call of the bare disk in memory is chosen, which is to fail.
-    fn fails(&mut self, line: &CommandLine<'_>, out: &mut Answers) -> Option<()> {
+    fn fail(&mut self, line: &CommandLine<'_>, out: &mut Answers) -> Option<()> {
         let (calls, bytes) = plan_in(self.desk.alloc, line, out)?;
         let Place::Memory(bench) = &mut self.place else {
             return None;
@@ -213,12 +200,12 @@ impl Houses {
     fn chooses(&mut self, held: Held<MemDisk>, calls: u64, bytes: Vec<u8>) -> Option<()> {
         match chosen(held, calls, bytes) {
             Ok(disk) => {
-                self.moves(Place::Once(Bench::of(disk, true)));
+                self.move_to(Place::Once(Bench::of(disk, true)));
                 Some(())
             }
             Err(held) => {
                 if let Place::Memory(bench) = &mut self.place {
-                    bench.holds(held);
+                    bench.hold(held);
                 }
                 None
             }
@@ -230,7 +217,7 @@ impl Houses {
         match self.file.as_ref()?.try_clone() {
             Ok(file) => {
                 if let Some(disk) = made(FileDisk::new(self.desk.alloc, file), out) {
-                    self.moves(Place::File(Bench::of(disk, false)));
+                    self.move_to(Place::File(Bench::of(disk, false)));
                 }
             }
             Err(error) => out.fails(&error),
@@ -242,7 +229,7 @@ impl Houses {
     fn over_failing_file(&mut self, line: &CommandLine<'_>, out: &mut Answers) -> Option<()> {
         let file = FailingFile::after(line.number(2)?);
         if let Some(disk) = made(FileDisk::new(self.desk.alloc, file), out) {
-            self.moves(Place::Failing(Bench::of(disk, true)));
+            self.move_to(Place::Failing(Bench::of(disk, true)));
         }
         Some(())
     }

@@ -2,21 +2,12 @@
 
 use checkpoint::CheckpointRecord;
 use ids::Outcome;
-use play_packets::write_outcome;
-use play_words::{Answers, CommandLine, bytes_of_hex, signed64, size};
+use play_packets::{add_times, outcome, write_field, write_outcome};
+use play_words::{Answers, CommandLine, bytes_of_hex};
 use std::alloc::Global;
 
 /// Of more bytes the count is shown.
 pub const MOST_SHOWN: usize = 1_000;
-
-/// Bytes so many times.
-fn repeated(alloc: Global, part: &[u8], times: u64, out: &mut Answers) -> Vec<u8> {
-    let mut bytes = Vec::new(alloc);
-    for _ in 0..times {
-        out.put(bytes.extend_from_slice(part));
-    }
-    bytes
-}
 
 /// The bytes that the words from an index on spell: pairs of hexadecimal digits, or `HEX times
 /// COUNT`.
@@ -31,19 +22,9 @@ pub fn bytes_in(
     }
     let times = line.number(index.saturating_add(2))?;
     let part = bytes_of_hex(alloc, line.word(index)?, out)?;
-    Some(repeated(alloc, &part, times, out))
-}
-
-/// Writes bytes, or how many they are.
-pub fn write_bytes(out: &mut Answers, bytes: &[u8]) {
-    out.text("> ");
-    if bytes.len() > MOST_SHOWN {
-        out.number(bytes.len() as u64);
-        out.text(" bytes");
-    } else {
-        out.hex(bytes);
-    }
-    out.end();
+    let mut bytes = Vec::new(alloc);
+    add_times(&mut bytes, &part, times, out);
+    Some(bytes)
 }
 
 /// Writes an outcome, or that there is none.
@@ -56,16 +37,12 @@ pub fn write_found(out: &mut Answers, outcome: Option<Outcome>) {
 
 /// Writes a record, its sequence, and how many values are saved.
 pub fn write_kept(out: &mut Answers, kept: &CheckpointRecord, sequence: u64) {
-    out.text("> record job=");
-    out.number(kept.job);
-    out.text(" epoch=");
-    out.number(kept.epoch.number());
+    write_field(out, "> record job=", kept.job);
+    write_field(out, " epoch=", kept.epoch.number());
     out.text(" outcome=");
     write_found(out, kept.outcome);
-    out.text(" sequence=");
-    out.number(sequence);
-    out.text(" saved=");
-    out.number(kept.saved.as_slice().len() as u64);
+    write_field(out, " sequence=", sequence);
+    write_field(out, " saved=", kept.saved.as_slice().len() as u64);
     out.end();
 }
 
@@ -80,21 +57,22 @@ pub fn write_kind(out: &mut Answers, can_cut: bool) {
 
 /// Writes how many calls of a disk failed.
 pub fn write_failures(out: &mut Answers, failures: u64) {
-    out.text("> failures ");
-    out.number(failures);
+    write_field(out, "> failures ", failures);
     out.end();
 }
 
 /// The outcome that a word says, if it says one or that there is none.
 pub fn outcome_in(text: &str) -> Option<Option<Outcome>> {
-    match text {
-        "none" => Some(None),
-        "deep" => Some(Some(Outcome::TooDeep)),
-        _ => Some(Some(Outcome::Value(signed64(text)?))),
+    if text == "none" {
+        Some(None)
+    } else {
+        Some(Some(outcome(text)?))
     }
 }
 
-/// The word at an index as a count of bytes.
-pub fn count_in(line: &CommandLine<'_>, index: usize) -> Option<usize> {
-    size(line.word(index)?)
+/// The calls and the bytes that the words of a command `arm` or `fails` name.
+pub fn plan_in(alloc: Global, line: &CommandLine<'_>, out: &mut Answers) -> Option<(u64, Vec<u8>)> {
+    let calls = line.number(2)?;
+    let bytes = bytes_in(alloc, line, 3, out)?;
+    Some((calls, bytes))
 }

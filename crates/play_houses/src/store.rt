@@ -1,11 +1,11 @@
 //! Commands on the store of a checkpoint.
 
 use crate::bench::{Bench, Held, go_on};
-use crate::device::plan_in;
-use crate::shown::{outcome_in, write_failures, write_kept, write_kind};
+use crate::shown::{outcome_in, plan_in, write_failures, write_kept, write_kind};
 use checkpoint::{LastEpoch, Store, StoreError, commit_and_reopen, format};
 use disk::Disk;
 use ids::Outcome;
+use play_packets::write_field;
 use play_words::{Answers, CommandLine};
 use std::alloc::Global;
 
@@ -106,15 +106,14 @@ fn changed<D: Disk + Drop>(
     out: &mut Answers,
 ) -> Option<()> {
     let held = bench.held.take()?;
-    let (held, is_done) = match change {
+    let behind = match change {
         Change::Open(job) => open(held, bench.is_planned, alloc, job, out),
         Change::Reopen(epoch, outcome) => {
             reopen(held, bench.is_planned, alloc, (epoch, outcome), out)
         }
         Change::Close => close(held),
     };
-    bench.holds(held);
-    if is_done { Some(()) } else { None }
+    bench.hold_behind(behind)
 }
 
 /// Makes the store of a job on a bare disk.
@@ -152,23 +151,6 @@ fn play_open<D: Disk>(
     Some(())
 }
 
-/// Plays a command on the store that has the disk.
-fn play_held<D: Disk>(
-    bench: &mut Bench<D>,
-    alloc: Global,
-    line: &CommandLine<'_>,
-    out: &mut Answers,
-) -> Option<()> {
-    let Some(Held::Store(store)) = &mut bench.held else {
-        return None;
-    };
-    play_open(store, bench.is_planned, alloc, line, out)?;
-    if line.word(1) == Some("arm") {
-        bench.is_planned = true;
-    }
-    Some(())
-}
-
 /// Plays a command on a store.
 pub fn play_store<D: Disk + Drop>(
     bench: &mut Bench<D>,
@@ -184,7 +166,10 @@ pub fn play_store<D: Disk + Drop>(
             changed(bench, alloc, Change::Reopen(epoch, outcome), out)
         }
         "close" => changed(bench, alloc, Change::Close, out),
-        _ => play_held(bench, alloc, line, out),
+        _ => match &mut bench.held {
+            Some(Held::Store(store)) => play_open(store, bench.is_planned, alloc, line, out),
+            _ => None,
+        },
     }
 }
 
@@ -194,14 +179,10 @@ pub fn play_epoch(line: &CommandLine<'_>, out: &mut Answers) -> Option<()> {
         out.line("no epoch");
         return Some(());
     };
-    out.text("> epoch ");
-    out.number(epoch.number());
+    write_field(out, "> epoch ", epoch.number());
     match epoch.next() {
         None => out.text(", no next one"),
-        Some(next) => {
-            out.text(", next ");
-            out.number(LastEpoch::at(next).number());
-        }
+        Some(next) => write_field(out, ", next ", LastEpoch::at(next).number()),
     }
     out.end();
     Some(())

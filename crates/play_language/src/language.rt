@@ -9,6 +9,7 @@ use crate::stores::Stores;
 use crate::tree::write_program;
 use crate::written::bytes_of;
 use kind_check::Checked;
+use play_packets::write_field;
 use play_programs::{accepted_in, program_in};
 use play_words::{Answers, CommandLine, Played, byte, keep, numbers_of};
 use serial_meaning::{Job, Outcome};
@@ -38,8 +39,7 @@ fn write_tree(program: &Program, out: &mut Answers) {
 /// Writes how a program of this text is printed.
 fn write_print(text: &[u8], printed: &[u8], out: &mut Answers) {
     if printed == text {
-        out.text("> as it is, ");
-        out.number(text.len() as u64);
+        write_field(out, "> as it is, ", text.len() as u64);
         out.text(" bytes");
         out.end();
     } else if printed.is_empty() {
@@ -71,8 +71,7 @@ fn play_read(alloc: Global, name: &str, text: &[u8], out: &mut Answers) {
 }
 
 fn write_kinds(checked: &Checked, out: &mut Answers) {
-    out.text("> ok, ");
-    out.number(checked.threads() as u64);
+    write_field(out, "> ok, ", checked.threads() as u64);
     out.text(" threads, ");
     out.shown(&checked.program().length);
     out.text(" bytes");
@@ -168,7 +167,7 @@ impl Language {
     pub fn play(&mut self, alloc: Global, line: &CommandLine<'_>, out: &mut Answers) -> Played {
         let name = line.word(0).unwrap_or("");
         Played::of(match name {
-            "text" => self.keeps(alloc, line.rest(1), out),
+            "text" => self.keep(alloc, line.rest(1), out),
             "tokens" | "tree" | "reads" | "prints" | "kinds" => self.on_text(
                 alloc, name, line, out,
             ),
@@ -183,7 +182,7 @@ impl Language {
         })
     }
 
-    fn keeps(&mut self, alloc: Global, written: &str, out: &mut Answers) -> Option<()> {
+    fn keep(&mut self, alloc: Global, written: &str, out: &mut Answers) -> Option<()> {
         self.text = bytes_of(alloc, written, out)?;
         Some(())
     }
@@ -197,7 +196,7 @@ impl Language {
         out: &mut Answers,
     ) -> Option<()> {
         if line.word(1).is_some() {
-            self.keeps(alloc, line.rest(1), out)?;
+            self.keep(alloc, line.rest(1), out)?;
         }
         let text = self.text.as_slice();
         match name {

@@ -1,7 +1,7 @@
 //! Lists of numbers.
 
 use ids::Listed;
-use play_packets::{numbers, write_numbers};
+use play_packets::{numbers, size_at, write_numbers};
 use play_words::{Answers, CommandLine};
 use std::alloc::{AllocError, Global};
 
@@ -55,7 +55,7 @@ fn write_listed(alloc: Global, items: &[i64], at: usize, item: i64, out: &mut An
 
 /// Plays a command on a list.
 pub fn play_list(alloc: Global, line: &CommandLine<'_>, out: &mut Answers) -> Option<()> {
-    let at = usize::try_from(line.number(2)?).ok()?;
+    let at = size_at(line, 2)?;
     let item = line.signed(3)?;
     let items = numbers(alloc, line.word(1)?, out)?;
     write_listed(alloc, items.as_slice(), at, item, out);

@@ -4,7 +4,7 @@ use ids::{
     Actor, Address, Count, Epoch, FrameNo, GrantId, Hop, Incarnation, Member, Named, Place,
     PlaceError, Status,
 };
-use play_packets::{grant, steps, write_place};
+use play_packets::{grant, steps, write_field, write_place};
 use play_words::{Answers, CommandLine, byte};
 use std::alloc::Global;
 
@@ -78,11 +78,9 @@ pub fn play_name(line: &CommandLine<'_>, out: &mut Answers) -> Option<()> {
         out.line("none");
         return Some(());
     };
-    out.text("> ");
-    out.number(first);
+    write_field(out, "> ", first);
     if let Some(second) = second {
-        out.text(" ");
-        out.number(second);
+        write_field(out, " ", second);
     }
     out.end();
     Some(())
@@ -126,10 +124,8 @@ fn write_below(alloc: Global, place: &Place, hole: Option<u8>, out: &mut Answers
 
 /// Writes the level of a place, and how many steps lead to it.
 fn write_level(place: &Place, out: &mut Answers) {
-    out.text("> level ");
-    out.number(u64::from(place.level()));
-    out.text(", ");
-    out.number(u64::from(place.len()));
+    write_field(out, "> level ", u64::from(place.level()));
+    write_field(out, ", ", u64::from(place.len()));
     out.text(" steps");
     out.end();
 }
@@ -138,8 +134,7 @@ fn write_level(place: &Place, out: &mut Answers) {
 fn write_step(step: Option<u8>, out: &mut Answers) {
     match step {
         Some(step) => {
-            out.text("> ");
-            out.number(u64::from(step));
+            write_field(out, "> ", u64::from(step));
             out.end();
         }
         None => out.line("none"),

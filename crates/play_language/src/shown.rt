@@ -2,6 +2,7 @@
 
 use crate::tree::write_name;
 use body_eval::{Done, Slot, Turn};
+use play_packets::write_field;
 use play_words::Answers;
 use task_tokens::{Token, TokenKind};
 
@@ -57,10 +58,8 @@ fn write_slot(out: &mut Answers, slot: &Slot) {
             out.signed(*number);
         }
         Slot::Awaits(kid) => {
-            out.text(" ?");
-            out.number(u64::from(kid.hole));
-            out.text("=thread ");
-            out.number(u64::from(kid.thread));
+            write_field(out, " ?", u64::from(kid.hole));
+            write_field(out, "=thread ", u64::from(kid.thread));
             out.text(" on");
             write_numbers(out, kid.arguments.as_slice());
             out.text(";");
@@ -70,8 +69,7 @@ fn write_slot(out: &mut Answers, slot: &Slot) {
 
 /// Writes a thread, its numbers and the end that it reached.
 pub fn write_done(out: &mut Answers, done: &Done) {
-    out.text("> thread ");
-    out.number(u64::from(done.thread()));
+    write_field(out, "> thread ", u64::from(done.thread()));
     out.text(" on");
     write_numbers(out, done.numbers());
     write_turn(out, done.turn());
@@ -85,8 +83,7 @@ fn write_turn(out: &mut Answers, turn: &Turn) {
             out.signed(*number);
         }
         Turn::Joins(thread, slots) => {
-            out.text(" joins thread ");
-            out.number(u64::from(*thread));
+            write_field(out, " joins thread ", u64::from(*thread));
             out.text(" on");
             for slot in slots.as_slice() {
                 write_slot(out, slot);

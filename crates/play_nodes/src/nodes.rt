@@ -1,14 +1,14 @@
 //! The nodes of a transcript.
 
 use crate::job::Setting;
-use crate::named::{frame_name, frame_of, turn_words};
-use crate::player::{Answer, Call, FrameName, Player};
-use crate::post::{in_words, make, sent_before, write_hex, write_same, write_step};
+use crate::named::{call_in, turn_call, turn_words};
+use crate::player::{Answer, Call, Player};
+use crate::post::{in_words, make, sent_before, write_hex, write_step};
 use crate::views::{write_ready, write_subs};
 use ids::Incarnation;
 use node_core::{NodeError, Step};
 use play_packets::{Mail, numbers};
-use play_words::{Answers, CommandLine, Played, bytes_of_hex, keep, word64};
+use play_words::{Answers, CommandLine, Played, bytes_of_hex, keep};
 use serial_meaning::Job;
 use std::alloc::Global;
 
@@ -45,7 +45,7 @@ fn started(
     out: &mut Answers,
 ) -> Option<(Player, Step)> {
     for _ in 0..2 {
-        match Player::starts(alloc, job, worker) {
+        match Player::start(alloc, job, worker) {
             Ok(begun) => return Some(begun),
             Err(refused) => out.refusal_number(refused.number()),
         }
@@ -55,10 +55,10 @@ fn started(
 
 /// What a call comes to; once more behind a refusal when out of memory.
 fn answered(alloc: Global, player: &mut Player, call: &Call<'_>, out: &mut Answers) -> Answer {
-    match player.calls(alloc, call) {
+    match player.call(alloc, call) {
         Answer::Refused(NodeError::Memory) => {
             out.line("E63");
-            player.calls(alloc, call)
+            player.call(alloc, call)
         }
         answer => answer,
     }
@@ -69,7 +69,7 @@ impl Nodes {
         Nodes {
             setting: Setting::new(alloc),
             players: Vec::new(alloc),
-            mail: Mail::new(alloc),
+            mail: Mail::new(alloc, usize::MAX),
             is_brief: false,
         }
     }
@@ -85,8 +85,8 @@ impl Nodes {
             "input" => self.setting.input(alloc, line, out),
             "job" => self.setting.number(line),
             "make" => make(alloc, &mut self.mail, line, out),
-            "same" => write_same(&self.mail, line, 1, out),
-            "hex" => write_hex(&self.mail, line, 1, out),
+            "same" => self.mail.write_same(line, 1, out),
+            "hex" => write_hex(&self.mail, line, out),
             "brief" | "full" => {
                 self.is_brief = name == "brief";
                 Some(())
@@ -113,13 +113,9 @@ impl Nodes {
         Played::of(match name {
             "start" => self.start(alloc, word, out),
             "crash" => self.crash(word),
-            "give" => self.give(alloc, word, line, out),
-            "ask" => self.ask(alloc, word, line, out),
-            "run" => self.calls(alloc, word, &Call::Run, out),
-            "exec" => self.exec(alloc, word, line, out),
-            "whole" => self.whole(alloc, word, line, out),
-            "depart" => self.depart(alloc, word, line, out),
-            "resend" => self.calls(alloc, word, &Call::Resend, out),
+            "give" => self.give(alloc, line, out),
+            "exec" => self.exec(alloc, line, out),
+            "ask" | "run" | "whole" | "depart" | "resend" => self.call_by(alloc, line, out),
             "ready" => self.ready(alloc, word, out),
             "subs" => self.subs(alloc, word, out),
             _ => return Played::NotMine,
@@ -133,13 +129,13 @@ impl Nodes {
         }
         let job = self.setting.job(alloc, out)?;
         if let Some((player, step)) = started(alloc, job, worker, out) {
-            self.adds(player, out);
+            self.add(player, out);
             write_step(alloc, &mut self.mail, self.is_brief, word, step, out);
         }
         Some(())
     }
 
-    fn adds(&mut self, player: Player, out: &mut Answers) {
+    fn add(&mut self, player: Player, out: &mut Answers) {
         if let Err(refused) = self.players.push(player) {
             out.lacks();
             keep(refused.value);
@@ -154,86 +150,31 @@ impl Nodes {
         Some(())
     }
 
-    fn ask(
-        &mut self,
-        alloc: Global,
-        word: u64,
-        line: &CommandLine<'_>,
-        out: &mut Answers,
-    ) -> Option<()> {
-        let victim = line.word(2)?;
-        if victim == "house" {
-            return self.calls(alloc, word, &Call::AskHouse, out);
+    /// What a call comes to that the words name.
+    fn call_by(&mut self, alloc: Global, line: &CommandLine<'_>, out: &mut Answers) -> Option<()> {
+        let word = line.number(1)?;
+        match call_in(line) {
+            Some(call) => self.call(alloc, word, &call, out),
+            None => None,
         }
-        let call = Call::Ask(word64(victim)?);
-        self.calls(alloc, word, &call, out)
     }
 
-    fn depart(
-        &mut self,
-        alloc: Global,
-        word: u64,
-        line: &CommandLine<'_>,
-        out: &mut Answers,
-    ) -> Option<()> {
-        let call = Call::Depart(line.number(2)?);
-        self.calls(alloc, word, &call, out)
-    }
-
-    fn exec(
-        &mut self,
-        alloc: Global,
-        word: u64,
-        line: &CommandLine<'_>,
-        out: &mut Answers,
-    ) -> Option<()> {
-        let name = frame_name(line)?;
+    /// A frame runs by its own turn, or by the one that the words name.
+    fn exec(&mut self, alloc: Global, line: &CommandLine<'_>, out: &mut Answers) -> Option<()> {
         if line.word(4).is_none() {
-            return self.calls(alloc, word, &Call::Exec(name), out);
+            return self.call_by(alloc, line, out);
         }
-        self.exec_turn(alloc, word, name, line, out)
-    }
-
-    /// A frame runs by the turn that the words name.
-    fn exec_turn(
-        &mut self,
-        alloc: Global,
-        word: u64,
-        name: FrameName,
-        line: &CommandLine<'_>,
-        out: &mut Answers,
-    ) -> Option<()> {
-        let is_given = line.word(4) == Some("given");
-        let (thread, on) = turn_words(line, if is_given { 5 } else { 4 })?;
+        let word = line.number(1)?;
+        let (thread, on) = turn_words(line)?;
         let numbers = numbers(alloc, on, out)?;
-        if is_given {
-            let call = Call::ExecGiven(name, thread, numbers.as_slice());
-            return self.calls(alloc, word, &call, out);
+        match turn_call(line, thread, numbers.as_slice()) {
+            Some(call) => self.call(alloc, word, &call, out),
+            None => None,
         }
-        let call = Call::ExecBy(frame_of(line)?, thread, numbers.as_slice());
-        self.calls(alloc, word, &call, out)
-    }
-
-    /// A frame runs by its whole value, in at most so many turns.
-    fn whole(
-        &mut self,
-        alloc: Global,
-        word: u64,
-        line: &CommandLine<'_>,
-        out: &mut Answers,
-    ) -> Option<()> {
-        let call = Call::Whole(frame_of(line)?, line.number(4)?);
-        self.calls(alloc, word, &call, out)
     }
 
     /// What a call of a worker's node comes to.
-    fn calls(
-        &mut self,
-        alloc: Global,
-        word: u64,
-        call: &Call<'_>,
-        out: &mut Answers,
-    ) -> Option<()> {
+    fn call(&mut self, alloc: Global, word: u64, call: &Call<'_>, out: &mut Answers) -> Option<()> {
         let player = player_of(&mut self.players, word)?;
         match answered(alloc, player, call, out) {
             Answer::Does(step) => {
@@ -247,23 +188,18 @@ impl Nodes {
     }
 
     /// Carries a packet to a worker: bytes, a packet in words, or one that was sent.
-    fn give(
-        &mut self,
-        alloc: Global,
-        word: u64,
-        line: &CommandLine<'_>,
-        out: &mut Answers,
-    ) -> Option<()> {
+    fn give(&mut self, alloc: Global, line: &CommandLine<'_>, out: &mut Answers) -> Option<()> {
+        let word = line.number(1)?;
         if line.word(2)? == "bytes" {
             let bytes = bytes_of_hex(alloc, line.rest(3), out)?;
-            return self.calls(alloc, word, &Call::Hear(&bytes), out);
+            return self.call(alloc, word, &Call::Hear(&bytes), out);
         }
         if line.word(3).unwrap_or("").contains('=') {
             let datagram = in_words(alloc, line, 2, out)?;
-            return self.calls(alloc, word, &Call::Hear(datagram.as_bytes()), out);
+            return self.call(alloc, word, &Call::Hear(datagram.as_bytes()), out);
         }
         let bytes = sent_before(alloc, &self.mail, word, line, out)?;
-        self.calls(alloc, word, &Call::Hear(&bytes), out)
+        self.call(alloc, word, &Call::Hear(&bytes), out)
     }
 
     fn ready(&self, alloc: Global, word: u64, out: &mut Answers) -> Option<()> {

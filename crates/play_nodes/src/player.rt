@@ -76,35 +76,35 @@ fn answer_of(answered: Result<Step, NodeError>) -> Answer {
 }
 
 /// What comes in a packet's bytes is done.
-fn hears(alloc: Global, node: &mut Node<'_>, bytes: &[u8]) -> Result<Step, NodeError>
+fn hear(alloc: Global, node: &mut Node<'_>, bytes: &[u8]) -> Result<Step, NodeError>
     ensures { node.new.job ≡ node.old.job }
 {
     node.on_bytes(alloc, bytes)
 }
 
 /// A request of the clearinghouse.
-fn asks_house(alloc: Global, node: &mut Node<'_>) -> Result<Step, NodeError>
+fn ask_house(alloc: Global, node: &mut Node<'_>) -> Result<Step, NodeError>
     ensures { node.new.job ≡ node.old.job }
 {
     node.ask(alloc, Victim::House)
 }
 
 /// A request of a worker.
-fn asks(alloc: Global, node: &mut Node<'_>, word: u64) -> Result<Step, NodeError>
+fn ask(alloc: Global, node: &mut Node<'_>, word: u64) -> Result<Step, NodeError>
     ensures { node.new.job ≡ node.old.job }
 {
     node.ask_named(alloc, word)
 }
 
 /// A frame is carried out by its own turn.
-fn runs(alloc: Global, node: &mut Node<'_>, name: FrameName) -> Result<Step, NodeError>
+fn run(alloc: Global, node: &mut Node<'_>, name: FrameName) -> Result<Step, NodeError>
     ensures { node.new.job ≡ node.old.job }
 {
     node.exec_ready_named(alloc, name.minter, name.number, name.frame)
 }
 
 /// A frame is carried out by a turn.
-fn runs_by(alloc: Global, node: &mut Node<'_>, at: FrameOf, done: &Done) -> Result<Step, NodeError>
+fn run_by(alloc: Global, node: &mut Node<'_>, at: FrameOf, done: &Done) -> Result<Step, NodeError>
     requires { done.now.program ≡ node.old.job.program }
     ensures { node.new.job ≡ node.old.job }
 {
@@ -112,7 +112,7 @@ fn runs_by(alloc: Global, node: &mut Node<'_>, at: FrameOf, done: &Done) -> Resu
 }
 
 /// A frame is carried out by a turn that was evaluated before.
-fn runs_given(
+fn run_given(
     alloc: Global,
     node: &mut Node<'_>,
     name: FrameName,
@@ -126,7 +126,7 @@ fn runs_given(
 
 /// A frame is carried out by what its task gives with all that comes of it, in at most so many
 /// turns.
-fn runs_whole(
+fn run_whole(
     alloc: Global,
     node: &mut Node<'_>,
     flat: &Flat,
@@ -140,7 +140,7 @@ fn runs_whole(
 }
 
 /// A node leaves to an heir.
-fn departs(alloc: Global, node: &mut Node<'_>, heir: u64) -> Result<Step, NodeError>
+fn depart(alloc: Global, node: &mut Node<'_>, heir: u64) -> Result<Step, NodeError>
     ensures { node.new.job ≡ node.old.job }
 {
     node.depart_named(alloc, heir)
@@ -168,7 +168,7 @@ fn evaluated(
 
 impl Player {
     /// A worker starts, with the packet that it sends.
-    pub fn starts(
+    pub fn start(
         alloc: Global,
         job: &'static Job,
         worker: Incarnation,
@@ -189,7 +189,7 @@ impl Player {
     }
 
     /// The first frame that it shows as ready runs.
-    fn runs_first(&mut self, alloc: Global) -> Answer {
+    fn run_first(&mut self, alloc: Global) -> Answer {
         let work = match self.node.ready_at(alloc, 0) {
             Ok(Some(work)) => work,
             Ok(None) => return Answer::Idle,
@@ -201,14 +201,14 @@ impl Player {
             frame: u64::from(work.frame.number()),
         };
         keep(work);
-        answer_of(runs(alloc, &mut self.node, name))
+        answer_of(run(alloc, &mut self.node, name))
     }
 
     /// A frame runs by a turn.
-    fn runs_by(&mut self, alloc: Global, at: FrameOf, thread: u8, numbers: &[i64]) -> Answer {
+    fn run_by(&mut self, alloc: Global, at: FrameOf, thread: u8, numbers: &[i64]) -> Answer {
         match evaluated(alloc, self.job, thread, numbers) {
             Ok(Some(done)) => {
-                let answer = answer_of(runs_by(alloc, &mut self.node, at, &done));
+                let answer = answer_of(run_by(alloc, &mut self.node, at, &done));
                 keep(done);
                 answer
             }
@@ -218,16 +218,10 @@ impl Player {
     }
 
     /// A frame runs by a turn if that is its own.
-    fn runs_given(
-        &mut self,
-        alloc: Global,
-        name: FrameName,
-        thread: u8,
-        numbers: &[i64],
-    ) -> Answer {
+    fn run_given(&mut self, alloc: Global, name: FrameName, thread: u8, numbers: &[i64]) -> Answer {
         match evaluated(alloc, self.job, thread, numbers) {
             Ok(Some(done)) => {
-                let answer = answer_of(runs_given(alloc, &mut self.node, name, &done));
+                let answer = answer_of(run_given(alloc, &mut self.node, name, &done));
                 keep(done);
                 answer
             }
@@ -237,10 +231,10 @@ impl Player {
     }
 
     /// A frame runs by its whole value.
-    fn runs_whole(&mut self, alloc: Global, at: FrameOf, most_turns: u64) -> Answer {
+    fn run_whole(&mut self, alloc: Global, at: FrameOf, most_turns: u64) -> Answer {
         match Flat::of(alloc, self.job.checked()) {
             Ok(flat) => {
-                let answer = answer_of(runs_whole(alloc, &mut self.node, &flat, at, most_turns));
+                let answer = answer_of(run_whole(alloc, &mut self.node, &flat, at, most_turns));
                 keep(flat);
                 answer
             }
@@ -249,17 +243,17 @@ impl Player {
     }
 
     /// What a call comes to.
-    pub fn calls(&mut self, alloc: Global, call: &Call<'_>) -> Answer {
+    pub fn call(&mut self, alloc: Global, call: &Call<'_>) -> Answer {
         match call {
-            Call::Hear(bytes) => answer_of(hears(alloc, &mut self.node, bytes)),
-            Call::AskHouse => answer_of(asks_house(alloc, &mut self.node)),
-            Call::Ask(word) => answer_of(asks(alloc, &mut self.node, *word)),
-            Call::Run => self.runs_first(alloc),
-            Call::Exec(name) => answer_of(runs(alloc, &mut self.node, *name)),
-            Call::ExecBy(at, thread, on) => self.runs_by(alloc, *at, *thread, on),
-            Call::ExecGiven(name, thread, on) => self.runs_given(alloc, *name, *thread, on),
-            Call::Whole(at, most_turns) => self.runs_whole(alloc, *at, *most_turns),
-            Call::Depart(heir) => answer_of(departs(alloc, &mut self.node, *heir)),
+            Call::Hear(bytes) => answer_of(hear(alloc, &mut self.node, bytes)),
+            Call::AskHouse => answer_of(ask_house(alloc, &mut self.node)),
+            Call::Ask(word) => answer_of(ask(alloc, &mut self.node, *word)),
+            Call::Run => self.run_first(alloc),
+            Call::Exec(name) => answer_of(run(alloc, &mut self.node, *name)),
+            Call::ExecBy(at, thread, on) => self.run_by(alloc, *at, *thread, on),
+            Call::ExecGiven(name, thread, on) => self.run_given(alloc, *name, *thread, on),
+            Call::Whole(at, most_turns) => self.run_whole(alloc, *at, *most_turns),
+            Call::Depart(heir) => answer_of(depart(alloc, &mut self.node, *heir)),
             Call::Resend => answer_of(self.node.resend(alloc)),
         }
     }

@@ -1,9 +1,9 @@
 //! The packets of a transcript: those that were sent, and those that are made by hand.
 
 use crate::shown::write_fill;
-use codec::{Datagram, EncodeError, Packet, ReadError, decode};
+use codec::{Datagram, EncodeError, Packet};
 use node_core::Step;
-use play_packets::{Mail, let_go, packet_number, read_packet, wanted_in, write_packet};
+use play_packets::{Mail, let_go, packet_number, read_packet, wanted_in, write_bytes, write_field};
 use play_words::{Answers, CommandLine, bytes_of_hex, keep};
 use std::alloc::Global;
 
@@ -47,40 +47,11 @@ pub fn make(
     let packet = read_packet(alloc, line, 1, out)?;
     if let Some(datagram) = spelled(alloc, &packet, out) {
         let number = mail.send(None, &packet, datagram, out);
-        out.text("> #");
-        out.number(number);
+        write_field(out, "> #", number);
         out.end();
     }
     let_go(packet);
     Some(())
-}
-
-/// A packet is sent: writes it in words behind its number.
-fn write_packet_sent(
-    mail: &mut Mail,
-    from: u64,
-    packet: &Packet,
-    datagram: Datagram,
-    out: &mut Answers,
-) {
-    let number = mail.send(Some(from), packet, datagram, out);
-    out.text("> #");
-    out.number(number);
-    out.text(" ");
-    write_packet(out, packet);
-    out.end();
-}
-
-/// The same of bytes that are to be a packet's.
-fn write_sent(alloc: Global, mail: &mut Mail, from: u64, datagram: Datagram, out: &mut Answers) {
-    match decode(alloc, datagram.as_bytes()) {
-        Ok(packet) => {
-            write_packet_sent(mail, from, &packet, datagram, out);
-            let_go(packet);
-        }
-        Err(ReadError::Memory) => out.lacks(),
-        Err(ReadError::Fault(fault)) => out.refusal_number(fault.number()),
-    }
 }
 
 /// Writes what a step of a worker did; where calls are shown briefly, only that something is
@@ -106,7 +77,7 @@ pub fn write_step(
     }
     for datagram in sent.into_vec() {
         if !is_brief {
-            write_sent(alloc, mail, from, datagram, out);
+            mail.write_sent(alloc, Some(from), datagram, out);
         }
     }
     for fill in fills.as_slice() {
@@ -184,38 +155,8 @@ pub fn sent_before(
     }
 }
 
-/// The bytes of the packet whose number the word at an index is.
-fn numbered<'a>(mail: &'a Mail, line: &CommandLine<'_>, index: usize) -> Option<&'a [u8]> {
-    mail.at(packet_number(line.word(index)?)?)
-}
-
-/// Tells whether two packets have the same bytes.
-pub fn write_same(
-    mail: &Mail,
-    line: &CommandLine<'_>,
-    index: usize,
-    out: &mut Answers,
-) -> Option<()> {
-    let one = numbered(mail, line, index)?;
-    let other = numbered(mail, line, index.checked_add(1)?)?;
-    out.line(if one == other {
-        "same bytes"
-    } else {
-        "other bytes"
-    });
-    Some(())
-}
-
 /// Shows the bytes of a packet.
-pub fn write_hex(
-    mail: &Mail,
-    line: &CommandLine<'_>,
-    index: usize,
-    out: &mut Answers,
-) -> Option<()> {
-    let bytes = numbered(mail, line, index)?;
-    out.text("> ");
-    out.hex(bytes);
-    out.end();
+pub fn write_hex(mail: &Mail, line: &CommandLine<'_>, out: &mut Answers) -> Option<()> {
+    write_bytes(out, mail.named(line, 1)?, usize::MAX);
     Some(())
 }

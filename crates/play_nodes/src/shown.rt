@@ -2,17 +2,16 @@
 
 use ids::{FrameNo, GrantId, Progress};
 use node_core::{Fill, SubState, SubView, Work};
-use play_packets::{write_grant, write_numbers, write_outcome, write_place};
+use play_packets::{
+    write_field, write_framed, write_grant, write_numbers, write_outcome, write_place,
+};
 use play_words::Answers;
 
 /// Writes a value that came to a slot.
 pub fn write_fill(out: &mut Answers, fill: &Fill) {
     out.text("> fill ");
-    write_grant(out, fill.grant);
-    out.text(" frame ");
-    out.number(u64::from(fill.frame.number()));
-    out.text(" slot ");
-    out.number(u64::from(fill.slot));
+    write_framed(out, fill.grant, fill.frame);
+    write_field(out, " slot ", u64::from(fill.slot));
     out.text(" at ");
     write_place(out, &fill.place);
     out.text(" value ");
@@ -23,11 +22,8 @@ pub fn write_fill(out: &mut Answers, fill: &Fill) {
 /// Writes a frame that is ready.
 pub fn write_work(out: &mut Answers, work: &Work) {
     out.text("> ready ");
-    write_grant(out, work.grant);
-    out.text(" frame ");
-    out.number(u64::from(work.frame.number()));
-    out.text(" thread=");
-    out.number(u64::from(work.thread));
+    write_framed(out, work.grant, work.frame);
+    write_field(out, " thread=", u64::from(work.thread));
     out.text(" on=");
     write_numbers(out, work.numbers.as_slice());
     out.end();
@@ -48,8 +44,7 @@ fn write_state(out: &mut Answers, state: SubState) {
         SubState::Active => write_progress(out, Progress::Active),
         SubState::Finished(outcome) => write_progress(out, Progress::Finished(outcome)),
         SubState::Frozen(heir, progress) => {
-            out.text("frozen:");
-            out.number(heir.word());
+            write_field(out, "frozen:", heir.word());
             out.text(":");
             write_progress(out, progress);
         }
@@ -62,8 +57,7 @@ fn write_frames(out: &mut Answers, frames: &[FrameNo]) {
     }
     let mut mark = "";
     for frame in frames {
-        out.text(mark);
-        out.number(u64::from(frame.number()));
+        write_field(out, mark, u64::from(frame.number()));
         mark = ",";
     }
 }
@@ -85,8 +79,7 @@ fn write_grants(out: &mut Answers, grants: &[GrantId]) {
 pub fn write_sub(out: &mut Answers, view: &SubView) {
     out.text("> sub ");
     write_grant(out, view.grant);
-    out.text(" hop=");
-    out.number(u64::from(view.hop.count()));
+    write_field(out, " hop=", u64::from(view.hop.count()));
     out.text(" state=");
     write_state(out, view.state);
     out.text(" ready=");

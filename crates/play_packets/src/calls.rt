@@ -85,7 +85,8 @@ fn in_way(alloc: Global, packet: &Packet, way: Way) -> Option<Result<Vec<u8>, En
     }
 }
 
-/// A packet's bytes in a way; none where they are too many, which is written, or the way doesn't suit it.
+/// A packet's bytes in a way; none where they are too many, which is written, or the way doesn't
+/// suit it.
 fn by(alloc: Global, packet: &Packet, way: Way, out: &mut Answers) -> Option<Vec<u8>> {
     for _ in 0..2 {
         match in_way(alloc, packet, way)? {
@@ -130,7 +131,8 @@ fn compare_all(alloc: Global, packet: &Packet, bytes: Option<&[u8]>, out: &mut A
     compare(alloc, packet, Way::ShortDatagram, bytes, out);
 }
 
-/// A packet's bytes, which each other way has to give too; none where they are too many, which is written for each way.
+/// A packet's bytes, which each other way has to give too; none where they are too many, which is
+/// written for each way.
 pub fn written(alloc: Global, packet: &Packet, out: &mut Answers) -> Option<Vec<u8>> {
     match spelled(alloc, packet, out) {
         Some(bytes) => {
@@ -156,7 +158,8 @@ fn is_written(alloc: Global, packet: &Packet, bytes: &[u8], out: &mut Answers) -
     }
 }
 
-/// The packet of bytes, which is written as these again; none where they have a fault, or it is written otherwise.
+/// The packet of bytes, which is written as these again; none where they have a fault, or it is
+/// written otherwise.
 pub fn read_back(alloc: Global, bytes: &[u8], out: &mut Answers) -> Option<Packet> {
     let packet = read(alloc, bytes, out)?;
     if is_written(alloc, &packet, bytes, out) {

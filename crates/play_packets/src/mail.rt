@@ -1,6 +1,7 @@
 //! The packets that were sent.
 
-use codec::{Body, Datagram, Packet};
+use crate::words::{let_go, write_field, write_packet};
+use codec::{Body, Datagram, Packet, ReadError, decode};
 use play_words::{Answers, CommandLine, word64};
 use std::alloc::Global;
 
@@ -17,6 +18,8 @@ struct Sent {
 #[derive(Drop)]
 pub struct Mail {
     sent: Vec<Sent>,
+    /// Of a packet of more bytes than these the kind and the count are shown.
+    most_shown: usize,
 }
 
 /// Packets of a kind that a worker sent to somebody.
@@ -28,7 +31,7 @@ pub struct Wanted<'a> {
 }
 
 /// The name of a packet's kind.
-pub fn kind_name(body: &Body) -> &'static str {
+fn kind_name(body: &Body) -> &'static str {
     match body {
         Body::Join(_) => "Join",
         Body::Roster(_) => "Roster",
@@ -55,9 +58,11 @@ impl Sent {
 }
 
 impl Mail {
-    pub fn new(alloc: Global) -> Mail {
+    /// One that shows packets of so many bytes in words.
+    pub fn new(alloc: Global, most_shown: usize) -> Mail {
         Mail {
             sent: Vec::new(alloc),
+            most_shown,
         }
     }
 
@@ -87,6 +92,11 @@ impl Mail {
         Some(self.sent.get(index)?.datagram.as_bytes())
     }
 
+    /// The bytes of the packet whose number the word at an index is.
+    pub fn named(&self, line: &CommandLine<'_>, index: usize) -> Option<&[u8]> {
+        self.at(packet_number(line.word(index)?)?)
+    }
+
     /// The bytes of the last packet that is wanted.
     pub fn find(&self, wanted: Wanted<'_>) -> Option<&[u8]> {
         let mut found = None;
@@ -96,6 +106,63 @@ impl Mail {
             }
         }
         found
+    }
+
+    /// A packet is sent, and written behind its number.
+    fn write_packet_sent(
+        &mut self,
+        from: Option<u64>,
+        packet: &Packet,
+        datagram: Datagram,
+        out: &mut Answers,
+    ) {
+        let length = datagram.as_bytes().len();
+        let number = self.send(from, packet, datagram, out);
+        write_field(out, "> #", number);
+        out.text(" ");
+        if length > self.most_shown {
+            out.text(kind_name(packet.body()));
+            write_field(out, " of ", length as u64);
+            out.text(" bytes");
+        } else {
+            write_packet(out, packet);
+        }
+        out.end();
+    }
+
+    /// The same of bytes that are to be a packet's.
+    pub fn write_sent(
+        &mut self,
+        alloc: Global,
+        from: Option<u64>,
+        datagram: Datagram,
+        out: &mut Answers,
+    ) {
+        match decode(alloc, datagram.as_bytes()) {
+            Ok(packet) => {
+                self.write_packet_sent(from, &packet, datagram, out);
+                let_go(packet);
+            }
+            Err(ReadError::Memory) => out.lacks(),
+            Err(ReadError::Fault(fault)) => out.refusal_number(fault.number()),
+        }
+    }
+
+    /// Tells whether the two packets have the same bytes whose numbers stand from an index on.
+    pub fn write_same(
+        &self,
+        line: &CommandLine<'_>,
+        index: usize,
+        out: &mut Answers,
+    ) -> Option<()> {
+        let one = self.named(line, index)?;
+        let other = self.named(line, index.checked_add(1)?)?;
+        out.line(if one == other {
+            "same bytes"
+        } else {
+            "other bytes"
+        });
+        Some(())
     }
 }
 

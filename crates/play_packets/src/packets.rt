@@ -1,7 +1,8 @@
 //! The bytes of a transcript that are a packet's or may be.
 
 use crate::calls::{read, read_back, spelled, written};
-use crate::words::{let_go, packet_in, write_packet};
+use crate::shown::write_bytes;
+use crate::words::{add_times, let_go, packet_in, size_at, write_field, write_packet};
 use codec::{Fault, Packet, ReadError, decode};
 use play_words::{Answers, CommandLine, Played, bytes_of_hex, size, word32};
 use std::alloc::Global;
@@ -32,17 +33,18 @@ fn add_kept(kept: &[u8], bytes: &mut Vec<u8>, at: &str, out: &mut Answers) -> bo
 }
 
 /// Adds the bytes of hexadecimal digits so many times. Whether they are such.
-fn add_times(alloc: Global, bytes: &mut Vec<u8>, hex: &str, times: u32, out: &mut Answers) -> bool {
-    let Some(spelled) = bytes_of_hex(alloc, hex, out) else {
-        return false;
-    };
-    for _ in 0..times {
-        out.put(bytes.extend_from_slice(&spelled));
+fn add_hex(alloc: Global, bytes: &mut Vec<u8>, hex: &str, times: u32, out: &mut Answers) -> bool {
+    match bytes_of_hex(alloc, hex, out) {
+        Some(spelled) => {
+            add_times(bytes, &spelled, u64::from(times), out);
+            true
+        }
+        None => false,
     }
-    true
 }
 
-/// Adds the bytes of a piece: `HEX`, `HEX*TIMES`, or `@AT`, which is the kept bytes from an index on. Whether it is one.
+/// Adds the bytes of a piece: `HEX`, `HEX*TIMES`, or `@AT`, which is the kept bytes from an index
+/// on. Whether it is one.
 fn add_piece(
     alloc: Global,
     kept: &[u8],
@@ -55,10 +57,10 @@ fn add_piece(
     }
     match piece.split_once('*') {
         Some((hex, times)) => match word32(times) {
-            Some(times) => add_times(alloc, bytes, hex, times, out),
+            Some(times) => add_hex(alloc, bytes, hex, times, out),
             None => false,
         },
-        None => add_times(alloc, bytes, piece, 1, out),
+        None => add_hex(alloc, bytes, piece, 1, out),
     }
 }
 
@@ -94,7 +96,7 @@ fn fault(alloc: Global, bytes: &[u8], out: &mut Answers) -> Option<Fault> {
 }
 
 /// Bytes are read so often, up to a fault.
-fn reads(alloc: Global, bytes: &[u8], times: u64, out: &mut Answers) {
+fn read_often(alloc: Global, bytes: &[u8], times: u64, out: &mut Answers) {
     for _ in 0..times {
         match read(alloc, bytes, out) {
             Some(packet) => let_go(packet),
@@ -105,7 +107,7 @@ fn reads(alloc: Global, bytes: &[u8], times: u64, out: &mut Answers) {
 }
 
 /// A packet is written so often, up to a refusal.
-fn writes(alloc: Global, packet: &Packet, times: u64, out: &mut Answers) {
+fn write_often(alloc: Global, packet: &Packet, times: u64, out: &mut Answers) {
     for _ in 0..times {
         if spelled(alloc, packet, out).is_none() {
             return;
@@ -117,7 +119,7 @@ fn writes(alloc: Global, packet: &Packet, times: u64, out: &mut Answers) {
 fn decodes(alloc: Global, line: &CommandLine<'_>, out: &mut Answers) -> Option<()> {
     let times = line.number(1)?;
     let bytes = bytes_of_hex(alloc, line.rest(2), out)?;
-    reads(alloc, &bytes, times, out);
+    read_often(alloc, &bytes, times, out);
     Some(())
 }
 
@@ -126,17 +128,10 @@ fn encodes(alloc: Global, line: &CommandLine<'_>, out: &mut Answers) -> Option<(
     let times = line.number(1)?;
     let bytes = bytes_of_hex(alloc, line.rest(2), out)?;
     if let Some(packet) = read(alloc, &bytes, out) {
-        writes(alloc, &packet, times, out);
+        write_often(alloc, &packet, times, out);
         let_go(packet);
     }
     Some(())
-}
-
-/// Answers bytes.
-fn write_bytes(out: &mut Answers, bytes: &[u8]) {
-    out.text("> ");
-    out.hex(bytes);
-    out.end();
 }
 
 /// Says that bytes are read, and written again as they are, or why not.
@@ -159,24 +154,20 @@ fn write_read(alloc: Global, bytes: &[u8], out: &mut Answers) {
 
 /// Answers the bytes of a packet, which are to be read as one.
 fn write_written(alloc: Global, bytes: &[u8], out: &mut Answers) {
-    if bytes.len() > SHOWN {
-        out.counted(bytes.len(), " bytes");
-    } else {
-        write_bytes(out, bytes);
-    }
+    write_bytes(out, bytes, SHOWN);
     match read_back(alloc, bytes, out) {
         Some(packet) => let_go(packet),
         None => out.line("not read"),
     }
 }
 
-/// Answers what is wrong with the first bytes of a packet, so many; whether they end inside a field.
+/// Answers what is wrong with the first bytes of a packet, so many; whether they end inside a
+/// field.
 fn is_cut(alloc: Global, beginning: &[u8], out: &mut Answers) -> bool {
     match fault(alloc, beginning, out) {
         Some(Fault::Short) => true,
         Some(other) => {
-            out.text("> ");
-            out.number(beginning.len() as u64);
+            write_field(out, "> ", beginning.len() as u64);
             out.text(" bytes: ");
             out.shown(&other);
             out.end();
@@ -187,11 +178,6 @@ fn is_cut(alloc: Global, beginning: &[u8], out: &mut Answers) -> bool {
             false
         }
     }
-}
-
-/// The place that a word numbers.
-fn place(line: &CommandLine<'_>, index: usize) -> Option<usize> {
-    size(line.word(index)?)
 }
 
 impl Packets {
@@ -220,7 +206,7 @@ impl Packets {
     fn encode(&mut self, alloc: Global, line: &CommandLine<'_>, out: &mut Answers) -> Option<()> {
         match packet_in(alloc, line, 1, out)? {
             Some(packet) => {
-                self.keeps(alloc, &packet, out);
+                self.keep(alloc, &packet, out);
                 let_go(packet);
             }
             None => out.line("no packet"),
@@ -229,7 +215,7 @@ impl Packets {
     }
 
     /// Keeps the bytes of a packet.
-    fn keeps(&mut self, alloc: Global, packet: &Packet, out: &mut Answers) {
+    fn keep(&mut self, alloc: Global, packet: &Packet, out: &mut Answers) {
         if let Some(bytes) = written(alloc, packet, out) {
             write_written(alloc, &bytes, out);
             self.bytes = bytes;
@@ -246,7 +232,7 @@ impl Packets {
 
     /// The kept bytes with others from an index on.
     fn with(&self, alloc: Global, line: &CommandLine<'_>, out: &mut Answers) -> Option<()> {
-        let at = place(line, 1)?;
+        let at = size_at(line, 1)?;
         let others = bytes_of_hex(alloc, line.rest(2), out)?;
         if let Some(bytes) = out.made(Vec::from_slice(alloc, &self.bytes)) {
             read_changed(alloc, bytes, at, &others, out);
@@ -256,7 +242,7 @@ impl Packets {
 
     /// The first of the kept bytes, and pieces behind them.
     fn front(&self, alloc: Global, line: &CommandLine<'_>, out: &mut Answers) -> Option<()> {
-        let count = place(line, 1)?;
+        let count = size_at(line, 1)?;
         let front = self.bytes.get(..count)?;
         let mut bytes = out.made(Vec::from_slice(alloc, front))?;
         if add_pieces(alloc, &self.bytes, &mut bytes, line.rest(2), out) {
@@ -269,9 +255,9 @@ impl Packets {
 
     /// So many of the kept bytes from an index on.
     fn part(&self, line: &CommandLine<'_>, out: &mut Answers) -> Option<()> {
-        let at = place(line, 1)?;
-        let count = place(line, 2)?;
-        write_bytes(out, self.bytes.get(at..)?.get(..count)?);
+        let at = size_at(line, 1)?;
+        let count = size_at(line, 2)?;
+        write_bytes(out, self.bytes.get(at..)?.get(..count)?, usize::MAX);
         Some(())
     }
 

@@ -6,11 +6,11 @@ mod reading;
 mod work;
 mod writing;
 
-pub use fields::{actor, frame_number, grant};
-pub use lists::{numbers, place, saved_values, steps};
+pub use fields::{actor, ends, frame_ends, frame_number, grant, outcome, size_at, status};
+pub use lists::{add_times, members, numbers, place, saved_values, steps};
 pub use reading::{let_go, packet_in, read_packet};
 pub use work::read_frames;
 pub use writing::{
-    write_frame, write_grant, write_numbers, write_outcome, write_packet, write_place, write_saved,
-    write_steps,
+    write_field, write_frame, write_framed, write_grant, write_numbers, write_outcome,
+    write_packet, write_place, write_saved, write_steps,
 };

@@ -15,8 +15,8 @@ pub enum Ended {
     Output,
 }
 
-/// What commands answer, gathered until it is printed. No call of it fails: once there was no memory, for its text or for whoever
-/// writes it, it says so and takes no more.
+/// What commands answer, gathered until it is printed. No call of it fails: once there was no
+/// memory, for its text or for whoever writes it, it says so and takes no more.
 #[derive(Drop)]
 pub struct Answers {
     text: Vec<u8>,

@@ -26,7 +26,8 @@ fn pair(high: u8, low: u8) -> Option<u8> {
     high.checked_mul(16)?.checked_add(low)
 }
 
-/// What a text of hexadecimal digits is read as, up to a byte: whether it is well so far, and the first digit of a pair.
+/// What a text of hexadecimal digits is read as, up to a byte: whether it is well so far, and the
+/// first digit of a pair.
 #[derive(Clone, Copy)]
 enum Before {
     Whole,
@@ -62,8 +63,8 @@ fn add(bytes: &mut Vec<u8>, text: &str, out: &mut Answers) -> bool {
     matches!(before, Before::Whole)
 }
 
-/// The bytes that pairs of hexadecimal digits spell; none where the text is no such pairs, or there is no memory. Blanks between
-/// pairs are skipped, and `-` alone spells no bytes.
+/// The bytes that pairs of hexadecimal digits spell; none where the text is no such pairs, or there
+/// is no memory. Blanks between pairs are skipped, and `-` alone spells no bytes.
 pub fn bytes_of_hex(alloc: Global, text: &str, out: &mut Answers) -> Option<Vec<u8>> {
     let mut bytes = Vec::new(alloc);
     if text == "-" || add(&mut bytes, text, out) {

@@ -1,4 +1,5 @@
-//! Transcripts: the words of a command line, bytes in hexadecimal digits, what becomes of a command, and what commands answer.
+//! Transcripts: the words of a command line, bytes in hexadecimal digits, what becomes of a
+//! command, and what commands answer.
 #![tactic(auto)]
 
 mod answers;

@@ -40,12 +40,14 @@ impl<'a> CommandLine<'a> {
         }
     }
 
-    /// The word at an index as a number; none where it is no number from 0 to 2^64 - 1 in decimal digits.
+    /// The word at an index as a number; none where it is no number from 0 to 2^64 - 1 in decimal
+    /// digits.
     pub fn number(&self, index: usize) -> Option<u64> {
         word64(self.word(index)?)
     }
 
-    /// The word at an index as a number; none where it is no number of 64 bits with a sign in decimal digits.
+    /// The word at an index as a number; none where it is no number of 64 bits with a sign in
+    /// decimal digits.
     pub fn signed(&self, index: usize) -> Option<i64> {
         signed64(self.word(index)?)
     }

@@ -1,4 +1,5 @@
-//! Numbers in words. Each type is read here alone, as the first text of a type that a library reads is long to prove.
+//! Numbers in words. Each type is read here alone, as the first text of a type that a library reads
+//! is long to prove.
 
 use crate::answers::Answers;
 use std::alloc::Global;
@@ -28,8 +29,8 @@ pub fn size(text: &str) -> Option<usize> {
     usize::try_from(word64(text)?).ok()
 }
 
-/// Numbers with signs that blanks part are added to a list; whether they are such. Empty words between them are none, where they
-/// may be left out.
+/// Numbers with signs that blanks part are added to a list; whether they are such. Empty words
+/// between them are none, where they may be left out.
 fn add_numbers(list: &mut Vec<i64>, words: &str, may_be_empty: bool, out: &mut Answers) -> bool {
     let mut are_numbers = true;
     for word in words.split(' ') {

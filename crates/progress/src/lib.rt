@@ -51,7 +51,8 @@ impl RunProgress {
         self.ended.load(SeqCst) == 1
     }
 
-    /// Writes a line over the last one: the events, how many a second in so many milliseconds, and the packets.
+    /// Writes a line over the last one: the events, how many a second in so many milliseconds, and
+    /// the packets.
     fn write<E: Write>(&self, err: &mut E, millis: u64) -> io::Result<()> {
         let events = self.events.load(SeqCst);
         let packets = self.packets.load(SeqCst);
@@ -75,8 +76,9 @@ fn millis_since<R: Clock>(rt: &R, began: &Instant) -> u64 {
     }
 }
 
-/// Tells how far a run has come until it ends: nothing in its first two seconds, and then twice a second in one line, which is written anew each
-/// time and taken away at the end. Where the clock fails nothing is told, and behind a line that can't be written nothing more.
+/// Tells how far a run has come until it ends: nothing in its first two seconds, and then twice a
+/// second in one line, which is written anew each time and taken away at the end. Where the clock
+/// fails nothing is told, and behind a line that can't be written nothing more.
 pub fn tell<R: Clock, E: Write>(rt: &R, err: &mut E, progress: &RunProgress) {
     let Ok(began) = Instant::now(rt) else {
         return;

@@ -1,4 +1,5 @@
--- What recovery does to a content: another host, another holder of a record, or a record whose frame is ready again.
+-- What recovery does to a content: another host, another holder of a record, or a record whose
+-- frame is ready again.
 use Rattle.std.proofs.Common.{◌≡◌, ℕ, ◌+◌, List, [], ◌∷◌, ◌++◌, length, map, Option, Some, None, IsTrue, inl, inr, refl, sym, ap, subst, ◌∙◌, is_some, cond, arith}
 use Rattle.std.proofs.lemmas.List.{length-map}
 use Rattle.std.proofs.lemmas.List.Sums.{sum_by-append, sum_by-cons}

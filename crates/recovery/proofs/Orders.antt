@@ -1,4 +1,5 @@
--- Items by rising names: such a list is known by what stands under each name, and stays so when items are put and taken away.
+-- Items by rising names: such a list is known by what stands under each name, and stays so when
+-- items are put and taken away.
 use Rattle.std.proofs.Common.{◌≡◌, Bool, true, false, List, [], ◌∷◌, ◌++◌, cond, map, not, Option, Some, None, option_map, refl, sym, ap, subst, ◌∙◌, Ordering, Less, Equal, Greater, append_assoc}
 use Rattle.std.specs.List.{AllByRecursion}
 use Rattle.std.specs.Option.{option_or}

@@ -1,5 +1,5 @@
--- A plan of a recovery: what becomes of each subcomputation that changes, which holders are told to stop, and which frames
--- are ready again.
+-- A plan of a recovery: what becomes of each subcomputation that changes, which holders are told to
+-- stop, and which frames are ready again.
 use Rattle.std.specs.Prelude.{◌≡◌, ℕ, List, ◌++◌, [], ◌∷◌, map, IsSome, Option, Some, None, option_map, if◌then◌else◌}
 use Rattle.std.specs.List.{AllByRecursion}
 use Rattle.ids.specs.Named.{item_in, put_in, without_in}

@@ -35,8 +35,8 @@ abbrev pub told_of : Grant → List ReadiedOf → List Readied
 told_of g [] = []
 told_of g (r ∷ rs) = if same_grant r.grant g then r.frame ∷ told_of g rs else told_of g rs
 
--- a subcomputation that is left was held before, what became ready in it is told, and it has no new record and fits what it
--- fitted
+-- a subcomputation that is left was held before, what became ready in it is told, and it has no new
+-- record and fits what it fitted
 pub record IsLeft (g : Grant) (before : List SubOf) (s : SubOf) (again : List ReadiedOf) : Type 0 where
   pub was : SubOf
   pub there : sub_in g before ≡ Some was

@@ -15,8 +15,8 @@ use std::alloc::{AllocError, Global};
 use sub_rules::Readied;
 use subcomputation::{ReadiedOf, Sub};
 
-/// What comes of a subcomputation that an Offer hands on: it, or nothing where its host is dead; the holders that are told
-/// to stop; and its ready frames, those with which it came first.
+/// What comes of a subcomputation that an Offer hands on: it, or nothing where its host is dead;
+/// the holders that are told to stop; and its ready frames, those with which it came first.
 #[derive(Drop)]
 pub struct Alone {
     pub after: Option<Sub>,

@@ -23,7 +23,8 @@ use subcomputation::{ReadiedOf, Sub};
 /// The most workers that are followed one by one.
 const FEW: usize = 64;
 
-/// The most heirs that are followed for each member of the roster: a table of all costs about as much.
+/// The most heirs that are followed for each member of the roster: a table of all costs about as
+/// much.
 const HEIRS: usize = 8;
 
 /// What becomes of a subcomputation: it goes, or this one stands in its place.
@@ -52,9 +53,10 @@ pub struct Stopped {
     pub holder: Incarnation,
 }
 
-/// What a recovery leads to, beside the subcomputations, which stay as they are until it is carried out. Contracts see what
-/// becomes of each subcomputation that changes, by rising grant, the holders that are told to stop, in the order of their
-/// Aborts, and the frames that are ready again, in their order.
+/// What a recovery leads to, beside the subcomputations, which stay as they are until it is carried
+/// out. Contracts see what becomes of each subcomputation that changes, by rising grant, the
+/// holders that are told to stop, in the order of their Aborts, and the frames that are ready
+/// again, in their order.
 #[derive(Drop)]
 pub struct Plan {
     settled: SortedMap<Settled>,
@@ -74,10 +76,11 @@ impl Model for Plan {
     ghost invariant = { λ p. p.grants ≡ map grant_of p.settled };
 }
 
-/// Plans the recovery of all subcomputations by a roster: one whose host is dead goes, and one whose host left waits for
-/// whoever has that one's work; then, by rising grant over all that are left, a record whose holder is dead is closed and its
-/// frame is ready again, and one whose holder left is held by whoever has that one's work. Refused only when out of memory.
-/// Only those subcomputations are copied that change, each once.
+/// Plans the recovery of all subcomputations by a roster: one whose host is dead goes, and one
+/// whose host left waits for whoever has that one's work; then, by rising grant over all that are
+/// left, a record whose holder is dead is closed and its frame is ready again, and one whose holder
+/// left is held by whoever has that one's work. Refused only when out of memory. Only those
+/// subcomputations are copied that change, each once.
 pub fn make_plan(
     alloc: Global,
     members: &[Member],
@@ -98,8 +101,9 @@ pub fn make_plan(
 }
 
 impl Plan {
-    /// The holders that are told to stop, in the order of their Aborts: those of a subcomputation that goes by rising grant,
-    /// subcomputations by rising grant, and then those of records that are closed, by rising grant.
+    /// The holders that are told to stop, in the order of their Aborts: those of a subcomputation
+    /// that goes by rising grant, subcomputations by rising grant, and then those of records that
+    /// are closed, by rising grant.
     pub fn stopped(&self) -> &[Stopped]
         ensures { result.now ≡ self.now.stopped }
     {
@@ -170,8 +174,8 @@ struct Roster<'a> {
 }
 
 impl<'a> Roster<'a> {
-    /// Looks through a roster's members, for the hosts of these subcomputations and the holders of their records; refused
-    /// only when out of memory.
+    /// Looks through a roster's members, for the hosts of these subcomputations and the holders of
+    /// their records; refused only when out of memory.
     fn of(
         alloc: Global,
         members: &'a [Member],
@@ -213,8 +217,9 @@ impl<'a> Roster<'a> {
     }
 }
 
-/// Whether following each worker that is asked for costs less than a table of all: few are asked for, and the heirs to be
-/// followed are not too many, even where each chain goes over all members that left.
+/// Whether following each worker that is asked for costs less than a table of all: few are asked
+/// for, and the heirs to be followed are not too many, even where each chain goes over all members
+/// that left.
 fn is_cheaper_followed(members: &[Member], subs: &SortedMap<Sub>) -> bool {
     let asked = asked_for(subs);
     if asked > FEW {
@@ -224,7 +229,8 @@ fn is_cheaper_followed(members: &[Member], subs: &SortedMap<Sub>) -> bool {
     heirs <= members.len().saturating_mul(HEIRS)
 }
 
-/// How often a worker is asked for at most: twice for the host of each subcomputation, and once for the holder of each record.
+/// How often a worker is asked for at most: twice for the host of each subcomputation, and once for
+/// the holder of each record.
 fn asked_for(subs: &SortedMap<Sub>) -> usize {
     let mut asked: usize = 0;
     for sub in subs.values() {
@@ -298,8 +304,8 @@ fn settle_subs(alloc: Global, roster: &Roster, subs: &SortedMap<Sub>) -> Result<
     Ok(draft)
 }
 
-/// The hosts of the records of the subcomputations that are left when each is settled, by the rising grants of the records;
-/// of two hosts of one grant the first.
+/// The hosts of the records of the subcomputations that are left when each is settled, by the
+/// rising grants of the records; of two hosts of one grant the first.
 fn hosts(
     alloc: Global,
     roster: &Roster,

@@ -25,7 +25,7 @@ pub enum ReplayFault {
     #[error("packet {0}")]
     Packet(u64),
     /// E9: there is no memory.
-    #[error("E9")]
+    #[error("E{number}", number = ids::error_numbers::MEMORY)]
     Memory,
 }
 

@@ -27,7 +27,7 @@ pub enum WordsFault {
     #[error("usage")]
     Usage,
     /// E9: there is no memory for them.
-    #[error("E9")]
+    #[error("E{number}", number = ids::error_numbers::MEMORY)]
     Memory,
 }
 

@@ -1,4 +1,5 @@
--- How a place whose value is saved is held: the first bytes are its steps from the root on, and the others are 0.
+-- How a place whose value is saved is held: the first bytes are its steps from the root on, and the
+-- others are 0.
 use Rattle.std.specs.Prelude.{◌≡◌, ◌≤◌, ◌-◌, ◌++◌, ℕ, IsTrue, List, length, drop, replicate, reverse, take}
 use Rattle.saved_values.specs.Places.{is_saved_place}
 use Rattle.saved_values.specs.declared.place.SavedPlace.TheInside.{Inside}

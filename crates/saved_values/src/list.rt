@@ -7,7 +7,8 @@ use ids::{Listed, Place};
 use std::alloc::{AllocError, Global};
 use std::marker::Model;
 
-/// Values that were saved, as a table has them, in no more memory than they need. Contracts see their list.
+/// Values that were saved, as a table has them, in no more memory than they need. Contracts see
+/// their list.
 #[derive(Drop)]
 pub struct SavedList {
     values: Listed<SavedValue>,

@@ -10,7 +10,8 @@ use std::marker::Model;
 /// The most steps of a place whose value is saved.
 pub const MOST_SAVED_STEPS: usize = 23;
 
-/// A place whose value may be saved: 1 to 23 steps, of which the last one goes to a kid. Contracts see its steps, the last one first.
+/// A place whose value may be saved: 1 to 23 steps, of which the last one goes to a kid. Contracts
+/// see its steps, the last one first.
 #[derive(Clone, Copy)]
 pub struct SavedPlace {
     len: u8,
@@ -34,8 +35,8 @@ impl Model for SavedPlace {
 }
 
 impl SavedPlace {
-    /// The place that these steps lead to from the root; none where they are no step or more than 23, one of them is no step, or the last
-    /// one goes to a successor.
+    /// The place that these steps lead to from the root; none where they are no step or more than
+    /// 23, one of them is no step, or the last one goes to a successor.
     pub fn of_steps(steps: &[u8]) -> Option<SavedPlace>
         ensures { result ≡ (if is_saved_place (reverse steps.now) then Some (reverse steps.now) else None) }
     {
@@ -66,8 +67,8 @@ impl SavedPlace {
         SavedPlace::of_steps(place.steps())
     }
 
-    /// The place of a task's value: its own, less the steps to successors at its end, since the value of a task is that of its
-    /// successors. None where no value of that is saved.
+    /// The place of a task's value: its own, less the steps to successors at its end, since the
+    /// value of a task is that of its successors. None where no value of that is saved.
     pub fn of_task(place: &Place) -> Option<SavedPlace>
         ensures { result ≡ (if is_saved_place (stripped place.now) then Some (stripped place.now) else None) }
     {
@@ -101,7 +102,8 @@ impl SavedPlace {
         Ok(place)
     }
 
-    /// The order of places: shorter ones first, and those of one length by their steps from the root on.
+    /// The order of places: shorter ones first, and those of one length by their steps from the
+    /// root on.
     pub fn compare(&self, other: &SavedPlace) -> Ordering
         ensures { result ≡ place_cmp self.now other.now }
     {

@@ -14,7 +14,8 @@ use std::marker::Model;
 /// The most values that a table has.
 pub const MOST_SAVED: usize = 64;
 
-/// Values that were saved, by the order of their places: at most 64, of each place one. Contracts see their list.
+/// Values that were saved, by the order of their places: at most 64, of each place one. Contracts
+/// see their list.
 #[derive(Drop)]
 pub struct SavedTable {
     count: u8,
@@ -64,8 +65,9 @@ impl SavedTable {
         &self.values[..usize::from(self.count)]
     }
 
-    /// Puts one more in its place, and tells whether it is taken. It isn't, and nothing changes, where a value of its place is saved, or where
-    /// it would be a 65th and the last one. Where another one is the 65th, that one goes.
+    /// Puts one more in its place, and tells whether it is taken. It isn't, and nothing changes,
+    /// where a value of its place is saved, or where it would be a 65th and the last one. Where
+    /// another one is the 65th, that one goes.
     pub fn put(&mut self, value: SavedValue) -> bool
         ensures taken { result ≡ is_taken value self.old }
         ensures put { result ≡ true → self.new ≡ put_saved value self.old }
@@ -86,8 +88,8 @@ impl SavedTable {
         true
     }
 
-    /// Puts one more behind all others, and tells whether it is taken. It isn't, and nothing changes, where 64 are there, or where its
-    /// place doesn't stand behind that of the last one.
+    /// Puts one more behind all others, and tells whether it is taken. It isn't, and nothing
+    /// changes, where 64 are there, or where its place doesn't stand behind that of the last one.
     pub fn append(&mut self, value: SavedValue) -> bool
         ensures taken { result ≡ true → self.new ≡ self.old ++ value ∷ [] }
         ensures refused { result ≡ false → (IsSavedList (self.old ++ value ∷ []) → ⊥) }
@@ -151,8 +153,8 @@ fn position(values: &[SavedValue], place: &SavedPlace) -> Option<usize>
     Some(values.len())
 }
 
-/// Those of values whose place is below another one; they stand by the order of their places where all do. Refused only when out of
-/// memory.
+/// Those of values whose place is below another one; they stand by the order of their places where
+/// all do. Refused only when out of memory.
 pub fn below(
     alloc: Global,
     values: &[SavedValue],

@@ -1,4 +1,5 @@
-//! What an evaluation keeps of the tasks that it finished, for where it doesn't come to its own end.
+//! What an evaluation keeps of the tasks that it finished, for where it doesn't come to its own
+//! end.
 ghost use Rattle.std.specs.Prelude.{◌≡◌, ◌≤◌, drop, take, vec_len, IfOk, Some};
 ghost use Rattle.serial_meaning.specs.Serial.{serial, serial_turns};
 ghost use Rattle.serial_meaning.specs.Whole.{AreWholesOf};
@@ -10,7 +11,8 @@ use std::alloc::{AllocError, Global};
 use std::marker::Model;
 use std::snapshot::Snapshot;
 
-/// How many tasks an evaluation had finished, and how many were under way, when a kid began, and on which level that one is.
+/// How many tasks an evaluation had finished, and how many were under way, when a kid began, and on
+/// which level that one is.
 #[derive(Clone, Copy)]
 pub struct Mark {
     finished: usize,
@@ -18,8 +20,8 @@ pub struct Mark {
     level: u16,
 }
 
-/// Doubles the last numbers of a stack, those from `start` on: a kid takes the upper ones away, and the lower ones are at hand when it is
-/// done. Where the upper ones begin.
+/// Doubles the last numbers of a stack, those from `start` on: a kid takes the upper ones away, and
+/// the lower ones are at hand when it is done. Where the upper ones begin.
 pub fn double(stack: &mut Vec<i64>, start: usize) -> Result<usize, AllocError>
     requires { start ≤ vec_len stack.old }
     ensures inside { IfOk result (λ b. b ≤ vec_len stack.new) }
@@ -63,7 +65,8 @@ const MOST_SMALL: u32 = 64;
 /// On so many levels kids are kept where all of them are to be.
 pub const ALL_LEVELS: u16 = u16::MAX;
 
-/// A task that has begun: its thread, how many places can be below its own, and where its numbers stand on the stack.
+/// A task that has begun: its thread, how many places can be below its own, and where its numbers
+/// stand on the stack.
 #[derive(Clone, Copy)]
 struct Begun {
     thread: u8,
@@ -72,8 +75,8 @@ struct Begun {
     end: usize,
 }
 
-/// A task that an evaluation had begun and didn't finish: its thread, how many places can be below its own, and its numbers. It is a hint
-/// alone.
+/// A task that an evaluation had begun and didn't finish: its thread, how many places can be below
+/// its own, and its numbers. It is a hint alone.
 #[derive(Drop)]
 pub struct UnderWay {
     pub thread: u8,
@@ -81,9 +84,10 @@ pub struct UnderWay {
     pub numbers: Numbers,
 }
 
-/// Keeps the tasks of one program that an evaluation finished and that are no part of another one that it finished, and those that it had
-/// begun, down to some level below the task itself. That level rises and sinks with the turns that kids take, so that few are looked at
-/// which are too small to be kept. Where there is no memory it keeps less.
+/// Keeps the tasks of one program that an evaluation finished and that are no part of another one
+/// that it finished, and those that it had begun, down to some level below the task itself. That
+/// level rises and sinks with the turns that kids take, so that few are looked at which are too
+/// small to be kept. Where there is no memory it keeps less.
 #[derive(Drop)]
 pub struct Keeper {
     // It has no bytes.
@@ -116,8 +120,8 @@ impl Model for Keeper {
 }
 
 impl Keeper {
-    /// Nothing of this program's tasks is kept yet, and kids will be on so many levels at most, or on all of them: kids of the task itself are
-    /// on the first one.
+    /// Nothing of this program's tasks is kept yet, and kids will be on so many levels at most, or
+    /// on all of them: kids of the task itself are on the first one.
     pub fn new(alloc: Global, checked: &Checked, levels: u16) -> Keeper
         ensures { result ≡ checked.now }
     {
@@ -133,7 +137,8 @@ impl Keeper {
         }
     }
 
-    /// The tasks that were finished, and those that were under way where the evaluation ran out of turns, or came to where no place is left.
+    /// The tasks that were finished, and those that were under way where the evaluation ran out of
+    /// turns, or came to where no place is left.
     pub fn into_parts(self) -> (Vec<Whole>, Vec<UnderWay>)
         ensures { AreWholesOf self result.0.items }
     {
@@ -145,7 +150,8 @@ impl Keeper {
         level < self.levels
     }
 
-    /// A kid begins on a level: a task of a thread, with so many places below its own, whose numbers stand from `start` to `end` on the stack.
+    /// A kid begins on a level: a task of a thread, with so many places below its own, whose
+    /// numbers stand from `start` to `end` on the stack.
     pub(crate) fn begins(
         &mut self,
         level: u16,
@@ -207,7 +213,8 @@ impl Keeper {
         }
     }
 
-    /// A kid on a level is too small to be kept. After some of them those on that level aren't looked at, unless all levels are wanted.
+    /// A kid on a level is too small to be kept. After some of them those on that level aren't
+    /// looked at, unless all levels are wanted.
     fn is_small_on(&mut self, level: u16)
         ensures { self.new ≡ self.old }
     {
@@ -231,7 +238,8 @@ impl Keeper {
             .min(self.most_levels);
     }
 
-    /// The evaluation ends in the midst, with this stack: the numbers of what is under way are taken from there.
+    /// The evaluation ends in the midst, with this stack: the numbers of what is under way are
+    /// taken from there.
     pub(crate) fn breaks_off(&mut self, stack: &[i64])
         ensures { self.new ≡ self.old }
     {

@@ -1,4 +1,5 @@
--- The rule over the word and all pens' views, and what a step does to the view of the pen that takes it.
+-- The rule over the word and all pens' views, and what a step does to the view of the pen that
+-- takes it.
 use Rattle.std.specs.Prelude.{◌≡◌, ℕ, ◌+◌, ◌-◌, ◌*◌, ◌^◌, ◌≤◌, List, [], ◌∷◌, ◌++◌, length, slice_index}
 use mathlib.Core.Option.{some}
 use lib.ListN.{get_elem?}
@@ -18,7 +19,8 @@ total f (v ∷ vs) = f v + total f vs
 abbrev pub IsWithin : List Hand → Type 0
 IsWithin views = (seat : ℕ) (v : Hand) → get_elem? views seat ≡ some v → length v.drawn ≤ v.parts * 2 ^ 32
 
--- the numbers in the views are 1 to the word's count, each in one view, once; there is a part for each pen
+-- the numbers in the views are 1 to the word's count, each in one view, once; there is a part for
+-- each pen
 pub record Drawn (pens : ℕ) (s : State (Unit {0}) Hand) : Type 0 where
   pub one_word : length s.words ≡ 1
   pub parts : total (λ v. v.parts) s.views ≡ pens

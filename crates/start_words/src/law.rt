@@ -5,13 +5,15 @@ ghost use Rattle.start_words.specs.Hands.{hand, Drawn, Draws, Comes, kept_of, de
 use atomic_table::{Join, Play, Split, TableRule};
 use std::collections::LinkedList;
 
-// What a pen knows: its parts of the right to draw, and the numbers that it drew. No value of it is made.
+// What a pen knows: its parts of the right to draw, and the numbers that it drew. No value of it is
+// made.
 pub(crate) struct Hand {
     pub parts: u64,
     pub drawn: LinkedList<u64>,
 }
 
-// The numbers in the pens' views are 1 to the word's count, each in one view, once. The key is the number of pens.
+// The numbers in the pens' views are 1 to the word's count, each in one view, once. The key is the
+// number of pens.
 pub(crate) struct Law;
 
 impl TableRule<(), Hand, usize> for Law {

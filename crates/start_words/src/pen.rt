@@ -16,16 +16,18 @@ const MOST_DRAWS: u64 = 1 << 32;
 pub struct PenSpent;
 
 impl PenSpent {
+    ghost use Rattle.ids.specs.declared.error_numbers.TheConstants.{PEN_SPENT};
+
     /// The number of the refusal, 90.
     pub fn number(self) -> u8
-        ensures { result ≡ 90 }
+        ensures { result ≡ PEN_SPENT }
     {
-        90
+        ids::error_numbers::PEN_SPENT
     }
 }
 
-/// The right of one thread to draw numbers from a table. It has no clone, and can go to another thread. Contracts see the
-/// table that it is of, and the numbers that it drew, the newest last.
+/// The right of one thread to draw numbers from a table. It has no clone, and can go to another
+/// thread. Contracts see the table that it is of, and the numbers that it drew, the newest last.
 #[derive(Drop)]
 pub struct Pen {
     pub(crate) seat: Seat<(), Hand>,
@@ -47,8 +49,9 @@ impl Model for Pen {
 }
 
 impl Pen {
-    /// A number that no pen of the table ever drew, by one step and without memory. The pen is used with the table that
-    /// it was made with. E90 where it has drawn 2^32 times, and then nothing changes.
+    /// A number that no pen of the table ever drew, by one step and without memory. The pen is used
+    /// with the table that it was made with. E90 where it has drawn 2^32 times, and then nothing
+    /// changes.
     pub fn draw(&mut self, table: &WordTable) -> Result<u64, PenSpent>
         requires { self.old.table ≡ table.now.table }
         ensures table { self.new.table ≡ self.old.table }

@@ -9,8 +9,8 @@ use std::marker::Model;
 
 type Words = Table<(), Hand, usize, Law, Global>;
 
-/// The word that pens draw numbers from. Threads share it by reference. Contracts see which table it is, and how many
-/// pens it has.
+/// The word that pens draw numbers from. Threads share it by reference. Contracts see which table
+/// it is, and how many pens it has.
 #[derive(Drop)]
 pub struct WordTable {
     pub(crate) table: Words,
@@ -45,8 +45,8 @@ impl WordTable {
         Ok((WordTable { table }, dealt))
     }
 
-    /// Ends the table, once all its pens are back: what they drew are the numbers 1 to the answer, each once and none left
-    /// out. Takes no memory.
+    /// Ends the table, once all its pens are back: what they drew are the numbers 1 to the answer,
+    /// each once and none left out. Takes no memory.
     pub fn close(self, mut pens: Vec<Pen>) -> u64
         requires whole { vec_len pens ≡ self.pens }
         requires own { All (IsPenOf self) pens.items }

@@ -30,7 +30,8 @@ by_order Less below same above = below
 by_order Equal below same above = same
 by_order Greater below same above = above
 
--- by the last answer to a thief: whether a request is older than the one that it answers, the same again, or newer
+-- by the last answer to a thief: whether a request is older than the one that it answers, the same
+-- again, or newer
 abbrev pub by_reply : {B : Type 0} → Option Reply → ℕ → (older : B) → (again : PacketOf → B) → (newer : B) → B
 by_reply None seq older again newer = newer
 by_reply (Some reply) seq older again newer = by_order (nat_cmp seq reply.seq) older (again reply.packet) newer

@@ -17,7 +17,8 @@ abbrev pub is_pending : ℕ → Option Request → Bool
 is_pending seq None = false
 is_pending seq (Some q) = nat_eq q.seq seq
 
--- whether a grant answers the pending request: it has its count, and was minted by the victim that was asked
+-- whether a grant answers the pending request: it has its count, and was minted by the victim that
+-- was asked
 abbrev pub is_answered_by : ℕ → Grant → Option Request → Bool
 is_answered_by seq g None = false
 is_answered_by seq g (Some q) = nat_eq q.seq seq && nat_eq q.victim g.minter
@@ -33,7 +34,8 @@ asked victim a =
     else if nat_lt (a.asked + 1) (2 ^ 64) then Ok (next_request victim a)
     else Err Spent
 
--- what was answered is what was to be answered: with a request it is pending and counted, and a refusal changes nothing
+-- what was answered is what was to be answered: with a request it is pending and counted, and a
+-- refusal changes nothing
 abbrev pub IsAsked : Result Request AskError → AskerOf → AskerOf → Result Request AskError → Type 0
 IsAsked expected old new (Ok q) = (expected ≡ Ok q) × (new ≡ record { pending = Some q; asked = q.seq })
 IsAsked expected old new (Err e) = (expected ≡ Err e) × (new ≡ old)

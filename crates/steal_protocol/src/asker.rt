@@ -5,7 +5,8 @@ use ids::{Actor, Count, GrantId, Status};
 use std::marker::Model;
 use thiserror::Error;
 
-/// A request that waits for its answer: whom it went to, and how many requests the thief had made with it.
+/// A request that waits for its answer: whom it went to, and how many requests the thief had made
+/// with it.
 #[derive(Clone, Copy, PartialEq, Eq, Debug)]
 pub struct Request {
     pub victim: Actor,
@@ -30,8 +31,8 @@ impl AskError {
         ensures { result ≡ number_of_error self }
     {
         match self {
-            AskError::Busy => 61,
-            AskError::Spent => 62,
+            AskError::Busy => ids::error_numbers::BUSY,
+            AskError::Spent => ids::error_numbers::SPENT,
         }
     }
 }
@@ -76,8 +77,8 @@ impl Asker {
         self.asked
     }
 
-    /// Makes the next request, to a victim: E61 where one waits for its answer, E62 where 2^64 - 1 were made. A refusal
-    /// changes nothing.
+    /// Makes the next request, to a victim: E61 where one waits for its answer, E62 where 2^64 - 1
+    /// were made. A refusal changes nothing.
     pub fn ask(&mut self, victim: Actor) -> Result<Request, AskError>
         ensures { IsAsked (asked victim self.old) self.old self.new result }
     {

@@ -24,8 +24,8 @@ impl Named for Reply {
     }
 }
 
-/// What a request is to a victim: older than the last one of its thief, the same again, with the packet that answered it,
-/// or newer.
+/// What a request is to a victim: older than the last one of its thief, the same again, with the
+/// packet that answered it, or newer.
 #[derive(Clone, Copy)]
 pub enum Heard<'a> {
     Older,
@@ -79,7 +79,8 @@ impl Replies {
         self.replies.values()
     }
 
-    /// Whether a request of a thief is older than its last one, the same again, or newer. Takes no memory.
+    /// Whether a request of a thief is older than its last one, the same again, or newer. Takes no
+    /// memory.
     #[tactic(auto, unfolding(crate::specs::Replies::by_order))]
     pub fn hear(&self, thief: Incarnation, seq: Count) -> Heard<'_>
         ensures { told result ≡ heard (reply_in thief self.now) seq }
@@ -94,7 +95,8 @@ impl Replies {
         }
     }
 
-    /// Keeps an answer in the place of the last one to its thief; refused only when out of memory, which changes nothing.
+    /// Keeps an answer in the place of the last one to its thief; refused only when out of memory,
+    /// which changes nothing.
     pub fn keep(&mut self, reply: Reply) -> Result<(), AllocError>
         ensures ok { OnOk result (self.new ≡ put_reply reply self.old) }
         ensures err { OnErr result (self.new ≡ self.old) }

@@ -1,4 +1,5 @@
--- A turn where values of kids are known already: their slots are given these values, and they have no kid.
+-- A turn where values of kids are known already: their slots are given these values, and they have
+-- no kid.
 use Rattle.std.specs.Prelude.{ℕ, ℤ, List, ◌∷◌, map, Option, None, Some}
 use Rattle.kind_check.specs.declared.turn.Kid.{Kid}
 use Rattle.kind_check.specs.declared.turn.Slot.{Slot}

@@ -18,10 +18,11 @@ use body_eval::{Done, Turn};
 use ids::{Frame, FrameNo};
 use std::alloc::{AllocError, Global};
 
-/// Carries out the frame `number` by a turn that was evaluated. Where the turn sends a value, this fills the slot that awaits
-/// it, or is the outcome of the whole. Where it joins, its successor stands in its place with the kids of its holes, numbered
-/// from the content's next number on; at a place of 1,024 steps the whole is too deep. Refused as `Stale` (E40) where no
-/// frame has that number or the turn is none of it, as `Spent` (E62) where the number that is next after the join
+/// Carries out the frame `number` by a turn that was evaluated. Where the turn sends a value, this
+/// fills the slot that awaits it, or is the outcome of the whole. Where it joins, its successor
+/// stands in its place with the kids of its holes, numbered from the content's next number on; at a
+/// place of 1,024 steps the whole is too deep. Refused as `Stale` (E40) where no frame has that
+/// number or the turn is none of it, as `Spent` (E62) where the number that is next after the join
 /// would pass 2^32 - 1, and as `Memory` (E9) where there is no memory.
 pub fn exec(
     alloc: Global,
@@ -37,8 +38,9 @@ pub fn exec(
     Ok(carried_out(alloc, content, prepared)?)
 }
 
-/// Prepares what `exec` does, with what memory it takes, and changes nothing; but a kid whose value is known isn't made, and the slot
-/// that awaits it is given the value. It is refused where `exec` is.
+/// Prepares what `exec` does, with what memory it takes, and changes nothing; but a kid whose value
+/// is known isn't made, and the slot that awaits it is given the value. It is refused where `exec`
+/// is.
 pub fn prepare_exec<K: Knows>(
     alloc: Global,
     content: &Content,
@@ -122,7 +124,8 @@ fn law_next_is_a_number(content: &Content)
     let _ = content.next.number();
 }
 
-/// A turn that was evaluated has at most 8 slots, and holes 1 to 8, since its program was accepted. Does nothing.
+/// A turn that was evaluated has at most 8 slots, and holes 1 to 8, since its program was accepted.
+/// Does nothing.
 pub fn law_turn_is_few(done: &Done)
     ensures { TurnFew done.now.turn }
 {

@@ -53,8 +53,8 @@ impl Knows for NothingKnown {
     }
 }
 
-/// Prepares that a frame joins, once it left, as `prepare_join` does; but a kid whose value is known isn't made, and its slot is given the
-/// value. Where nothing is known no slot is copied.
+/// Prepares that a frame joins, once it left, as `prepare_join` does; but a kid whose value is
+/// known isn't made, and its slot is given the value. Where nothing is known no slot is copied.
 pub(crate) fn prepare_known_join<K: Knows>(
     alloc: Global,
     content: &Content,

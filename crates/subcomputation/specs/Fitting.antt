@@ -29,8 +29,8 @@ frame_fits p f = is_arity (arity_of p f.thread) (length f.slots)
 abbrev pub record_fits : Program → Record → Bool
 record_fits p r = task_fits p r.task
 
--- what a content holds fits a program: its own task has a thread that is there, and as many numbers as it takes, and so have
--- each frame, with its slots, and each record's task
+-- what a content holds fits a program: its own task has a thread that is there, and as many numbers
+-- as it takes, and so have each frame, with its slots, and each record's task
 pub record Fits (p : Program) (c : Content) : Type 0 where
   pub task : IsTrue (task_fits p c.task)
   pub frames : AllByRecursion (λ f. IsTrue (frame_fits p f)) c.frames
@@ -60,11 +60,13 @@ occurs_once same xs x = nat_eq (length (filter (same x) xs)) 1
 abbrev pub same_once : {A : Type 0} → (A → A → Bool) → List A → List A → Bool
 same_once same xs ys = list_all (occurs_once same ys) xs && list_all (occurs_once same xs) ys
 
--- all numbers of frames and records differ, each value that is awaited is owed once, and nothing else is owed
+-- all numbers of frames and records differ, each value that is awaited is owed once, and nothing
+-- else is owed
 abbrev pub is_linked : Content → Bool
 is_linked c = same_once nat_eq (numbers_of c) (numbers_of c) && same_once same_return (awaited_in c.frames) (owed_by c)
 
--- a record that comes to node i: its grant wasn't minted there, and no subcomputation there has a record of it
+-- a record that comes to node i: its grant wasn't minted there, and no subcomputation there has a
+-- record of it
 abbrev pub is_foreign : ℕ → List SubOf → Record → Bool
 is_foreign i subs r = not (nat_eq r.grant.minter i) && not (is_some (host_in r.grant subs))
 

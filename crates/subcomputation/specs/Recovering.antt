@@ -1,6 +1,6 @@
--- What a newer roster does to subcomputations. One whose host is dead is dropped, and one whose host left waits for whoever
--- has that one's work; then a record whose holder is dead is closed and its frame done again, and one whose holder left is
--- held by whoever has that one's work.
+-- What a newer roster does to subcomputations. One whose host is dead is dropped, and one whose
+-- host left waits for whoever has that one's work; then a record whose holder is dead is closed and
+-- its frame done again, and one whose holder left is held by whoever has that one's work.
 use Rattle.std.specs.Prelude.{ℕ, List, [], ◌∷◌, ◌++◌, Option, None, Some, map}
 use Rattle.std.specs.List.{flat_map}
 use Rattle.ids.specs.Members.{resolve}
@@ -14,8 +14,8 @@ use Rattle.sub_rules.specs.Changes.{redone, with_parent, with_thief, frame_of, r
 use Rattle.subcomputation.specs.Subs.{SubOf, sub_in, put_sub, without_sub, with_content, host_in}
 use Rattle.subcomputation.specs.declared.sub.ReadiedOf.{ReadiedOf}
 
--- what a recovery leads to: the subcomputations after it, the records whose holders are told to stop, in the order of their
--- Aborts, and the frames that are ready again, in their order
+-- what a recovery leads to: the subcomputations after it, the records whose holders are told to
+-- stop, in the order of their Aborts, and the frames that are ready again, in their order
 pub record Recovery : Type 0 where
   pub subs : List SubOf
   pub stopped : List Record
@@ -48,7 +48,8 @@ sub_settled s (Some host) subs = settled (put_sub (with_content s (with_parent h
 abbrev pub settle_sub : List Member → Grant → List SubOf → Recovery
 settle_sub members g subs = for_some (sub_in g subs) (λ s. sub_settled s (resolve members s.content.parent)) subs
 
--- a record is closed and its frame ready again where nobody has its holder's work, else whoever has it holds it
+-- a record is closed and its frame ready again where nobody has its holder's work, else whoever has
+-- it holds it
 abbrev pub record_settled : SubOf → Record → Option ℕ → List SubOf → Recovery
 record_settled s r None subs = record {
   subs = put_sub (with_content s (redone r s.content)) subs;
@@ -75,8 +76,8 @@ record_grants (Some s) = map (λ r. r.grant) s.content.records
 abbrev pub their_records : List Grant → List SubOf → List Grant
 their_records grants subs = ordered (flat_map (λ g. record_grants (sub_in g subs)) grants)
 
--- recovery of the subcomputations of these grants by a roster: each of them first, then each record that those left have, by
--- rising grant over all of them
+-- recovery of the subcomputations of these grants by a roster: each of them first, then each record
+-- that those left have, by rising grant over all of them
 abbrev pub recovered : List Member → List Grant → List SubOf → Recovery
 recovered members grants subs =
     for_each (settle_sub members) grants subs then λ left.

@@ -18,8 +18,8 @@ pub record IsBegun (c : Content) : Type 0 where
   pub sound : IsSound c
   pub begun : 0 < c.next
 
--- a subcomputation: the grant under which its task came, how often it had moved when it came here, its content, and the values that came
--- with its task
+-- a subcomputation: the grant under which its task came, how often it had moved when it came here,
+-- its content, and the values that came with its task
 pub record SubOf : Type 0 where
   pub grant : Grant
   pub hop : ℕ

@@ -19,8 +19,9 @@ use Rattle.sub_rules.specs.declared.updates.Update.{Update}
 use Rattle.sub_rules.specs.Updates.{change_by, opened_in, updated, MayUpdate}
 use Rattle.subcomputation.specs.Subs.{IsBegun, SubOf, with_content}
 
--- what a change leads to: the subcomputation after it, the value that it put into a slot, the frames that became ready, in the
--- order in which they are posted, and the records that were dropped, whose holders are told so
+-- what a change leads to: the subcomputation after it, the value that it put into a slot, the
+-- frames that became ready, in the order in which they are posted, and the records that were
+-- dropped, whose holders are told so
 pub record SubChange : Type 0 where
   pub after : SubOf
   pub fill : Option Filling

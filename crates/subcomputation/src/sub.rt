@@ -29,9 +29,10 @@ use std::marker::Model;
 use sub_rules::{Content, Knows, Opening, Prepared, Readied, SubError, Update};
 use victim_records::Records;
 
-/// A subcomputation: the grant under which its task came, how often it had moved when it came here, its content, in which each number is
-/// used once, the first number is given, and each value that is awaited has one debtor; and the values of kids that came with its task.
-/// Contracts see these four.
+/// A subcomputation: the grant under which its task came, how often it had moved when it came here,
+/// its content, in which each number is used once, the first number is given, and each value that
+/// is awaited has one debtor; and the values of kids that came with its task. Contracts see these
+/// four.
 #[derive(Drop)]
 pub struct Sub {
     grant: GrantId,
@@ -110,8 +111,8 @@ pub struct SubRedo {
 }
 
 impl Sub {
-    /// The subcomputation that a granted task begins: one frame, number 0, for the host that granted it, with the values that came with
-    /// the task; refused only when out of memory.
+    /// The subcomputation that a granted task begins: one frame, number 0, for the host that
+    /// granted it, with the values that came with the task; refused only when out of memory.
     pub fn granted(
         alloc: Global,
         grant: GrantId,
@@ -130,7 +131,8 @@ impl Sub {
         })
     }
 
-    /// The subcomputation of a grant that has moved so often, with a content that came with it. No values come so.
+    /// The subcomputation of a grant that has moved so often, with a content that came with it. No
+    /// values come so.
     pub fn of(alloc: Global, grant: GrantId, hop: Hop, content: Content) -> Sub
         requires sound { IsSound content }
         requires begun { 0 < content.next }
@@ -189,9 +191,10 @@ impl Sub {
         }
     }
 
-    /// Prepares that the frame `number` is carried out by a turn that was evaluated; a kid whose value came with the task isn't made, and
-    /// the slot that awaits it is given the value. E40 exactly where the frame isn't ready with that thread and those numbers, E62
-    /// where the number that is next after a join would pass 2^32 - 1, E9 where there is no memory.
+    /// Prepares that the frame `number` is carried out by a turn that was evaluated; a kid whose
+    /// value came with the task isn't made, and the slot that awaits it is given the value. E40
+    /// exactly where the frame isn't ready with that thread and those numbers, E62 where the number
+    /// that is next after a join would pass 2^32 - 1, E9 where there is no memory.
     pub fn prepare_exec(
         &self,
         alloc: Global,
@@ -250,8 +253,9 @@ impl Sub {
         Ok(prepared)
     }
 
-    /// Prepares that the outcome of a grant comes: its record is closed, a value goes where it is awaited, and too deep is the
-    /// outcome of the whole. None where there is no record of the grant; refused only when out of memory.
+    /// Prepares that the outcome of a grant comes: its record is closed, a value goes where it is
+    /// awaited, and too deep is the outcome of the whole. None where there is no record of the
+    /// grant; refused only when out of memory.
     pub fn prepare_result(
         &self,
         alloc: Global,
@@ -277,7 +281,8 @@ impl Sub {
         }
     }
 
-    /// Makes a change that was prepared of this subcomputation; refused only when out of memory, which changes nothing.
+    /// Makes a change that was prepared of this subcomputation; refused only when out of memory,
+    /// which changes nothing.
     pub fn update(&mut self, alloc: Global, update: Update) -> Result<(), AllocError>
         requires may { MayUpdate update self.old.content }
         requires begun { IsBegun (updated update self.old.content) }
@@ -288,8 +293,9 @@ impl Sub {
         Ok(())
     }
 
-    /// Prepares that a ready frame is given away under a grant that no record has: the record that is to stand in the frame's place,
-    /// and the task that the thief gets. None where no frame is ready under that number; refused only when out of memory.
+    /// Prepares that a ready frame is given away under a grant that no record has: the record that
+    /// is to stand in the frame's place, and the task that the thief gets. None where no frame is
+    /// ready under that number; refused only when out of memory.
     pub fn prepare_grant_out(
         &self,
         alloc: Global,
@@ -318,8 +324,8 @@ impl Sub {
         }
     }
 
-    /// Gives away the frame of a record that was prepared of this subcomputation: the record stands in the frame's place. Refused
-    /// only when out of memory, which changes nothing.
+    /// Gives away the frame of a record that was prepared of this subcomputation: the record stands
+    /// in the frame's place. Refused only when out of memory, which changes nothing.
     pub fn open(&mut self, opened: Record) -> Result<(), AllocError>
         requires { IsBegun (opened_in opened self.old.content) }
         ensures ok { OnOk result (self.new ≡ opened_sub opened self.old) }
@@ -329,8 +335,9 @@ impl Sub {
         Ok(())
     }
 
-    /// Closes a record without an outcome, beside this subcomputation: its frame is ready again, under its old number. None
-    /// where there is no record of the grant; refused only when out of memory.
+    /// Closes a record without an outcome, beside this subcomputation: its frame is ready again,
+    /// under its old number. None where there is no record of the grant; refused only when out of
+    /// memory.
     pub fn redo(&self, alloc: Global, grant: GrantId) -> Result<Option<SubRedo>, AllocError>
         ensures again { IfOk result (λ o. o ≡ again_by self.now
             (done_again self.now.content (record_in grant self.now.content.records))) }

@@ -46,7 +46,8 @@ mutual
   data Scan : (parens level : ℕ) → (from to : List Token) → Expr → Type 0 where
     scan : {parens level : ℕ} {from m to : List Token} {a e : Expr} → Operand parens from m a → Climb parens level 8 m to a e → Scan parens level from to e
 
-  -- behind the tree a, the operators of levels from `loosest` to `tightest`: they make it the tree e
+  -- behind the tree a, the operators of levels from `loosest` to `tightest`: they make it the tree
+  -- e
   data Climb : (parens loosest tightest : ℕ) → (from to : List Token) → (a e : Expr) → Type 0 where
     stop : {parens loosest tightest : ℕ} {to : List Token} {e : Expr} → LacksInfix loosest tightest to → Climb parens loosest tightest to to e e
     on :
@@ -93,7 +94,8 @@ mutual
       let r = one_scan s u (ap (λ (x : Operator). level_of x + 1) v) w.rests in
       one_climb c d l (ap level_of v) r.rests (v, h, r.equal)
 
--- where what was read ends an operand of operators up to `top`: what the climb goes on to is scanned from the start
+-- where what was read ends an operand of operators up to `top`: what the climb goes on to is
+-- scanned from the start
 record Climbs (parens level : ℕ) (from to : List Token) (a : Expr) : Type 0 where
   top : ℕ
   above : level ≤ top

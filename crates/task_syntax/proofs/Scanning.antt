@@ -1,4 +1,5 @@
--- Expressions have one reading or one refusal: a reader without trees, whose answer is the only one.
+-- Expressions have one reading or one refusal: a reader without trees, whose answer is the only
+-- one.
 use Rattle.std.proofs.Common.{◌≡◌, ℕ, ◌+◌, ◌<◌, ◌≤◌, max, List, [], ◌∷◌, Some, None, refl, ap, sym, ◌∙◌, arith}
 use Rattle.task_tokens.specs.declared.kinds.Sign.TheVariants as sign
 use Rattle.task_tokens.specs.declared.kinds.Operator.{Operator}
@@ -165,7 +166,8 @@ mutual
       let v = same_operator w.kinds in
       same_climb b d p l (ap level_of v) (same_joined h k w.places s.heights (same_scan f j p (ap (λ (x : Operator). level_of x + 1) v) w.rests))
 
--- where what was read ends an operand of operators up to `top`: what the climb goes on to is scanned from the start
+-- where what was read ends an operand of operators up to `top`: what the climb goes on to is
+-- scanned from the start
 pub record Climbs (parens level : ℕ) (from to : List Token) (h : ℕ) : Type 0 where
   pub top : ℕ
   pub above : level ≤ top

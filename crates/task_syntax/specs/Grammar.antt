@@ -65,8 +65,8 @@ height_of (Number n) = 1
 height_of (Variable x) = 1
 height_of (Binary' op p a q b) = 1 + max (height_of a) (height_of b)
 
--- An expression with no operator looser than `level` outside parentheses, and at most `parens` parentheses inside each
--- other.
+-- An expression with no operator looser than `level` outside parentheses, and at most `parens`
+-- parentheses inside each other.
 pub data ReadsExpr : (parens level : ℕ) → (from to : List Token) → Expr → Type 0 where
   number : {parens level : ℕ} {from to : List Token} {n : ℤ} → Begins (kind.Numeral n) from to → ReadsExpr parens level from to (Number n)
   variable : {parens level : ℕ} {from to : List Token} {x : Name} → IsName from to x → ReadsExpr parens level from to (Variable x)
@@ -130,7 +130,8 @@ pub record IsProgram (from : List Token) (p : Program) : Type 0 where
   pub threads : Many IsThread from ends p.threads
   pub end : BeginsAt kind.End p.length ends []
 
--- the text is the program: at most 65,536 bytes of ASCII, whose tokens are a sentence of the grammar
+-- the text is the program: at most 65,536 bytes of ASCII, whose tokens are a sentence of the
+-- grammar
 pub record ReadsAsProgram (text : List ℕ) (p : Program) : Type 0 where
   pub short : length text ≤ 65536
   pub ascii : All (λ b. b < 128) text

@@ -29,7 +29,8 @@ pub data MeetsExpr : (parens level : ℕ) → (from : List Token) → ParseError
   -- an operator whose tree is too high, once its right side was read
   too_high : {parens level at : ℕ} {from m n to : List Token} {op : Operator} {a b : Expr} → level ≤ level_of op → ReadsExpr parens (level_of op) from m a → BeginsAt (kind.Infix op) at m n → ReadsExpr parens (level_of op + 1) n to b → Stops (level_of op + 1) to → 64 < 1 + max (height_of a) (height_of b) → MeetsExpr parens level from (TooDeepNest at)
 
--- A part of the grammar: what tokens it is, and what refusal is met first where it is wanted and isn't there.
+-- A part of the grammar: what tokens it is, and what refusal is met first where it is wanted and
+-- isn't there.
 pub record Part : Type 1 where
   pub reads : (from to : List Token) → Type 0
   pub meets : (from : List Token) → ParseError → Type 0
@@ -170,7 +171,8 @@ threads_part = each (Stands (kind.Keyword word.Thread)) thread_part
 abbrev pub program_part : Part
 program_part = threads_part ▸ last_part
 
--- Reading a text meets this refusal first: a text too long before a byte over 7F, and this before all else.
+-- Reading a text meets this refusal first: a text too long before a byte over 7F, and this before
+-- all else.
 pub data MeetsText (text : List ℕ) : ParseError → Type 0 where
   too_long : 65536 < length text → MeetsText text (TooLong 65536)
   not_ascii : {at : ℕ} → length text ≤ 65536 → at < length text → All (λ b. b < 128) (take at text) → 128 ≤ slice_index text at → MeetsText text (NotAscii at)

@@ -15,8 +15,8 @@ abbrev pub text_of : Option PrintError → List ℕ → Text
 text_of None text = Ok text
 text_of (Some e) text = Err e
 
--- These bytes were written behind what stood before. They are refused as too long only where the text would be over
--- 65,536 bytes, and nothing is written behind a refusal.
+-- These bytes were written behind what stood before. They are refused as too long only where the
+-- text would be over 65,536 bytes, and nothing is written behind a refusal.
 abbrev pub Adds : (before after : Text) → (bytes : List ℕ) → Type 0
 Adds (Ok text) (Ok more) bytes = more ≡ text ++ bytes
 Adds (Ok text) (Err TooLong) bytes = 65536 < length (text ++ bytes)

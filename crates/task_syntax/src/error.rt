@@ -10,11 +10,12 @@ pub enum ParseError {
     /// E2: a token or byte that can't stand there; the text's length at its end.
     #[error("E{number} at {0}", number = self.number())]
     Unexpected(u32),
-    /// E3: a text of more than 65,536 bytes, at 65,536; or a name of more than 31 bytes, at its start.
+    /// E3: a text of more than 65,536 bytes, at 65,536; or a name of more than 31 bytes, at its
+    /// start.
     #[error("E{number} at {0}", number = self.number())]
     TooLong(u32),
-    /// E4: an open parenthesis inside 64 others of its expression; the `{` of a block 65 deep; an operator whose tree is
-    /// over 64 levels, met once its right operand was read.
+    /// E4: an open parenthesis inside 64 others of its expression; the `{` of a block 65 deep; an
+    /// operator whose tree is over 64 levels, met once its right operand was read.
     #[error("E{number} at {0}", number = self.number())]
     TooDeepNest(u32),
     /// E5: a number over 9223372036854775807.
@@ -52,12 +53,12 @@ impl ParseError {
         ensures { result ≡ number_of_error self.now }
     {
         match self {
-            ParseError::Unexpected(_) => 2,
-            ParseError::TooLong(_) => 3,
-            ParseError::TooDeepNest(_) => 4,
-            ParseError::NumberRange(_) => 5,
-            ParseError::NotAscii(_) => 6,
-            ParseError::Memory => 9,
+            ParseError::Unexpected(_) => ids::error_numbers::UNEXPECTED,
+            ParseError::TooLong(_) => ids::error_numbers::TOO_LONG,
+            ParseError::TooDeepNest(_) => ids::error_numbers::TOO_DEEP_NEST,
+            ParseError::NumberRange(_) => ids::error_numbers::NUMBER_RANGE,
+            ParseError::NotAscii(_) => ids::error_numbers::NOT_ASCII,
+            ParseError::Memory => ids::error_numbers::MEMORY,
         }
     }
 }
@@ -81,8 +82,8 @@ impl PrintError {
         ensures { result ≡ number_of_print_error self.now }
     {
         match self {
-            PrintError::TooLong => 3,
-            PrintError::Memory => 9,
+            PrintError::TooLong => ids::error_numbers::TOO_LONG,
+            PrintError::Memory => ids::error_numbers::MEMORY,
         }
     }
 }

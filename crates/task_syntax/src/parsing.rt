@@ -14,8 +14,8 @@ use task_tree::Program;
 /// The longest text, in bytes.
 pub const LONGEST_TEXT: usize = 65536;
 
-/// Reads a program's text. A text over 65,536 bytes is refused first, then a byte over 7F, then the first fault that a
-/// reader from left to right meets.
+/// Reads a program's text. A text over 65,536 bytes is refused first, then a byte over 7F, then the
+/// first fault that a reader from left to right meets.
 pub fn parse(alloc: Global, text: &[u8]) -> Result<Program, ParseError>
     ensures reading { IfOk result (λ p. ReadsAsProgram text.now p) }
     ensures refused { IfErr result (λ e. e ≢ ParseError.Memory → MeetsText text.now e) }
@@ -38,8 +38,9 @@ fn beyond_ascii(text: &[u8]) -> Option<usize>
     text.iter().position(|b| *b >= 128)
 }
 
-/// That the answer of `parse` is the only one, unless memory runs out: a text reads as at most one program, aside from
-/// where its parts lie in memory; a text meets at most one refusal; a text that is read meets none. Does nothing.
+/// That the answer of `parse` is the only one, unless memory runs out: a text reads as at most one
+/// program, aside from where its parts lie in memory; a text meets at most one refusal; a text that
+/// is read meets none. Does nothing.
 pub fn answers_are_exact()
     ensures one_refusal { (text : List ℕ) (e f : ParseError) → MeetsText text e → MeetsText text f → e ≡ f }
     ensures not_both { (text : List ℕ) (p : Program) (e : ParseError) → ReadsAsProgram text p → MeetsText text e → ⊥ }

@@ -14,11 +14,12 @@ use std::marker::Model;
 use task_tokens::{Operator, Sign, Word};
 use task_tree::{Argument, Block, End, Expr, Given, Let, Name, Program, Thread, Use};
 
-/// A program's text in one form: each thread on a line that ends with LF, one blank between any two tokens, in
-/// parentheses each operand that is itself an operation and nothing else, numbers in decimal without leading zeros. An
-/// empty program is the empty text. `TooLong` comes exactly where that text is over 65,536 bytes, LFs among them, and
-/// memory suffices; `Memory` only when out of memory. What no text has, as a number below 0, is written as it stands.
-/// A program that was read is printed as a text that is read as the same program but for offsets.
+/// A program's text in one form: each thread on a line that ends with LF, one blank between any two
+/// tokens, in parentheses each operand that is itself an operation and nothing else, numbers in
+/// decimal without leading zeros. An empty program is the empty text. `TooLong` comes exactly where
+/// that text is over 65,536 bytes, LFs among them, and memory suffices; `Memory` only when out of
+/// memory. What no text has, as a number below 0, is written as it stands. A program that was read
+/// is printed as a text that is read as the same program but for offsets.
 pub fn print(alloc: Global, program: &Program) -> Result<Vec<u8>, PrintError>
     ensures written { IfOk result (λ v. v.items ≡ printed program.now) }
     ensures short { IfOk result (λ v. length v.items ≤ 65536) }
@@ -30,13 +31,14 @@ pub fn print(alloc: Global, program: &Program) -> Result<Vec<u8>, PrintError>
     out.finish()
 }
 
-/// Programs that are the same but for where their parts lie in memory are printed alike. Does nothing.
+/// Programs that are the same but for where their parts lie in memory are printed alike. Does
+/// nothing.
 pub fn equal_programs_print_alike()
     ensures { (p q : Program) → EqualProgram p q → printed p ≡ printed q }
 {}
 
-/// Printed text, of at most `LONGEST_TEXT` bytes. Once it would be longer, or there is no memory, nothing more is
-/// written. Contracts see its bytes, or why there are none.
+/// Printed text, of at most `LONGEST_TEXT` bytes. Once it would be longer, or there is no memory,
+/// nothing more is written. Contracts see its bytes, or why there are none.
 #[derive(Drop)]
 struct Output {
     alloc: Global,

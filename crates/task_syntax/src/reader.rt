@@ -1,4 +1,5 @@
-//! The reader: a recursive descent over the tokens of a text. Each function answers what it read and the tokens behind.
+//! The reader: a recursive descent over the tokens of a text. Each function answers what it read
+//! and the tokens behind.
 
 mod blocks;
 mod expressions;

@@ -80,7 +80,8 @@ one_byte b =
     else if nat_eq b 61 then Mark sign.Assign
     else Unknown
 
--- what stands at the front of a text: a token, or none for what separates tokens, and how many bytes it takes
+-- what stands at the front of a text: a token, or none for what separates tokens, and how many
+-- bytes it takes
 pub record Front : Type 0 where
   pub token : Option TokenKind
   pub size : ℕ
@@ -108,8 +109,8 @@ abbrev pub with_token : ℕ → Option TokenKind → List Token → List Token
 with_token at None rest = rest
 with_token at (Some kind) rest = record { kind = kind; offset = at } ∷ rest
 
--- The tokens of a text that stands at the offset `at`, and whose first `inside` bytes belong to what came before. A
--- last token stands at the end.
+-- The tokens of a text that stands at the offset `at`, and whose first `inside` bytes belong to
+-- what came before. A last token stands at the end.
 abbrev pub tokens : (at inside : ℕ) → List ℕ → List Token
 tokens at inside [] = record { kind = End; offset = at } ∷ []
 tokens at (suc inside) (b ∷ bs) = tokens (suc at) inside bs

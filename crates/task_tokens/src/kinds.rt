@@ -28,8 +28,8 @@ pub enum Sign {
     Assign,
 }
 
-/// An operator on two signed 64-bit numbers, written `|`, `^`, `&`, `==`, `!=`, `<`, `<=`, `<<`, `>>`, `+`, `-`, `*`,
-/// `/`, `%`.
+/// An operator on two signed 64-bit numbers, written `|`, `^`, `&`, `==`, `!=`, `<`, `<=`, `<<`,
+/// `>>`, `+`, `-`, `*`, `/`, `%`.
 #[derive(Clone, Copy, PartialEq, Eq, Debug)]
 pub enum Operator {
     Or,
@@ -48,7 +48,8 @@ pub enum Operator {
     Remainder,
 }
 
-/// What a token is. What no token of a program can be has a kind too, so that it is refused where a reader comes to it.
+/// What a token is. What no token of a program can be has a kind too, so that it is refused where a
+/// reader comes to it.
 #[derive(Drop)]
 pub enum TokenKind {
     /// A name of at most 31 bytes.

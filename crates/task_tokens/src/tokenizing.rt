@@ -6,8 +6,9 @@ use crate::kinds::{Token, TokenKind};
 use ids::Listed;
 use std::alloc::{AllocError, Global};
 
-/// The tokens of a text, each the longest, with a last one at the text's end. Blanks and comments separate tokens and
-/// are none. Refused only when out of memory: what no program can hold has a kind too.
+/// The tokens of a text, each the longest, with a last one at the text's end. Blanks and comments
+/// separate tokens and are none. Refused only when out of memory: what no program can hold has a
+/// kind too.
 pub fn tokenize(alloc: Global, text: &[u8]) -> Result<Listed<Token>, AllocError>
     requires { length text.now < 2 ^ 32 }
     ensures { IfOk result (λ ts. ts ≡ tokens 0 0 text.now) }

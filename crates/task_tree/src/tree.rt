@@ -32,7 +32,8 @@ pub enum Argument {
     Hole(Name),
 }
 
-/// What a hole gets: a number that is sent to it, or the value of a spawned thread (its name and its arguments).
+/// What a hole gets: a number that is sent to it, or the value of a spawned thread (its name and
+/// its arguments).
 #[derive(Drop)]
 pub enum Given {
     Sent(Expr),
@@ -76,7 +77,8 @@ pub struct Thread {
     pub body: Block,
 }
 
-/// A program: its threads, numbered from 0 in the order of the text, and the text's length in bytes.
+/// A program: its threads, numbered from 0 in the order of the text, and the text's length in
+/// bytes.
 #[derive(Drop)]
 pub struct Program {
     pub threads: Listed<Thread>,

@@ -1,4 +1,5 @@
--- What the lines of a trace say: which packets were sent, which one came, and the actor's other events, as lines of a script.
+-- What the lines of a trace say: which packets were sent, which one came, and the actor's other
+-- events, as lines of a script.
 use Rattle.std.specs.Prelude.{ℕ, List, [], ◌∷◌, Option, None, Some, Result, Ok, Err}
 use Rattle.event_script.specs.Scripts.{script}
 use Rattle.event_script.specs.Words.{lines}
@@ -34,7 +35,8 @@ with_told (Says l) None = None
 with_told (Says l) (Some ls) = Some (l ∷ ls)
 with_told Refused more = None
 
--- what lines say, but for the last one, which no line feed ends: of an actor that was killed it may be cut off
+-- what lines say, but for the last one, which no line feed ends: of an actor that was killed it may
+-- be cut off
 abbrev pub said_by : List (List ℕ) → Option (List TraceLine)
 said_by [] = Some []
 said_by (last ∷ []) = Some []

@@ -1,4 +1,5 @@
--- One order of what many actors did: each actor's lines, all of them and in their order, and each packet behind its sending.
+-- One order of what many actors did: each actor's lines, all of them and in their order, and each
+-- packet behind its sending.
 use Rattle.std.specs.Prelude.{◌≡◌, ◌≢◌, ℕ, Bool, true, List, [], ◌∷◌, ◌++◌, map, Option, None, Some, slice_get, slice_set}
 use Rattle.std.specs.List.{list_all}
 use Rattle.event_script.specs.Words.{none_left}
@@ -12,22 +13,26 @@ use Rattle.traces.specs.declared.line.TraceLine.TheVariants.{Sent, Took, Did}
 use Rattle.traces.specs.declared.seat.Seat.{Seat}
 use Rattle.traces.specs.declared.seat.Seat.TheVariants.{Place, House}
 
--- an actor: the lines of its trace that are left, and where it stands, once it has begun and until it ends
+-- an actor: the lines of its trace that are left, and where it stands, once it has begun and until
+-- it ends
 pub record ActorOf : Type 0 where
   pub lines : List TraceLine
   pub stands : Option Seat
 
--- what was merged so far: the events in one order, and the names of the packets that were sent; and the actors
+-- what was merged so far: the events in one order, and the names of the packets that were sent; and
+-- the actors
 pub record MergeOf : Type 0 where
   pub actors : List ActorOf
   pub events : List Event
   pub sent : List (List ℕ)
 
--- of the others nobody stands there who has a line left: who was there is gone, whether something tells so or not
+-- of the others nobody stands there who has a line left: who was there is gone, whether something
+-- tells so or not
 abbrev pub IsFree : Seat → ℕ → List ActorOf → Type 0
 IsFree seat a actors = (b : ℕ) (other : ActorOf) → b ≢ a → slice_get actors b ≡ Some other → other.stands ≡ Some seat → other.lines ≡ []
 
--- the delivery of the packet after so many others to who stands there, and that who stands there is gone
+-- the delivery of the packet after so many others to who stands there, and that who stands there is
+-- gone
 abbrev pub delivery : ℕ → Seat → Event
 delivery k (Place p) = AtNode p (node.Deliver k)
 delivery k House = AtHouse (house.Deliver k)
@@ -77,8 +82,8 @@ pub record Passes (moment : ℕ) (at then : Option Seat) (es : List Event) : Typ
   pub stays : then ≡ at
   pub is : es ≡ AtHouse (house.Tick moment) ∷ []
 
--- what a line of actor a comes to, that stands there: where it stands then, and the events. In a trace the place of an event tells nothing,
--- and a delivery is told by the packet's name alone
+-- what a line of actor a comes to, that stands there: where it stands then, and the events. In a
+-- trace the place of an event tells nothing, and a delivery is told by the packet's name alone
 abbrev pub Comes : MergeOf → ℕ → TraceLine → (at then : Option Seat) → List Event → Type 0
 Comes m a (Sent name) at then es = (then ≡ at) × (es ≡ [])
 Comes m a (Took name) at then es = Takes m name at then es

@@ -14,7 +14,8 @@ name_of packet = encode_lower (take 16 (sha256 packet))
 abbrev pub named : List ℕ → Option (List ℕ)
 named word = if nat_eq (length word) 32 && plain word then Some word else None
 
--- the name in a line that begins with these words: a number sign, `sent` or `take`, the name, and whatever stands behind it
+-- the name in a line that begins with these words: a number sign, `sent` or `take`, the name, and
+-- whatever stands behind it
 unfoldable pub name_behind : List ℕ → List (List ℕ) → Option (List ℕ)
 name_behind verb [] = None
 name_behind verb (a ∷ []) = None

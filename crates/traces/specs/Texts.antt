@@ -1,4 +1,5 @@
--- A merged script: its entries, which are events and the names of the packets that were sent, and its text.
+-- A merged script: its entries, which are events and the names of the packets that were sent, and
+-- its text.
 use Rattle.std.specs.Prelude.{◌≡◌, ◌<◌, ◌^◌, ℕ, true, Some, List, [], ◌∷◌, ◌++◌, flat_map, codes, slice_get}
 use Rattle.std.specs.Fmt.{decimal}
 use Rattle.std.specs.List.{AllByRecursion}

@@ -5,7 +5,8 @@ use crate::name::is_plain;
 use std::alloc::{AllocError, Global};
 use std::marker::Model;
 
-/// A word by which a trace is told, as its file's name: none of its bytes is a space, a control or beyond ASCII. Contracts see the bytes.
+/// A word by which a trace is told, as its file's name: none of its bytes is a space, a control or
+/// beyond ASCII. Contracts see the bytes.
 #[derive(Drop)]
 pub struct Label {
     bytes: Vec<u8>,
@@ -23,7 +24,8 @@ impl Model for Label {
 }
 
 impl Label {
-    /// The label of this name, in which a `?` stands for each byte that a label doesn't have. Refused only when out of memory.
+    /// The label of this name, in which a `?` stands for each byte that a label doesn't have.
+    /// Refused only when out of memory.
     pub fn of(alloc: Global, name: &str) -> Result<Label, AllocError> {
         let mut bytes = Vec::new(alloc);
         for b in name.as_bytes() {

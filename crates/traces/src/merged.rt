@@ -15,7 +15,8 @@ use std::alloc::{AllocError, Global};
 /// The first line of a script by which nodes have the places 0 to 63.
 const FIRST_LINE: &[u8] = b"# nodes 64\n";
 
-/// What stands in a merged script: an event, or the name of a packet that the event before it sent, by which trace, and in which line of it.
+/// What stands in a merged script: an event, or the name of a packet that the event before it sent,
+/// by which trace, and in which line of it.
 #[derive(Drop)]
 pub enum Entry {
     Event(Event),
@@ -29,9 +30,10 @@ pub struct Merged {
 }
 
 impl Merged {
-    /// The script: a first line by which nodes have 64 places, the line of each event, and a comment for each packet, `# sent NAME LABEL LINE`,
-    /// with the label of the trace that tells it, `-` where it has none, and the line. It is read as just these events, and these names are read
-    /// from it. Refused only when out of memory.
+    /// The script: a first line by which nodes have 64 places, the line of each event, and a
+    /// comment for each packet, `# sent NAME LABEL LINE`, with the label of the trace that tells
+    /// it, `-` where it has none, and the line. It is read as just these events, and these names
+    /// are read from it. Refused only when out of memory.
     pub fn script(&self, alloc: Global, labels: &[Label]) -> Result<Vec<u8>, AllocError>
         ensures events { IfOk result (λ t. script t.items ≡ Ok (events_of self.now.entries.items)) }
         ensures names { IfOk result (λ t. names_in t.items ≡ sent_of self.now.entries.items) }

@@ -14,8 +14,9 @@ use std::marker::Model;
 /// How many digits a name has.
 const DIGITS: usize = 32;
 
-/// The name of a packet: the first 128 bits of the SHA-256 of its bytes (FIPS 180-4), as 32 digits. Packets of the same bytes are the same to
-/// everybody, and have the same name. Contracts see the digits.
+/// The name of a packet: the first 128 bits of the SHA-256 of its bytes (FIPS 180-4), as 32 digits.
+/// Packets of the same bytes are the same to everybody, and have the same name. Contracts see the
+/// digits.
 #[derive(Clone, Copy, Debug)]
 pub struct PacketName {
     digits: [u8; DIGITS],
@@ -131,7 +132,8 @@ pub(crate) fn taken_name(line: &[u8]) -> Option<PacketName>
     name_behind_word(b"take", line)
 }
 
-/// The names of the packets that the lines of a text tell as sent, one after another. Refused only when out of memory.
+/// The names of the packets that the lines of a text tell as sent, one after another. Refused only
+/// when out of memory.
 pub fn names_in(alloc: Global, text: &[u8]) -> Result<Vec<PacketName>, AllocError>
     ensures { IfOk result (λ names. names.items ≡ names_in text.now) }
 {

@@ -40,11 +40,12 @@ pub enum Stuck {
 /// Why no order of traces is found.
 #[derive(Clone, Copy, Debug, PartialEq, Eq, Error)]
 pub enum MergeFault {
-    /// At a line of the trace that comes after so many others no order goes on: the line's number from 1, and why.
+    /// At a line of the trace that comes after so many others no order goes on: the line's number
+    /// from 1, and why.
     #[error("line {1}: {2}")]
     Line(usize, u64, Stuck),
     /// E9: there is no memory.
-    #[error("E9")]
+    #[error("E{number}", number = ids::error_numbers::MEMORY)]
     Memory,
 }
 
@@ -152,8 +153,8 @@ impl Coming {
     }
 }
 
-/// Traces that are being merged: the actors, what was merged, and the names of the packets that were sent, with, for each, the first packet
-/// that has it.
+/// Traces that are being merged: the actors, what was merged, and the names of the packets that
+/// were sent, with, for each, the first packet that has it.
 #[derive(Drop)]
 pub(crate) struct Merging {
     actors: Vec<Actor>,
@@ -466,7 +467,8 @@ impl Merging {
         self.actors.get_mut(a)?.go(then)
     }
 
-    /// Actor a goes on by its next line; whether it did. It doesn't where it has none left, or where others have to go on first.
+    /// Actor a goes on by its next line; whether it did. It doesn't where it has none left, or
+    /// where others have to go on first.
     fn step(&mut self, a: usize) -> Result<bool, MergeFault>
         requires { IsKept self.old }
         ensures moves { IfOk result (λ _. Leads (merge_of self.old) (merge_of self.new)) }
@@ -569,7 +571,8 @@ impl Merging {
         })
     }
 
-    /// The line that has no place: the first one that takes what nobody sends, or else the first that is left.
+    /// The line that has no place: the first one that takes what nobody sends, or else the first
+    /// that is left.
     fn stuck(&self) -> MergeFault {
         let mut first = None;
         for (a, actor) in self.actors.iter().enumerate() {
@@ -597,9 +600,11 @@ impl Merging {
     }
 }
 
-/// One order of traces: each actor's lines stand in it, all and in their order, and each packet that came behind its sending. Refused where
-/// none is found, by a line of a trace at which it doesn't go on: it takes a packet that nobody sent, or is none of an actor that stands where this one
-/// does, or more than 64 nodes would be up, or two clearinghouses open; and when out of memory (E9).
+/// One order of traces: each actor's lines stand in it, all and in their order, and each packet
+/// that came behind its sending. Refused where none is found, by a line of a trace at which it
+/// doesn't go on: it takes a packet that nobody sent, or is none of an actor that stands where this
+/// one does, or more than 64 nodes would be up, or two clearinghouses open; and when out of memory
+/// (E9).
 pub fn merge(alloc: Global, traces: Vec<Trace>) -> Result<Merged, MergeFault>
     ensures { IfOk result (λ m. IsMerge traces.items (events_of m.entries.items) (sent_of m.entries.items)) }
 {

@@ -56,7 +56,7 @@ pub enum TraceFault {
     #[error("line {0}")]
     Line(u64),
     /// E9: there is no memory.
-    #[error("E9")]
+    #[error("E{number}", number = ids::error_numbers::MEMORY)]
     Memory,
 }
 
@@ -69,9 +69,10 @@ impl From<AllocError> for TraceFault {
 }
 
 impl Trace {
-    /// Reads a text line by line: `# sent NAME`, `# take NAME`, or a line of a script, in which the place tells nothing. What begins with `#`
-    /// otherwise, and empty lines, tell nothing either. A last line that no line feed ends is passed over: of an actor that was killed it may be
-    /// cut off. Refused by the first line that is none of these, and when out of memory (E9).
+    /// Reads a text line by line: `# sent NAME`, `# take NAME`, or a line of a script, in which the
+    /// place tells nothing. What begins with `#` otherwise, and empty lines, tell nothing either. A
+    /// last line that no line feed ends is passed over: of an actor that was killed it may be cut
+    /// off. Refused by the first line that is none of these, and when out of memory (E9).
     pub fn read(alloc: Global, text: &[u8]) -> Result<Trace, TraceFault>
         ensures read { IfOk result (λ t. trace text.now ≡ Some t) }
         ensures refused { (n : _) → result ≡ Err (fault.Line n) → trace text.now ≡ None }

@@ -305,7 +305,8 @@ module _ {D E A : Type 0} (history : D → List E) (actor_of : E → ℕ) (fixed
         λ j u e off. ⊎_elim (λ t. ap (λ (x : SeatView E A). x.taken) (sym t.1)) (λ t. ⊎_elim (λ r. ap (λ (x : SeatView E A). x.taken) (sym r.1)) (λ r. o.untaken j u r.1 off) (at_set s.views id j all u t.1)) (at_set views other j spent u e),
       ))
 
-  -- once all claims are in one view, the slot has the value, and its history is what the view claims
+  -- once all claims are in one view, the slot has the value, and its history is what the view
+  -- claims
   pub closes : (terms : Terms A) (id : ℕ) (v : SeatView E A) (words : List ℕ) (slots : List (Option D)) (found : Option D) → v.taken ≡ None → terms.actors ≤ length v.claims
       → Final (Seen (Accounted history actor_of fixed_of terms) id v) words slots → get_elem? slots 0 ≡ some found
       → (back : D) × (found ≡ Some back) × (fixed_of back ≡ terms.fixed) × AreOwn actor_of v.claims (history back) × ((a : ℕ) → times_claimed a v.claims ≡ times_below terms.actors a) × ((a : ℕ) → terms.actors ≤ a → own actor_of a (history back) ≡ [])

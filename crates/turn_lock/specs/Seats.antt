@@ -10,8 +10,9 @@ pub record LockOf (A : Type 0) : Type 0 where
   pub actors : ℕ
   pub fixed : A
 
--- a seat, by what it knows: the lock that it is of, and how many actors that has; its actor, and this actor's entries, the newest
--- last; while it has the value, the history that this had when it was taken; and what stays the same of the value
+-- a seat, by what it knows: the lock that it is of, and how many actors that has; its actor, and
+-- this actor's entries, the newest last; while it has the value, the history that this had when it
+-- was taken; and what stays the same of the value
 pub record SeatOf (E A : Type 0) : Type 0 where
   pub table : TableId
   pub actors : ℕ
@@ -38,7 +39,8 @@ module _ {E A : Type 0} where
   abbrev pub IsBlankSeatOf : LockOf A → SeatOf E A → Type 0
   IsBlankSeatOf l s = IsFreeSeatOf l s × (s.entries ≡ [])
 
-  -- the seat has the value, whose history is now what it was when it was taken, and then more entries of the seat's actor, or none
+  -- the seat has the value, whose history is now what it was when it was taken, and then more
+  -- entries of the seat's actor, or none
   abbrev pub GivesBack : (E → ℕ) → SeatOf E A → List E → Type 0
   GivesBack actor_of s log = (before more : List E) × (s.taken ≡ Some before) × (log ≡ before ++ more) × AreOf actor_of s.actor more
 
@@ -46,6 +48,7 @@ module _ {E A : Type 0} where
   abbrev pub IsWordOfAnother : SeatOf E A → ℕ → Type 0
   IsWordOfAnother s word = (0 < word) × (word ≤ s.actors) × (word ≢ s.actor + 1) × (word ≤ 1024)
 
--- the history has of each actor just what is claimed for it, in the same order, and of nobody else anything
+-- the history has of each actor just what is claimed for it, in the same order, and of nobody else
+-- anything
 abbrev pub Tells : {E : Type 0} → (E → ℕ) → List (ClaimOf E) → List E → Type 0
 Tells actor_of claims log = (a : ℕ) → own actor_of a log ≡ entries_in claims a

@@ -1,4 +1,5 @@
--- The rule over the word, the slot and all seats' views, and what a step does to the view of the seat that takes it.
+-- The rule over the word, the slot and all seats' views, and what a step does to the view of the
+-- seat that takes it.
 use Rattle.std.specs.Prelude.{◌≡◌, ◌≢◌, ◌⊎◌, ℕ, ◌+◌, ◌<◌, ◌≤◌, ◌==◌, MatchBool, List, [], ◌∷◌, ◌++◌, length, slice_index, sum_by, IfSome, Option, None, Some}
 use mathlib.Core.Option.{none, some}
 use lib.ListN.{get_elem?}
@@ -58,7 +59,8 @@ pub record IsHome {D E A : Type 0} (history : D → List E) (fixed_of : D → A)
   pub same : fixed_of kept ≡ terms.fixed
   pub untaken : TakenByNone s.views
 
--- the value is out with the seat of the actor that the word names, and had this history when it was taken
+-- the value is out with the seat of the actor that the word names, and had this history when it was
+-- taken
 pub record IsOut {D E A : Type 0} (s : State (Option D) (SeatView E A)) (log : List E) : Type 0 where
   pub holder : ℕ
   pub word : slice_index s.words 0 ≡ holder + 1
@@ -71,8 +73,9 @@ pub record IsOut {D E A : Type 0} (s : State (Option D) (SeatView E A)) (log : L
   pub untaken : TakenOnlyBy by s.views
 
 module _ {D E A : Type 0} (history : D → List E) (actor_of : E → ℕ) (fixed_of : D → A) where
-  -- The rule: the history in the slot, or else the one that was taken, has for each actor just what its view claims. Each of the
-  -- lock's actors is claimed once, and nobody else is; nor has the history entries of anybody else
+  -- The rule: the history in the slot, or else the one that was taken, has for each actor just what
+  -- its view claims. Each of the lock's actors is claimed once, and nobody else is; nor has the
+  -- history entries of anybody else
   pub record Accounted (terms : Terms A) (s : State (Option D) (SeatView E A)) : Type 0 where
     pub one_word : length s.words ≡ 1
     pub log : List E

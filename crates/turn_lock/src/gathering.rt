@@ -8,8 +8,9 @@ use crate::seat::LockSeat;
 use atomic_table::Seat;
 use std::marker::Model;
 
-/// Seats that came back to end their lock, made by `TurnLock::gathering`. It takes no memory, however many they are. Contracts see
-/// the lock that they are of, and for each seat, the last one first, its actor with this actor's entries.
+/// Seats that came back to end their lock, made by `TurnLock::gathering`. It takes no memory,
+/// however many they are. Contracts see the lock that they are of, and for each seat, the last one
+/// first, its actor with this actor's entries.
 #[derive(Drop)]
 pub struct Gathering<T: KeepsHistory> {
     pub(crate) all: Seat<Option<T>, SeatView<T::Entry, T::Fixed>>,

@@ -1,12 +1,13 @@
 ghost use Rattle.std.specs.Prelude.{ℕ, List};
 
-/// A value with a history: a list of entries, the newest last, each of one actor. A lock keeps such a value.
+/// A value with a history: a list of entries, the newest last, each of one actor. A lock keeps such
+/// a value.
 pub trait KeepsHistory {
     /// An entry of the history.
     type Entry;
 
-    /// What stays the same as long as the value lives, as the task that it was made for. A `Snapshot` of it will do, which takes no
-    /// bytes: proofs alone read it.
+    /// What stays the same as long as the value lives, as the task that it was made for. A
+    /// `Snapshot` of it will do, which takes no bytes: proofs alone read it.
     type Fixed: Drop;
 
     // The history, the newest entry last.

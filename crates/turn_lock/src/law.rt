@@ -1,4 +1,5 @@
-// The rule that the word, the slot and the seats' views keep, and what each step tells the seat that takes it.
+// The rule that the word, the slot and the seats' views keep, and what each step tells the seat
+// that takes it.
 ghost use Rattle.turn_lock.specs.Views.{first_view, no_view, Accounted, Takes, Puts, Comes, left_of, dealt_of, gathered};
 
 use crate::history::KeepsHistory;
@@ -20,8 +21,9 @@ impl<E> Model for Claim<E> {
     ghost view = { λ c. record { actor = c.actor; entries = c.entries } };
 }
 
-// What a seat knows: the claims of the actors that it stands for; while it has the value, the history that this had when it was
-// taken; what stays the same of the value; and how many actors there are (0: not known). No value of it is made.
+// What a seat knows: the claims of the actors that it stands for; while it has the value, the
+// history that this had when it was taken; what stays the same of the value; and how many actors
+// there are (0: not known). No value of it is made.
 pub(crate) struct SeatView<E, A> {
     pub claims: LinkedList<Claim<E>>,
     pub taken: Option<LinkedList<E>>,
@@ -36,7 +38,8 @@ pub(crate) struct Terms<A> {
     pub fixed: A,
 }
 
-// The history of the value, where it is or as it was taken, has for each actor just the entries that its seat claims.
+// The history of the value, where it is or as it was taken, has for each actor just the entries
+// that its seat claims.
 pub(crate) struct Law;
 
 impl<T: KeepsHistory> TableRule<Option<T>, SeatView<T::Entry, T::Fixed>, Terms<T::Fixed>> for Law {
@@ -45,7 +48,8 @@ impl<T: KeepsHistory> TableRule<Option<T>, SeatView<T::Entry, T::Fixed>, Terms<T
     ghost first = { first_view };
 }
 
-// The value leaves the slot, and the view has its history; or another actor has it, and nothing changes.
+// The value leaves the slot, and the view has its history; or another actor has it, and nothing
+// changes.
 pub(crate) struct Took;
 
 impl<T: KeepsHistory> Play<Option<T>, SeatView<T::Entry, T::Fixed>> for Took {

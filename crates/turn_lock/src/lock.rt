@@ -17,7 +17,8 @@ use std::sync::Wait;
 use std::sync::atomic::AtomicU64;
 use std::sync::atomic::Ordering::SeqCst;
 
-/// How often a thread looks for the value until it sleeps: for about as long as going to sleep and being woken takes.
+/// How often a thread looks for the value until it sleeps: for about as long as going to sleep and
+/// being woken takes.
 const SPINS: u64 = 200;
 
 type Slots<T> = Table<
@@ -28,13 +29,15 @@ type Slots<T> = Table<
     Global,
 >;
 
-/// The lock, which threads share by reference; with it the value is dropped, where it is not out. Contracts see which lock it is,
-/// how many actors have a seat, and what stays the same of its value.
+/// The lock, which threads share by reference; with it the value is dropped, where it is not out.
+/// Contracts see which lock it is, how many actors have a seat, and what stays the same of its
+/// value.
 #[derive(Drop)]
 pub struct TurnLock<T: KeepsHistory + Drop> {
     pub(crate) table: Slots<T>,
     actors: usize,
-    // How many threads sleep until the value is there, or are about to. All actors read it, so it has a cache line of its own.
+    // How many threads sleep until the value is there, or are about to. All actors read it, so it
+    // has a cache line of its own.
     pub(crate) waiting: CachePadded<AtomicU64>,
 }
 
@@ -50,8 +53,9 @@ impl<T: KeepsHistory + Drop> Model for TurnLock<T> {
 }
 
 impl<T: KeepsHistory + Drop> TurnLock<T> {
-    /// A lock round a value with no history, and a seat for each of the actors 0, 1, .., at most 1,024 of them, in this order.
-    /// Refused where there is no memory for the lock or for the list of seats, and then the value is dropped.
+    /// A lock round a value with no history, and a seat for each of the actors 0, 1, .., at most
+    /// 1,024 of them, in this order. Refused where there is no memory for the lock or for the list
+    /// of seats, and then the value is dropped.
     pub fn new(
         alloc: Global,
         kept: T,
@@ -86,8 +90,9 @@ impl<T: KeepsHistory + Drop> TurnLock<T> {
         ))
     }
 
-    /// Takes the value out without waiting, if it is in the lock. Its history has of the seat's actor just the seat's entries.
-    /// Else the answer is the actor that has the value, and nothing changes.
+    /// Takes the value out without waiting, if it is in the lock. Its history has of the seat's
+    /// actor just the seat's entries. Else the answer is the actor that has the value, and nothing
+    /// changes.
     pub fn try_take(&self, seat: &mut LockSeat<T>) -> Result<T, u64>
         requires seat { IsFreeSeatOf self.now seat.old }
         ensures taken { IfOk result (λ kept. seat.new ≡ record seat.old { taken = Some (T.history kept) }) }
@@ -102,8 +107,8 @@ impl<T: KeepsHistory + Drop> TurnLock<T> {
         }
     }
 
-    /// Takes the value out, and waits until it is in the lock. Its history has of the seat's actor just the seat's entries. Until
-    /// the seat puts the value back, all others wait.
+    /// Takes the value out, and waits until it is in the lock. Its history has of the seat's actor
+    /// just the seat's entries. Until the seat puts the value back, all others wait.
     pub fn take<R: Wait>(&self, rt: &R, seat: &mut LockSeat<T>) -> T
         requires seat { IsFreeSeatOf self.now seat.old }
         ensures taken { seat.new ≡ record seat.old { taken = Some (T.history result) } }
@@ -120,8 +125,9 @@ impl<T: KeepsHistory + Drop> TurnLock<T> {
         kept
     }
 
-    /// Puts the value back, for which the seat has to have taken it out, and wakes one thread that sleeps until it is there, if one does.
-    /// Its history has to be the one that it had then, and after that more entries of the seat's actor, or none; what stays the same is to be as the
+    /// Puts the value back, for which the seat has to have taken it out, and wakes one thread that
+    /// sleeps until it is there, if one does. Its history has to be the one that it had then, and
+    /// after that more entries of the seat's actor, or none; what stays the same is to be as the
     /// lock has it. Then the seat's entries are those that the history has of its actor.
     pub fn put(&self, seat: &mut LockSeat<T>, kept: T)
         requires seat { IsSeatOf self.now seat.old }
@@ -154,9 +160,9 @@ impl<T: KeepsHistory + Drop> TurnLock<T> {
         Gathering { all }
     }
 
-    /// Ends the lock and gives its value, once all seats are back: who has the lock itself, which no thread shares any more, and
-    /// each of its seats, may do so. The history has of each actor the entries of its seat, in their order, and no others. It
-    /// takes no memory.
+    /// Ends the lock and gives its value, once all seats are back: who has the lock itself, which
+    /// no thread shares any more, and each of its seats, may do so. The history has of each actor
+    /// the entries of its seat, in their order, and no others. It takes no memory.
     pub fn close(self, all: Gathering<T>) -> T
         requires own { all.table ≡ self.table }
         requires whole { self.actors ≤ length all.claims }
@@ -203,7 +209,8 @@ impl<T: KeepsHistory + Drop> TurnLock<T> {
         unreachable!()
     }
 
-    // Takes the value out, if it is in the lock; else answers the word, which is the number of the actor that has it, from 1 on.
+    // Takes the value out, if it is in the lock; else answers the word, which is the number of the
+    // actor that has it, from 1 on.
     fn attempt(&self, seat: &mut LockSeat<T>) -> Result<T, u64>
         requires seat { IsFreeSeatOf self.now seat.old }
         ensures taken { IfOk result (λ kept. seat.new ≡ record seat.old { taken = Some (T.history kept) }) }

@@ -6,11 +6,13 @@ use crate::law::SeatView;
 use atomic_table::Seat;
 use std::marker::Model;
 
-/// The right of one actor to take the value out of a lock and to put it back. It has no clone, and can go to another thread.
+/// The right of one actor to take the value out of a lock and to put it back. It has no clone, and
+/// can go to another thread.
 ///
-/// Contracts see what the seat knows: the lock that it is of and how many actors that has, its actor, this actor's entries in the
-/// history, the newest last, and what stays the same of the value. While the value is out with the seat, `taken` is the history
-/// that it had when it was taken; else it is `None`.
+/// Contracts see what the seat knows: the lock that it is of and how many actors that has, its
+/// actor, this actor's entries in the history, the newest last, and what stays the same of the
+/// value. While the value is out with the seat, `taken` is the history that it had when it was
+/// taken; else it is `None`.
 #[derive(Drop)]
 pub struct LockSeat<T: KeepsHistory> {
     pub(crate) seat: Seat<Option<T>, SeatView<T::Entry, T::Fixed>>,
@@ -31,8 +33,9 @@ impl<T: KeepsHistory> Model for LockSeat<T> {
 }
 
 impl<T: KeepsHistory> LockSeat<T> {
-    /// The number of its actor. The clauses tell besides what is so of each seat: how high that number can be, and, while the value
-    /// is out with the seat, that the history taken has of the actor just the seat's entries.
+    /// The number of its actor. The clauses tell besides what is so of each seat: how high that
+    /// number can be, and, while the value is out with the seat, that the history taken has of the
+    /// actor just the seat's entries.
     pub fn actor(&self) -> u64
         ensures actor { result ≡ self.now.actor }
         ensures below { self.now.actor < self.now.actors }

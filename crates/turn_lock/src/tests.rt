@@ -135,8 +135,9 @@ fn comes<R: Clock>(rt: &R, word: &AtomicU64) -> bool {
     false
 }
 
-/// Takes the value, says so, and puts it back only once another thread waits for it. Whether that one counted as waiting, and
-/// whether it had the value then; where it hadn't, it is woken here, so that the test ends.
+/// Takes the value, says so, and puts it back only once another thread waits for it. Whether that
+/// one counted as waiting, and whether it had the value then; where it hadn't, it is woken here, so
+/// that the test ends.
 fn put_late<R: Clock + Wait>(
     rt: &R,
     lock: &TurnLock<Lines>,

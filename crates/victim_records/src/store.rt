@@ -7,7 +7,8 @@ use ids::{GrantId, Incarnation, ItemChange, Listed, Record, SortedMap, Values};
 use std::alloc::{AllocError, Global};
 use std::marker::Model;
 
-/// The open records of one subcomputation, each grant once. Contracts see the list of them, by rising grant.
+/// The open records of one subcomputation, each grant once. Contracts see the list of them, by
+/// rising grant.
 #[derive(Drop)]
 pub struct Records {
     alloc: Global,
@@ -62,8 +63,8 @@ impl Records {
         self.records.get(name(grant))
     }
 
-    /// Puts a record under its grant, in the place of one that is there; refused only when out of memory, which changes
-    /// nothing.
+    /// Puts a record under its grant, in the place of one that is there; refused only when out of
+    /// memory, which changes nothing.
     pub fn open(&mut self, opened: Record) -> Result<(), AllocError>
         ensures ok { OnOk result (self.new ≡ put_record opened self.old) }
         ensures err { OnErr result (self.new ≡ self.old) }

@@ -5,10 +5,10 @@ use Rattle.event_script.specs.declared.event.Event.{Event}
 use Rattle.event_script.specs.declared.event.Event.TheVariants.{Start, AtNode, Crash, AtHouse, HouseCrash, Cut}
 use Rattle.serial_meaning.specs.Job.{JobOf, IsJob}
 use Rattle.clearinghouse.specs.House.{Stopped}
-use Rattle.run_tables.specs.Tables.{◌∈◌}
-use Rattle.safe_runs.proofs.Finding.{openings_find}
-use Rattle.safe_runs.proofs.Going.{first_sound}
-use Rattle.safe_runs.proofs.Sound.{all_safe, each_safe}
+use Rattle.table_laws.specs.Tables.{◌∈◌}
+use Rattle.run_laws.proofs.Finding.{openings_find}
+use Rattle.run_laws.proofs.Going.{first_sound}
+use Rattle.run_laws.proofs.Sound.{all_safe, each_safe}
 use Rattle.world_steps.specs.Answers.{StepResult}
 use Rattle.world_steps.specs.Calls.{LacksMemoryBehind, WorldOn}
 use Rattle.world_steps.specs.Runs.{last_of}

@@ -1,7 +1,7 @@
 -- Runs from a first world on, by lists of events and by scripts, and what is promised of them.
 use Rattle.std.specs.Prelude.{false, ◌∷◌, ◌≡◌, ◌⊎◌, ℕ, List, length, map, take, Option, None, Some, IsTrue, slice_get}
 use Rattle.disk.specs.Device.{Device}
-use Rattle.run_tables.specs.Tables.{◌∈◌}
+use Rattle.table_laws.specs.Tables.{◌∈◌}
 use Rattle.serial_meaning.specs.Job.{JobOf}
 use Rattle.event_script.specs.Left.{is_cut}
 use Rattle.event_script.specs.declared.event.Event.{Event}
@@ -12,8 +12,8 @@ use Rattle.world_steps.specs.World.{WorldOf, first_over}
 use Rattle.world_steps.specs.declared.parts.NoMemory.{NoMemory}
 use Rattle.world_steps.specs.Calls.{LacksMemoryBehind, WorldOn}
 use Rattle.world_steps.specs.Safe.{SafeWorld}
-use Rattle.safe_runs.specs.Openings.{OpeningFinds}
-use Rattle.safe_runs.specs.Promises.{AllSafe}
+use Rattle.run_laws.specs.Openings.{OpeningFinds}
+use Rattle.run_laws.specs.Promises.{AllSafe}
 
 -- an event of a run finds no memory: the world is as it was, but a clearinghouse that was to answer
 -- is stopped. An event that takes none by itself does so only for what was sent and put into slots

@@ -5,7 +5,7 @@
 //! world no slot was filled twice and each value in one is the serial program's, no grant has two
 //! live holders, a recorded outcome is the job's meaning and stays, what was sent and what is held
 //! agrees with the serial meaning, and the work of each wanted grant is somewhere, or is cut off.
-//! That it is so of every list of events is the law of crate `safe_runs`.
+//! That it is so of every list of events is the law of crate `run_laws`.
 #![tactic(auto)]
 
 mod runs;

@@ -35,7 +35,7 @@ pub enum ReplayError {
     #[error("{0}")]
     Line(Line),
     /// E9: there is no memory for a first world.
-    #[error("E9")]
+    #[error("E{number}", number = ids::error_numbers::MEMORY)]
     Memory,
 }
 

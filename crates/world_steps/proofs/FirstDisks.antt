@@ -14,7 +14,7 @@ use Rattle.checkpoint.specs.declared.record.StoreError.{StoreError}
 use Rattle.checkpoint.specs.declared.record.StoreError.TheVariants.{Device as DeviceError}
 use Rattle.job_store.specs.Failed.{HasFailed}
 use Rattle.job_store.proofs.Failing.{failed_behind}
-use Rattle.agreement.specs.Agreement.{AllSavedAgree}
+use Rattle.agreement_laws.specs.Agreement.{AllSavedAgree}
 use Rattle.serial_meaning.specs.Job.{JobOf}
 use Rattle.saved_values.specs.declared.value.SavedValue.{SavedValue}
 use Rattle.world_steps.specs.Agrees.{StoredAgree}

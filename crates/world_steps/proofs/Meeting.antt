@@ -15,7 +15,7 @@ use Rattle.checkpoint.specs.Store.{KeepsRecord}
 use Rattle.checkpoint.specs.declared.record.CheckpointRecord.{CheckpointRecord}
 use Rattle.checkpoint.specs.declared.record.SlotId.TheVariants.{Large}
 use Rattle.event_script.specs.declared.event.Cut.{Cut as CutOf}
-use Rattle.agreement.specs.Agreement.{AllSavedAgree}
+use Rattle.agreement_laws.specs.Agreement.{AllSavedAgree}
 use Rattle.saved_values.specs.declared.value.SavedValue.{SavedValue}
 use Rattle.serial_meaning.specs.Job.{JobOf}
 use Rattle.world_steps.specs.Agrees.{Agrees, StoredAgree}

@@ -1,6 +1,6 @@
 //! The disk over which a run of a job begins.
 ghost use Rattle.std.specs.Prelude.{◌≡◌, ◌≢◌, IfErr, IfOk};
-ghost use Rattle.agreement.specs.Agreement.{AllSavedAgree};
+ghost use Rattle.agreement_laws.specs.Agreement.{AllSavedAgree};
 ghost use Rattle.disk.specs.Crash.{Only, Shrinks};
 ghost use Rattle.disk.specs.File.{CrashLeaves, bytes_of};
 ghost use Rattle.job_store.specs.Failed.{HasFailed};

@@ -18,8 +18,8 @@ use Rattle.victim_records.specs.Records.{record_in}
 use Rattle.sub_rules.specs.Carrying.{exec_content as carried_out}
 use Rattle.saved_values.specs.Places.{is_saved_place, stripped}
 use Rattle.saved_values.specs.Saved.{known_by}
-use Rattle.agreement.specs.Agreement.{AllSavedAgree, RecordHolds}
-use Rattle.agreement.proofs.Saving.{known_agrees, stripped_value}
+use Rattle.agreement_laws.specs.Agreement.{AllSavedAgree, RecordHolds}
+use Rattle.agreement_laws.proofs.Saving.{known_agrees, stripped_value}
 use Rattle.sub_rules.specs.Changes.{closed}
 use Rattle.sub_rules.specs.declared.change.ContentChange.{ContentChange}
 use Rattle.sub_rules.specs.declared.change.Filling.{Filling}
@@ -35,11 +35,11 @@ use Rattle.node_core.specs.Moves.{aborts, changes, closes, closes_by, packet, re
 use Rattle.node_core.specs.Steps.{Refused, fill_of, fills_of, for_some, sends}
 use Rattle.node_core.specs.declared.error.NodeError.TheVariants as error
 use Rattle.node_core.specs.declared.parts.Fill.{Fill}
-use Rattle.run_tables.specs.Tables.{◌∈◌}
-use Rattle.run_tables.proofs.Among.{found_among}
-use Rattle.agreement.specs.Agreement.{FillAgrees, IsReceived}
-use Rattle.content_moves.proofs.Apart.{own_grant}
-use Rattle.content_moves.proofs.Carrying.{Comes, comes_of}
+use Rattle.table_laws.specs.Tables.{◌∈◌}
+use Rattle.table_laws.proofs.Among.{found_among}
+use Rattle.agreement_laws.specs.Agreement.{FillAgrees, IsReceived}
+use Rattle.content_laws.proofs.Apart.{own_grant}
+use Rattle.content_laws.proofs.Carrying.{Comes, comes_of}
 use Rattle.ids.specs.declared.work.Frame.{Frame}
 use Rattle.frames.specs.Frames.{frame_in}
 use Rattle.node_state.specs.Node.{by_state}

@@ -14,18 +14,18 @@ use Rattle.sub_rules.specs.Changes.{turned, closed, granted_out, redone, with_pa
 use Rattle.sub_rules.specs.Content.{Ready, ready_in, granted_content}
 use Rattle.sub_rules.specs.declared.change.ContentChange.{ContentChange}
 use Rattle.sub_rules.specs.declared.content.Content.{Content}
-use Rattle.agreement.specs.Agreement.{ContentAgrees, FillAgrees, KnownAgrees, TaskAgrees}
-use Rattle.agreement.proofs.Granting.{grant_agrees, parent_agrees, redone_agrees, result_agrees, thief_agrees}
-use Rattle.agreement.proofs.Arriving.{ChangeAgrees}
-use Rattle.agreement.proofs.Turning.{given_agrees, granted_agrees, turn_agrees}
-use Rattle.content_moves.proofs.Carrying.{Comes}
+use Rattle.agreement_laws.specs.Agreement.{ContentAgrees, FillAgrees, KnownAgrees, TaskAgrees}
+use Rattle.agreement_laws.proofs.Granting.{grant_agrees, parent_agrees, redone_agrees, result_agrees, thief_agrees}
+use Rattle.agreement_laws.proofs.Arriving.{ChangeAgrees}
+use Rattle.agreement_laws.proofs.Turning.{given_agrees, granted_agrees, turn_agrees}
+use Rattle.content_laws.proofs.Carrying.{Comes}
 use Rattle.frames.specs.Frames.{frame_in}
 use Rattle.ids.specs.Slots.{numbers_in}
 use Rattle.ids.specs.declared.work.Frame.{Frame}
 use Rattle.kind_check.specs.declared.turn.Turn.{Turn}
 use Rattle.kind_check.specs.declared.turn.Turn.TheVariants.{Sends, Joins}
-use Rattle.content_moves.proofs.Evaluated.{carried, exec_kept}
-use Rattle.content_moves.proofs.Keeping.{begun_kept, grant_kept, parent_kept, redo_kept, result_kept, thief_kept}
+use Rattle.content_laws.proofs.Evaluated.{carried, exec_kept}
+use Rattle.content_laws.proofs.Keeping.{begun_kept, grant_kept, parent_kept, redo_kept, result_kept, thief_kept}
 use Rattle.actor_laws.specs.actor_agreement.Values.{IsRight}
 
 -- the content with which a task begins

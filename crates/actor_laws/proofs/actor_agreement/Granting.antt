@@ -22,10 +22,10 @@ use Rattle.node_state.specs.declared.parts.State.TheVariants.{Joining, Member, L
 use Rattle.node_core.specs.Cases.{Candidate, candidate_in, served, stolen}
 use Rattle.node_core.specs.Moves.{answers, grants, packet}
 use Rattle.node_core.specs.Steps.{Does, Ignored, sends}
-use Rattle.run_tables.specs.Tables.{◌∈◌}
-use Rattle.run_tables.proofs.Among.{found_among}
-use Rattle.agreement.proofs.Granting.{granted_task}
-use Rattle.agreement.proofs.Saving.{under_agrees}
+use Rattle.table_laws.specs.Tables.{◌∈◌}
+use Rattle.table_laws.proofs.Among.{found_among}
+use Rattle.agreement_laws.proofs.Granting.{granted_task}
+use Rattle.agreement_laws.proofs.Saving.{under_agrees}
 use Rattle.saved_values.specs.Saved.{saved_under}
 use Rattle.actor_laws.specs.actor_agreement.Values.{AnswerIsRight, BodyIsRight, NextGrantIsFresh, IsRight, NodeIsRight, StepIsRight, next_grant}
 use Rattle.actor_laws.proofs.actor_agreement.Below.{under_fit}

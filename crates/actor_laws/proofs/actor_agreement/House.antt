@@ -20,8 +20,8 @@ use Rattle.codec.specs.declared.body.TaskResult.{TaskResult}
 use Rattle.kind_check.specs.Turns.{thread_of}
 use Rattle.serial_meaning.specs.Job.{JobOf, IsJob}
 use Rattle.serial_meaning.specs.Places.{Call, root}
-use Rattle.agreement.specs.Agreement.{IsSavedOf, TaskAgrees}
-use Rattle.agreement.proofs.Saving.{put_saved_agrees}
+use Rattle.agreement_laws.specs.Agreement.{IsSavedOf, TaskAgrees}
+use Rattle.agreement_laws.proofs.Saving.{put_saved_agrees}
 use Rattle.saved_values.specs.Places.{is_saved_place}
 use Rattle.saved_values.specs.Saved.{is_taken, put_saved}
 use Rattle.saved_values.specs.declared.value.SavedValue.{SavedValue}
@@ -34,7 +34,7 @@ use Rattle.clearinghouse.specs.Moves as moves
 use Rattle.clearinghouse.specs.Steps as house
 use Rattle.clearinghouse.specs.declared.error.HouseError.TheVariants as error
 use Rattle.clearinghouse.specs.declared.parts.RootGrant.{RootGrant}
-use Rattle.run_tables.proofs.Among.{found_among}
+use Rattle.table_laws.proofs.Among.{found_among}
 use Rattle.actor_laws.specs.actor_agreement.Values.{AllRight, BodyIsRight, HouseAnswerIsRight, HouseIsRight, HouseStepIsRight, SaveIsRight}
 use Rattle.actor_laws.proofs.actor_agreement.Below.{put_below, root_fit}
 use Rattle.actor_laws.proofs.actor_agreement.Sent.{both_sent, none_sent, one_sent, replies_put}

@@ -18,9 +18,9 @@ use Rattle.node_core.specs.Calls as calls
 use Rattle.node_core.specs.Cases.{confirms, is_released, left_behind, taken}
 use Rattle.node_core.specs.Moves.{Given, all_given, awaited, beat, given, given_by, grants_in, is_done, leave, leaves, move_to, name_of_given, results, steal, with_given}
 use Rattle.node_core.specs.Steps.{StepOf}
-use Rattle.run_tables.specs.Tables.{◌∈◌}
-use Rattle.run_tables.proofs.Lists.{either}
-use Rattle.run_tables.proofs.Among.{filtered, mapped, put_among}
+use Rattle.table_laws.specs.Tables.{◌∈◌}
+use Rattle.table_laws.proofs.Lists.{either}
+use Rattle.table_laws.proofs.Among.{filtered, mapped, put_among}
 use Rattle.actor_laws.specs.actor_agreement.Values.{AllRight, AnswerIsRight, BodyIsRight, NodeIsRight, RepliesAreRight, StepIsRight}
 use Rattle.actor_laws.proofs.actor_agreement.Sent.{both_sent, each_sent, none_sent, offers_right, one_sent, results_right}
 use Rattle.actor_laws.proofs.actor_agreement.Steps.{by_test, in_state, sends_one, sends_right, without_right}

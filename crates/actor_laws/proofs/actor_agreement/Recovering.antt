@@ -11,9 +11,9 @@ use Rattle.subcomputation.specs.Recovering.{Recovery, for_each, for_some, record
 use Rattle.subcomputation.specs.Subs.{SubOf, host_in, sub_in, with_content}
 use Rattle.node_state.specs.Node.{NodeOf}
 use Rattle.node_core.specs.Moves.{recovers}
-use Rattle.run_tables.specs.Tables.{◌∈◌}
-use Rattle.run_tables.proofs.Among.{found_among}
-use Rattle.content_moves.proofs.Apart.{own_grant}
+use Rattle.table_laws.specs.Tables.{◌∈◌}
+use Rattle.table_laws.proofs.Among.{found_among}
+use Rattle.content_laws.proofs.Apart.{own_grant}
 use Rattle.actor_laws.specs.actor_agreement.Values.{NodeIsRight, StepIsRight}
 use Rattle.actor_laws.proofs.actor_agreement.Contents.{parent_right, redone_right, thief_right}
 use Rattle.actor_laws.proofs.actor_agreement.Sent.{aborts_right}

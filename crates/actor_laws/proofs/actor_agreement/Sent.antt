@@ -11,9 +11,9 @@ use Rattle.steal_protocol.specs.Replies.{name_of_reply, put_reply}
 use Rattle.steal_protocol.specs.declared.replies.Reply.{Reply}
 use Rattle.subcomputation.specs.Subs.{SubOf}
 use Rattle.node_core.specs.Moves.{aborts, result_by, results}
-use Rattle.run_tables.specs.Tables.{◌∈◌}
-use Rattle.run_tables.proofs.Lists.{either}
-use Rattle.run_tables.proofs.Among.{put_among}
+use Rattle.table_laws.specs.Tables.{◌∈◌}
+use Rattle.table_laws.proofs.Lists.{either}
+use Rattle.table_laws.proofs.Among.{put_among}
 use Rattle.actor_laws.specs.actor_agreement.Values.{AllRight, BodyIsRight, RepliesAreRight, SubIsRight}
 
 module _ (job : JobOf) where

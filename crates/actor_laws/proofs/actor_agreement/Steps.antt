@@ -14,9 +14,9 @@ use Rattle.node_state.specs.declared.parts.State.{State}
 use Rattle.node_state.specs.declared.parts.State.TheVariants.{Joining, Member, Leaving, Ended}
 use Rattle.node_core.specs.Cases.{by_option, by_status}
 use Rattle.node_core.specs.Steps.{Answer, StepOf, quiet, sends, ◌then◌}
-use Rattle.run_tables.specs.Tables.{◌∈◌}
-use Rattle.run_tables.proofs.Lists.{either}
-use Rattle.run_tables.proofs.Among.{filtered, put_among}
+use Rattle.table_laws.specs.Tables.{◌∈◌}
+use Rattle.table_laws.proofs.Lists.{either}
+use Rattle.table_laws.proofs.Among.{filtered, put_among}
 use Rattle.actor_laws.specs.actor_agreement.Values.{AllRight, AnswerIsRight, BodyIsRight, NodeIsRight, StepIsRight, SubIsRight}
 use Rattle.actor_laws.proofs.actor_agreement.Sent.{none_sent, one_sent, both_sent}
 

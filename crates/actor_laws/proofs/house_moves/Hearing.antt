@@ -23,16 +23,16 @@ use Rattle.clearinghouse.specs.House.{HouseOf, member_of, members_of, name_of, n
 use Rattle.clearinghouse.specs.Moves as moves
 use Rattle.clearinghouse.specs.Steps as house
 use Rattle.clearinghouse.specs.declared.parts.Enlisted.{Enlisted}
-use Rattle.run_tables.specs.Tables.{◌∈◌}
-use Rattle.run_tables.specs.View.{View}
-use Rattle.run_tables.specs.View as tables
-use Rattle.run_tables.specs.Facts.{of_worker}
-use Rattle.run_tables.specs.Runs.{Run}
-use Rattle.run_tables.proofs.RostersReached.{rosters_reached}
-use Rattle.run_tables.proofs.ValuesKept.{run_reached}
-use Rattle.actor_moves.specs.Listed.{status_of}
-use Rattle.actor_moves.proofs.Others.{all_same}
-use Rattle.actor_moves.proofs.Sent.{all_kept}
+use Rattle.table_laws.specs.Tables.{◌∈◌}
+use Rattle.table_laws.specs.View.{View}
+use Rattle.table_laws.specs.View as tables
+use Rattle.table_laws.specs.Facts.{of_worker}
+use Rattle.table_laws.specs.Runs.{Run}
+use Rattle.table_laws.proofs.RostersReached.{rosters_reached}
+use Rattle.table_laws.proofs.ValuesKept.{run_reached}
+use Rattle.move_laws.specs.Listed.{status_of}
+use Rattle.move_laws.proofs.Others.{all_same}
+use Rattle.move_laws.proofs.Sent.{all_kept}
 use Rattle.actor_laws.specs.node_moves.Shows.{RosterShown}
 use Rattle.actor_laws.proofs.node_moves.Told.{one_shown}
 use Rattle.actor_laws.specs.house_moves.Shows.{OpenShown}

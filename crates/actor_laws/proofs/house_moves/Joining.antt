@@ -5,7 +5,7 @@ use Rattle.ids.specs.Members.{status_in}
 use Rattle.ids.specs.declared.member.Status.{Status}
 use Rattle.ids.specs.declared.member.Status.TheVariants as member
 use Rattle.ids.proofs.Replacing.{put_is_found}
-use Rattle.agreement.proofs.Finding.{put_stays}
+use Rattle.agreement_laws.proofs.Finding.{put_stays}
 use Rattle.serial_meaning.specs.Job.{JobOf}
 use Rattle.clearinghouse.specs.Cases as cases
 use Rattle.clearinghouse.specs.House.{HouseOf, member_of, members_of, name_of_enlisted}
@@ -16,13 +16,13 @@ use Rattle.clearinghouse.specs.Steps as house
 use Rattle.clearinghouse.specs.declared.error.HouseError.TheVariants as error
 use Rattle.clearinghouse.specs.declared.parts.Enlisted.{Enlisted}
 use Rattle.clearinghouse.proofs.Changing.{sum_put}
-use Rattle.run_tables.specs.Tables.{◌∈◌}
-use Rattle.run_tables.specs.View.{View}
-use Rattle.run_tables.specs.Facts.{of_worker}
-use Rattle.run_tables.specs.Runs.{Run}
-use Rattle.run_tables.proofs.Lists.{same_or}
+use Rattle.table_laws.specs.Tables.{◌∈◌}
+use Rattle.table_laws.specs.View.{View}
+use Rattle.table_laws.specs.Facts.{of_worker}
+use Rattle.table_laws.specs.Runs.{Run}
+use Rattle.table_laws.proofs.Lists.{same_or}
 use Rattle.actor_laws.proofs.node_moves.Told.{one_shown}
-use Rattle.run_tables.specs.Moves.{publish}
+use Rattle.table_laws.specs.Moves.{publish}
 use Rattle.actor_laws.specs.house_moves.Shows.{OpenShown}
 use Rattle.actor_laws.specs.house_moves.Steps.{HouseStepShown, HouseAnswerShown, tables_meaning}
 use Rattle.actor_laws.proofs.house_moves.Listed.{kept_found, status_kept}

@@ -9,7 +9,7 @@ use Rattle.ids.specs.Members.{is_live, resolve, says_live, status_in}
 use Rattle.ids.specs.declared.member.Status.{Status}
 use Rattle.ids.specs.declared.member.Status.TheVariants as member
 use Rattle.ids.proofs.NameOrder.{equal_to_itself}
-use Rattle.agreement.proofs.Finding.{unequal}
+use Rattle.agreement_laws.proofs.Finding.{unequal}
 use Rattle.sub_rules.proofs.Sums.{found_name}
 use Rattle.codec.specs.declared.body.Leave.{Leave}
 use Rattle.serial_meaning.specs.Job.{JobOf}
@@ -22,11 +22,11 @@ use Rattle.clearinghouse.specs.declared.parts.Enlisted.{Enlisted}
 use Rattle.clearinghouse.proofs.Changing.{change_at, change_keeps, changed_everywhere}
 use Rattle.clearinghouse.proofs.Listing.{leaver_gone}
 use Rattle.actor_laws.proofs.house_moves.Living.{one_fewer}
-use Rattle.run_tables.specs.Tables.{◌∈◌}
-use Rattle.run_tables.specs.View.{View}
-use Rattle.run_tables.specs.Moves.{publish}
-use Rattle.run_tables.specs.Runs.{Run}
-use Rattle.run_tables.proofs.Lists.{same_or, some_same}
+use Rattle.table_laws.specs.Tables.{◌∈◌}
+use Rattle.table_laws.specs.View.{View}
+use Rattle.table_laws.specs.Moves.{publish}
+use Rattle.table_laws.specs.Runs.{Run}
+use Rattle.table_laws.proofs.Lists.{same_or, some_same}
 use Rattle.actor_laws.proofs.node_moves.Told.{one_shown}
 use Rattle.actor_laws.specs.house_moves.Shows.{OpenShown}
 use Rattle.actor_laws.specs.house_moves.Steps.{HouseStepShown, HouseAnswerShown, tables_meaning}

@@ -9,8 +9,8 @@ use Rattle.ids.specs.declared.member.Status.TheVariants as member
 use Rattle.clearinghouse.specs.House.{HouseOf, member_of, members_of, name_of_enlisted}
 use Rattle.clearinghouse.specs.Laws.{living}
 use Rattle.clearinghouse.specs.declared.parts.Enlisted.{Enlisted}
-use Rattle.run_tables.specs.View.{View}
-use Rattle.run_tables.proofs.Lists.{some_same}
+use Rattle.table_laws.specs.View.{View}
+use Rattle.table_laws.proofs.Lists.{some_same}
 use Rattle.actor_laws.proofs.house_moves.Listed.{kept_found, mapped_status, status_kept}
 use Rattle.actor_laws.proofs.house_moves.Publishing.{IsNext, NewlyLeft}
 

@@ -13,9 +13,9 @@ use Rattle.clearinghouse.specs.Moves as moves
 use Rattle.clearinghouse.specs.Steps as house
 use Rattle.clearinghouse.specs.declared.parts.Enlisted.{Enlisted}
 use Rattle.actor_laws.proofs.house_moves.Living.{declare_dead_less, lost_lives, no_more_live}
-use Rattle.run_tables.specs.View.{View}
-use Rattle.run_tables.specs.Moves.{publish}
-use Rattle.run_tables.specs.Runs.{Run}
+use Rattle.table_laws.specs.View.{View}
+use Rattle.table_laws.specs.Moves.{publish}
+use Rattle.table_laws.specs.Runs.{Run}
 use Rattle.actor_laws.proofs.node_moves.Told.{none_shown}
 use Rattle.actor_laws.specs.house_moves.Shows.{OpenShown}
 use Rattle.actor_laws.specs.house_moves.Steps.{HouseStepShown, tables_meaning}

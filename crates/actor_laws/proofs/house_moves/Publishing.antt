@@ -12,21 +12,21 @@ use Rattle.clearinghouse.specs.Moves.{with_workers}
 use Rattle.clearinghouse.specs.Moves as Moves
 use Rattle.clearinghouse.specs.Steps as house
 use Rattle.clearinghouse.specs.declared.parts.Enlisted.{Enlisted}
-use Rattle.run_tables.specs.Tables.{◌∈◌}
-use Rattle.run_tables.specs.View.{Leave, View}
-use Rattle.run_tables.specs.View as tables
-use Rattle.run_tables.specs.Facts.{Grows, of_worker}
-use Rattle.run_tables.specs.Guards.{MayPublish, ShowsLeft, before, now}
-use Rattle.run_tables.specs.Moves.{publish}
-use Rattle.run_tables.specs.Acts as acts
-use Rattle.run_tables.specs.Runs.{Run, by_right, leads_on}
-use Rattle.run_tables.proofs.RostersReached.{rosters_reached}
-use Rattle.run_tables.proofs.ValuesKept.{run_reached}
-use Rattle.actor_moves.specs.Beside.{KeepsSent}
-use Rattle.actor_moves.specs.Listed.{status_of}
-use Rattle.actor_moves.proofs.Others.{all_same}
-use Rattle.actor_moves.proofs.Resolving.{resolved}
-use Rattle.actor_moves.proofs.Sent.{keeps_one}
+use Rattle.table_laws.specs.Tables.{◌∈◌}
+use Rattle.table_laws.specs.View.{Leave, View}
+use Rattle.table_laws.specs.View as tables
+use Rattle.table_laws.specs.Facts.{Grows, of_worker}
+use Rattle.table_laws.specs.Guards.{MayPublish, ShowsLeft, before, now}
+use Rattle.table_laws.specs.Moves.{publish}
+use Rattle.table_laws.specs.Acts as acts
+use Rattle.table_laws.specs.Runs.{Run, by_right, leads_on}
+use Rattle.table_laws.proofs.RostersReached.{rosters_reached}
+use Rattle.table_laws.proofs.ValuesKept.{run_reached}
+use Rattle.move_laws.specs.Beside.{KeepsSent}
+use Rattle.move_laws.specs.Listed.{status_of}
+use Rattle.move_laws.proofs.Others.{all_same}
+use Rattle.move_laws.proofs.Resolving.{resolved}
+use Rattle.move_laws.proofs.Sent.{keeps_one}
 use Rattle.actor_laws.specs.node_moves.Shows.{PacketShown, ShowsRoster}
 use Rattle.actor_laws.specs.node_moves.Steps.{AllShown}
 use Rattle.actor_laws.proofs.node_moves.Told.{packet_kept}

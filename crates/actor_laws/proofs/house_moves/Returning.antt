@@ -15,17 +15,17 @@ use Rattle.clearinghouse.specs.Moves as moves
 use Rattle.clearinghouse.specs.Steps as house
 use Rattle.clearinghouse.specs.declared.error.HouseError.TheVariants as error
 use Rattle.clearinghouse.specs.declared.parts.RootGrant.{RootGrant}
-use Rattle.run_tables.specs.Tables.{◌∈◌}
-use Rattle.run_tables.specs.View.{View}
-use Rattle.run_tables.specs.Facts.{result_to}
-use Rattle.run_tables.specs.Guards.{MayCommit, MaySettleAtHouse}
-use Rattle.run_tables.specs.Moves.{commit, settle}
-use Rattle.run_tables.specs.Acts as acts
-use Rattle.run_tables.specs.Runs.{Run, by_right, leads_on}
-use Rattle.content_moves.specs.Shown.{outcome_number}
-use Rattle.actor_moves.specs.Beside.{KeepsSent}
-use Rattle.actor_moves.proofs.Others.{all_same}
-use Rattle.actor_moves.proofs.Sent.{keeps_one}
+use Rattle.table_laws.specs.Tables.{◌∈◌}
+use Rattle.table_laws.specs.View.{View}
+use Rattle.table_laws.specs.Facts.{result_to}
+use Rattle.table_laws.specs.Guards.{MayCommit, MaySettleAtHouse}
+use Rattle.table_laws.specs.Moves.{commit, settle}
+use Rattle.table_laws.specs.Acts as acts
+use Rattle.table_laws.specs.Runs.{Run, by_right, leads_on}
+use Rattle.content_laws.specs.Shown.{outcome_number}
+use Rattle.move_laws.specs.Beside.{KeepsSent}
+use Rattle.move_laws.proofs.Others.{all_same}
+use Rattle.move_laws.proofs.Sent.{keeps_one}
 use Rattle.actor_laws.proofs.node_moves.LeavingRows.{exact_grants}
 use Rattle.actor_laws.proofs.node_moves.Told.{packet_kept, one_shown}
 use Rattle.actor_laws.specs.house_moves.Shows.{OpenShown, ShowsRoot}

@@ -8,13 +8,13 @@ use Rattle.serial_meaning.specs.Job.{JobOf}
 use Rattle.clearinghouse.specs.House.{HouseOf, members_of}
 use Rattle.clearinghouse.specs.Moves as moves
 use Rattle.clearinghouse.specs.declared.parts.RootGrant.{RootGrant}
-use Rattle.run_tables.specs.View.{View}
-use Rattle.run_tables.specs.Moves.{close_root}
-use Rattle.run_tables.specs.Acts as acts
-use Rattle.run_tables.specs.Runs.{by_right, leads_on}
-use Rattle.actor_moves.specs.Beside.{KeepsSent}
-use Rattle.actor_moves.proofs.Others.{all_same}
-use Rattle.actor_moves.proofs.Sent.{keeps_one}
+use Rattle.table_laws.specs.View.{View}
+use Rattle.table_laws.specs.Moves.{close_root}
+use Rattle.table_laws.specs.Acts as acts
+use Rattle.table_laws.specs.Runs.{by_right, leads_on}
+use Rattle.move_laws.specs.Beside.{KeepsSent}
+use Rattle.move_laws.proofs.Others.{all_same}
+use Rattle.move_laws.proofs.Sent.{keeps_one}
 use Rattle.actor_laws.proofs.node_moves.Told.{one_shown, packet_kept}
 use Rattle.actor_laws.specs.house_moves.Shows.{OpenShown, ShowsRoot}
 use Rattle.actor_laws.specs.house_moves.Steps.{HouseStepShown}

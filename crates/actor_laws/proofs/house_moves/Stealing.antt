@@ -19,22 +19,22 @@ use Rattle.clearinghouse.specs.Moves as moves
 use Rattle.clearinghouse.specs.Steps as house
 use Rattle.clearinghouse.specs.declared.error.HouseError.TheVariants as error
 use Rattle.clearinghouse.specs.declared.parts.RootGrant.{RootGrant}
-use Rattle.run_tables.specs.Tables.{◌∈◌}
-use Rattle.run_tables.specs.Content.{given, Task as TableTask}
-use Rattle.run_tables.specs.View.{Transfer, View}
-use Rattle.run_tables.specs.Facts.{Answered, grant_of, steal_of}
-use Rattle.run_tables.specs.Guards.{MayAnswer, MayBegin}
-use Rattle.run_tables.specs.Meaning.{FitsMeaning}
-use Rattle.run_tables.specs.Moves.{grant_root, refuse}
-use Rattle.run_tables.specs.Acts as acts
-use Rattle.run_tables.specs.Runs.{Run, by_right, leads_on}
-use Rattle.run_tables.proofs.Entries.{put_here, put_other, at_other_row}
-use Rattle.content_moves.specs.Moved.{BeginsTask}
-use Rattle.content_moves.proofs.Beginning.{task_begins}
-use Rattle.content_moves.proofs.Rooting.{first_fits}
-use Rattle.actor_moves.specs.Beside.{KeepsSent}
-use Rattle.actor_moves.proofs.Sent.{keeps_one, all_kept}
-use Rattle.actor_moves.proofs.Others.{all_same}
+use Rattle.table_laws.specs.Tables.{◌∈◌}
+use Rattle.table_laws.specs.Content.{given, Task as TableTask}
+use Rattle.table_laws.specs.View.{Transfer, View}
+use Rattle.table_laws.specs.Facts.{Answered, grant_of, steal_of}
+use Rattle.table_laws.specs.Guards.{MayAnswer, MayBegin}
+use Rattle.table_laws.specs.Meaning.{FitsMeaning}
+use Rattle.table_laws.specs.Moves.{grant_root, refuse}
+use Rattle.table_laws.specs.Acts as acts
+use Rattle.table_laws.specs.Runs.{Run, by_right, leads_on}
+use Rattle.table_laws.proofs.Entries.{put_here, put_other, at_other_row}
+use Rattle.content_laws.specs.Moved.{BeginsTask}
+use Rattle.content_laws.proofs.Beginning.{task_begins}
+use Rattle.content_laws.proofs.Rooting.{first_fits}
+use Rattle.move_laws.specs.Beside.{KeepsSent}
+use Rattle.move_laws.proofs.Sent.{keeps_one, all_kept}
+use Rattle.move_laws.proofs.Others.{all_same}
 use Rattle.actor_laws.specs.node_moves.Shows.{ShowsReply, PacketShown}
 use Rattle.actor_laws.proofs.node_moves.Granting.{said_put}
 use Rattle.actor_laws.proofs.node_moves.Held.{reply_put}

@@ -16,10 +16,10 @@ use Rattle.clearinghouse.specs.House.{HouseOf, members_of, name_of, name_of_enli
 use Rattle.clearinghouse.specs.Moves as moves
 use Rattle.clearinghouse.specs.Steps as house
 use Rattle.clearinghouse.specs.declared.error.HouseError.TheVariants as error
-use Rattle.run_tables.specs.View.{View}
-use Rattle.run_tables.specs.Runs.{Run}
-use Rattle.actor_moves.proofs.Others.{all_same}
-use Rattle.actor_moves.proofs.Sent.{all_kept}
+use Rattle.table_laws.specs.View.{View}
+use Rattle.table_laws.specs.Runs.{Run}
+use Rattle.move_laws.proofs.Others.{all_same}
+use Rattle.move_laws.proofs.Sent.{all_kept}
 use Rattle.actor_laws.specs.node_moves.Shows.{BodyShown, PacketShown}
 use Rattle.actor_laws.specs.house_moves.Shows.{OpenShown}
 use Rattle.actor_laws.specs.house_moves.Steps.{HouseAnswerShown, HouseStepShown, tables_meaning}

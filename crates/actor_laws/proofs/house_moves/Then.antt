@@ -3,9 +3,9 @@ use Rattle.std.proofs.Common.{◌≡◌, [], inl, inr, ⊎_elim, None, Some, ref
 use Rattle.serial_meaning.specs.Job.{JobOf}
 use Rattle.clearinghouse.specs.House.{HouseOf, name_of}
 use Rattle.clearinghouse.specs.Steps as house
-use Rattle.run_tables.specs.View.{View}
-use Rattle.actor_moves.proofs.Others.{all_same, same_then}
-use Rattle.actor_moves.proofs.Sent.{all_kept, keeps_then}
+use Rattle.table_laws.specs.View.{View}
+use Rattle.move_laws.proofs.Others.{all_same, same_then}
+use Rattle.move_laws.proofs.Sent.{all_kept, keeps_then}
 use Rattle.actor_laws.proofs.node_moves.Told.{all_shown, both_shown, none_shown, sent_early, sent_late}
 use Rattle.actor_laws.specs.house_moves.Shows.{OpenShown}
 use Rattle.actor_laws.specs.house_moves.Steps.{HouseStepShown}

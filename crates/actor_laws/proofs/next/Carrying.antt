@@ -31,8 +31,8 @@ use Rattle.sub_rules.specs.declared.change.SubError.{SubError}
 use Rattle.sub_rules.specs.declared.change.SubError.TheVariants as sub
 use Rattle.sub_rules.specs.declared.content.Content.{Content}
 use Rattle.sub_rules.proofs.Departures.{frame_number}
-use Rattle.agreement.proofs.Finding.{behind, gone, passed, put_or_there, put_stays}
-use Rattle.agreement.proofs.Granting.{granted_task}
+use Rattle.agreement_laws.proofs.Finding.{behind, gone, passed, put_or_there, put_stays}
+use Rattle.agreement_laws.proofs.Granting.{granted_task}
 use Rattle.sub_rules.proofs.Sums.{all_found}
 use Rattle.subcomputation.specs.Subs.{SubOf, name_of_sub, put_sub, sub_in, with_content}
 use Rattle.node_state.specs.Node.{NodeOf, by_state}
@@ -42,7 +42,7 @@ use Rattle.node_state.specs.declared.parts.State.TheVariants.{Member}
 use Rattle.node_core.specs.Calls.{changed, exec, exec_ready, own_turn}
 use Rattle.node_core.specs.Cases.{by_option}
 use Rattle.node_core.specs.Steps.{Answer}
-use Rattle.content_moves.proofs.Granting.{ready_found}
+use Rattle.content_laws.proofs.Granting.{ready_found}
 use Rattle.actor_laws.proofs.node_moves.Members.{own_sub}
 use Rattle.actor_laws.specs.actor_agreement.Values.{IsRight}
 use Rattle.actor_laws.specs.next.Taking.{AnswerCarries, NoFrame}

@@ -14,7 +14,7 @@ use Rattle.codec.specs.declared.body.TaskResult.{TaskResult}
 use Rattle.serial_meaning.specs.Job.{JobOf}
 use Rattle.frames.specs.Frames.{frame_in}
 use Rattle.victim_records.specs.Records.{record_in, without_record}
-use Rattle.agreement.proofs.Finding.{gone, put_or_there}
+use Rattle.agreement_laws.proofs.Finding.{gone, put_or_there}
 use Rattle.sub_rules.specs.Changes.{arrives, closed, filled_in}
 use Rattle.sub_rules.specs.declared.content.Content.{Content}
 use Rattle.subcomputation.specs.Subs.{SubOf, has_record, host_in, name_of_sub, sub_in, with_content}
@@ -23,8 +23,8 @@ use Rattle.node_state.specs.Node.{NodeOf}
 use Rattle.node_core.specs.Cases.{returned}
 use Rattle.node_core.specs.Moves.{closes, closes_by}
 use Rattle.node_core.specs.Steps.{for_some}
-use Rattle.run_tables.proofs.Among.{found_among}
-use Rattle.content_moves.proofs.Apart.{own_grant}
+use Rattle.table_laws.proofs.Among.{found_among}
+use Rattle.content_laws.proofs.Apart.{own_grant}
 use Rattle.actor_laws.proofs.node_moves.Hearing.{passes_test, unfound}
 use Rattle.actor_laws.specs.standing.Standing.{HaveOneHost}
 use Rattle.actor_laws.specs.next.Taking.{AnswerCloses, NoRecord}

@@ -26,8 +26,8 @@ use Rattle.subcomputation.specs.Subs.{SubOf, has_record, host_in, name_of_sub, s
 use Rattle.subcomputation.proofs.Others.{found_by}
 use Rattle.node_state.specs.Node.{NodeOf, hop_in}
 use Rattle.node_core.specs.Cases.{is_above}
-use Rattle.run_tables.specs.Tables.{◌∈◌}
-use Rattle.run_tables.proofs.Among.{of_each}
+use Rattle.table_laws.specs.Tables.{◌∈◌}
+use Rattle.table_laws.proofs.Among.{of_each}
 use Rattle.actor_laws.proofs.node_moves.Hearing.{passes_test}
 use Rattle.actor_laws.specs.actor_agreement.Values.{IsRight}
 use Rattle.actor_laws.specs.next.Taking.{AreForeign, NoRecord, TakesOffer}

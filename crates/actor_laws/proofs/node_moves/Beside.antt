@@ -3,11 +3,11 @@ use Rattle.std.proofs.Common.{◌≡◌, ℕ, inl, inr, ⊎_elim, Option, refl, 
 use Rattle.node_state.specs.Node.{NodeOf}
 use Rattle.node_state.specs.declared.parts.State.{State}
 use Rattle.node_core.specs.Steps.{StepOf, quiet, ◌then◌}
-use Rattle.run_tables.specs.View.{Transfer, View}
-use Rattle.run_tables.specs.View as tables
-use Rattle.run_tables.specs.Meaning.{Meaning}
-use Rattle.actor_moves.specs.Beside.{SameAt, KeepsSent, MovedBy, unmoved, moved}
-use Rattle.actor_moves.proofs.Sent.{keeps_all}
+use Rattle.table_laws.specs.View.{Transfer, View}
+use Rattle.table_laws.specs.View as tables
+use Rattle.table_laws.specs.Meaning.{Meaning}
+use Rattle.move_laws.specs.Beside.{SameAt, KeepsSent, MovedBy, unmoved, moved}
+use Rattle.move_laws.proofs.Sent.{keeps_all}
 use Rattle.actor_laws.specs.node_moves.Shows.{ShowsState, NodeShown}
 use Rattle.actor_laws.specs.node_moves.Steps.{StepShown}
 use Rattle.actor_laws.proofs.node_moves.Told.{packet_kept, all_shown, both_shown, sent_early, sent_late, fills_on}

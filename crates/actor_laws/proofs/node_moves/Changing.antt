@@ -14,8 +14,8 @@ use Rattle.codec.specs.declared.body.Roster.{Roster}
 use Rattle.serial_meaning.specs.Job.{JobOf}
 use Rattle.sub_rules.specs.Carrying.{exec_content as carried_out}
 use Rattle.saved_values.specs.Saved.{known_by}
-use Rattle.agreement.specs.Agreement.{AllSavedAgree}
-use Rattle.agreement.proofs.Saving.{known_agrees}
+use Rattle.agreement_laws.specs.Agreement.{AllSavedAgree}
+use Rattle.agreement_laws.proofs.Saving.{known_agrees}
 use Rattle.sub_rules.specs.Resuming.{resumed}
 use Rattle.sub_rules.specs.declared.change.ContentChange.{ContentChange}
 use Rattle.sub_rules.specs.declared.change.Filling.{Filling}
@@ -31,23 +31,23 @@ use Rattle.node_core.specs.Cases.{by_option}
 use Rattle.node_core.specs.Moves.{aborts, changes, result_by, results}
 use Rattle.node_core.specs.Steps.{Refused, fills_of, sends, ◌then◌}
 use Rattle.node_core.specs.declared.error.NodeError.TheVariants as error
-use Rattle.run_tables.specs.Tables.{◌∈◌}
-use Rattle.run_tables.specs.Content as tables
-use Rattle.run_tables.specs.Content.{filled}
-use Rattle.run_tables.specs.View.{Result as Told, View}
-use Rattle.run_tables.specs.Facts.{Live}
-use Rattle.run_tables.specs.Meaning.{Meaning}
-use Rattle.run_tables.specs.Program.{program_meaning}
-use Rattle.run_tables.specs.Moves.{alter}
-use Rattle.run_tables.specs.Runs.{Run}
-use Rattle.run_tables.proofs.Lists.{early}
-use Rattle.content_moves.specs.Moved.{IsKept, IsMove, fill_of, grants_of_records, told, told_by}
-use Rattle.content_moves.proofs.Carrying.{Comes, comes_of, ended_moves}
-use Rattle.content_moves.proofs.Evaluated.{IsCarried, carried}
-use Rattle.content_moves.proofs.Keeping.{turn_kept}
-use Rattle.content_moves.proofs.Orders.{put_order}
-use Rattle.actor_moves.specs.Beside.{KeepsSent, unmoved, moved}
-use Rattle.actor_moves.proofs.Sent.{keeps_one, of_alter}
+use Rattle.table_laws.specs.Tables.{◌∈◌}
+use Rattle.table_laws.specs.Content as tables
+use Rattle.table_laws.specs.Content.{filled}
+use Rattle.table_laws.specs.View.{Result as Told, View}
+use Rattle.table_laws.specs.Facts.{Live}
+use Rattle.table_laws.specs.Meaning.{Meaning}
+use Rattle.table_laws.specs.Program.{program_meaning}
+use Rattle.table_laws.specs.Moves.{alter}
+use Rattle.table_laws.specs.Runs.{Run}
+use Rattle.table_laws.proofs.Lists.{early}
+use Rattle.content_laws.specs.Moved.{IsKept, IsMove, fill_of, grants_of_records, told, told_by}
+use Rattle.content_laws.proofs.Carrying.{Comes, comes_of, ended_moves}
+use Rattle.content_laws.proofs.Evaluated.{IsCarried, carried}
+use Rattle.content_laws.proofs.Keeping.{turn_kept}
+use Rattle.content_laws.proofs.Orders.{put_order}
+use Rattle.move_laws.specs.Beside.{KeepsSent, unmoved, moved}
+use Rattle.move_laws.proofs.Sent.{keeps_one, of_alter}
 use Rattle.ids.specs.declared.work.Frame.{Frame}
 use Rattle.frames.specs.Frames.{frame_in}
 use Rattle.sub_rules.specs.Content.{ready}

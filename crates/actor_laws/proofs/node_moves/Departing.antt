@@ -12,22 +12,22 @@ use Rattle.node_state.specs.Node.{NodeOf}
 use Rattle.node_state.specs.declared.parts.State.TheVariants.{Leaving, Member}
 use Rattle.node_core.specs.Calls as calls
 use Rattle.node_core.specs.Steps.{sends}
-use Rattle.run_tables.specs.Tables.{◌∈◌}
-use Rattle.run_tables.specs.View.{Transfer, Sub, Works, View}
-use Rattle.run_tables.specs.View as tables
-use Rattle.run_tables.specs.Facts.{offer_of}
-use Rattle.run_tables.specs.Guards.{IsOffer, MayFreeze}
-use Rattle.run_tables.specs.Meaning.{Meaning}
-use Rattle.run_tables.specs.Moves.{freeze}
-use Rattle.run_tables.specs.Acts as acts
-use Rattle.run_tables.specs.Runs.{Run}
-use Rattle.run_tables.proofs.Lists.{early, either, later}
-use Rattle.run_tables.proofs.Among.{found_among}
-use Rattle.run_tables.proofs.RostersReached.{rosters_reached}
-use Rattle.run_tables.proofs.ValuesKept.{run_reached}
-use Rattle.run_tables.proofs.Entries.{put_here}
-use Rattle.actor_moves.specs.Beside.{KeepsSent, unmoved, moved}
-use Rattle.actor_moves.proofs.Sent.{keeps_one, of_act}
+use Rattle.table_laws.specs.Tables.{◌∈◌}
+use Rattle.table_laws.specs.View.{Transfer, Sub, Works, View}
+use Rattle.table_laws.specs.View as tables
+use Rattle.table_laws.specs.Facts.{offer_of}
+use Rattle.table_laws.specs.Guards.{IsOffer, MayFreeze}
+use Rattle.table_laws.specs.Meaning.{Meaning}
+use Rattle.table_laws.specs.Moves.{freeze}
+use Rattle.table_laws.specs.Acts as acts
+use Rattle.table_laws.specs.Runs.{Run}
+use Rattle.table_laws.proofs.Lists.{early, either, later}
+use Rattle.table_laws.proofs.Among.{found_among}
+use Rattle.table_laws.proofs.RostersReached.{rosters_reached}
+use Rattle.table_laws.proofs.ValuesKept.{run_reached}
+use Rattle.table_laws.proofs.Entries.{put_here}
+use Rattle.move_laws.specs.Beside.{KeepsSent, unmoved, moved}
+use Rattle.move_laws.proofs.Sent.{keeps_one, of_act}
 use Rattle.actor_laws.specs.node_moves.Shows.{pending_of, ShowsSub, PartsShown, NodeShown}
 use Rattle.actor_laws.specs.node_moves.Steps.{AllShown, IsSent, StepShown}
 use Rattle.actor_laws.proofs.node_moves.Held.{HeldAt, held_at, found_sub}

@@ -14,7 +14,7 @@ use Rattle.sub_rules.specs.Changes.{granted_out}
 use Rattle.sub_rules.specs.Content.{Ready, ready_in, task_of as task_in}
 use Rattle.steal_protocol.specs.Replies.{by_order, by_reply, name_of_reply, put_reply, reply_in}
 use Rattle.steal_protocol.specs.declared.replies.Reply.{Reply}
-use Rattle.content_moves.proofs.Orders.{put_order}
+use Rattle.content_laws.proofs.Orders.{put_order}
 use Rattle.subcomputation.specs.Subs.{SubOf, name_of_sub, sub_in, with_content}
 use Rattle.node_state.specs.Node.{NodeOf}
 use Rattle.node_state.specs.Posts.{ReadyFrame, ready_at}
@@ -23,24 +23,24 @@ use Rattle.node_core.specs.Cases.{Candidate, candidate_in, served, stolen}
 use Rattle.node_core.specs.Moves.{packet, refuses, grants}
 use Rattle.node_core.specs.Steps.{Refused, Does, Ignored, sends}
 use Rattle.node_core.specs.declared.error.NodeError.TheVariants as error
-use Rattle.agreement.proofs.Finding.{put_or_there}
-use Rattle.run_tables.specs.Tables.{◌∈◌}
-use Rattle.run_tables.specs.Content.{regrant}
-use Rattle.run_tables.specs.View.{Transfer, Sub, Works, View}
-use Rattle.run_tables.specs.View as tables
-use Rattle.run_tables.specs.Facts.{Live, Answered, steal_of, grant_of}
-use Rattle.run_tables.specs.Guards.{MayAnswer}
-use Rattle.run_tables.specs.Meaning.{Meaning}
-use Rattle.run_tables.specs.Moves.{grant_frame, refuse}
-use Rattle.run_tables.specs.Acts as acts
-use Rattle.run_tables.specs.Runs.{Run}
-use Rattle.run_tables.proofs.ValuesKept.{run_reached}
-use Rattle.run_tables.proofs.Entries.{put_here}
-use Rattle.content_moves.specs.Moved.{IsGrantMove, next_grant}
-use Rattle.content_moves.proofs.Granting.{grant_moves}
-use Rattle.content_moves.proofs.Keeping.{grant_kept}
-use Rattle.actor_moves.specs.Beside.{KeepsSent, unmoved, moved}
-use Rattle.actor_moves.proofs.Sent.{keeps_one, of_act, of_grant}
+use Rattle.agreement_laws.proofs.Finding.{put_or_there}
+use Rattle.table_laws.specs.Tables.{◌∈◌}
+use Rattle.table_laws.specs.Content.{regrant}
+use Rattle.table_laws.specs.View.{Transfer, Sub, Works, View}
+use Rattle.table_laws.specs.View as tables
+use Rattle.table_laws.specs.Facts.{Live, Answered, steal_of, grant_of}
+use Rattle.table_laws.specs.Guards.{MayAnswer}
+use Rattle.table_laws.specs.Meaning.{Meaning}
+use Rattle.table_laws.specs.Moves.{grant_frame, refuse}
+use Rattle.table_laws.specs.Acts as acts
+use Rattle.table_laws.specs.Runs.{Run}
+use Rattle.table_laws.proofs.ValuesKept.{run_reached}
+use Rattle.table_laws.proofs.Entries.{put_here}
+use Rattle.content_laws.specs.Moved.{IsGrantMove, next_grant}
+use Rattle.content_laws.proofs.Granting.{grant_moves}
+use Rattle.content_laws.proofs.Keeping.{grant_kept}
+use Rattle.move_laws.specs.Beside.{KeepsSent, unmoved, moved}
+use Rattle.move_laws.proofs.Sent.{keeps_one, of_act, of_grant}
 use Rattle.actor_laws.specs.node_moves.Shows.{IsShown, ShowsReply, PacketShown, KeepsRoster, PartsShown, NodeShown}
 use Rattle.actor_laws.specs.node_moves.Steps.{StepShown, AnswerShown}
 use Rattle.actor_laws.proofs.node_moves.Held.{HeldAt, held_at, shows_put, reply_put}

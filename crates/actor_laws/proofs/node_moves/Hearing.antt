@@ -23,28 +23,28 @@ use Rattle.node_state.specs.declared.parts.State.TheVariants.{Member}
 use Rattle.node_core.specs.Cases.{aborted, acknowledged, by_option, is_finished, refused}
 use Rattle.node_core.specs.Moves.{aborts, changes, closes, closes_by, drops, packet, result_ack, save_of}
 use Rattle.node_core.specs.Steps.{Does, Ignored, StepOf, for_some, quiet, sends, ◌then◌}
-use Rattle.run_tables.specs.Tables.{◌∈◌}
-use Rattle.run_tables.specs.View.{Sub, View}
-use Rattle.run_tables.specs.Facts.{Live, RecordOf, result_to, steal_of}
-use Rattle.run_tables.specs.Guards.{Drops, MaySettle, by_settled}
-use Rattle.run_tables.specs.Meaning.{Meaning}
-use Rattle.run_tables.specs.Moves.{remove, settle, unpend}
-use Rattle.run_tables.specs.Acts as acts
-use Rattle.run_tables.specs.Runs.{Run}
-use Rattle.run_tables.proofs.Lists.{early}
-use Rattle.run_tables.proofs.Among.{found_among}
-use Rattle.run_tables.proofs.RequestsReached.{requests_reached}
-use Rattle.run_tables.proofs.ValuesKept.{run_reached}
-use Rattle.run_tables.proofs.Entries.{put_here}
-use Rattle.content_moves.specs.Shown.{outcome_number}
-use Rattle.content_moves.specs.Moved.{IsMove, grants_of_records}
-use Rattle.content_moves.proofs.Apart.{own_grant}
-use Rattle.content_moves.proofs.Carrying.{result_moves}
-use Rattle.content_moves.proofs.Keeping.{result_kept}
-use Rattle.content_moves.proofs.Orders.{without_order}
-use Rattle.content_moves.proofs.Records.{listed_shown, record_there}
-use Rattle.actor_moves.specs.Beside.{KeepsSent, unmoved, moved}
-use Rattle.actor_moves.proofs.Sent.{keeps_one, of_act}
+use Rattle.table_laws.specs.Tables.{◌∈◌}
+use Rattle.table_laws.specs.View.{Sub, View}
+use Rattle.table_laws.specs.Facts.{Live, RecordOf, result_to, steal_of}
+use Rattle.table_laws.specs.Guards.{Drops, MaySettle, by_settled}
+use Rattle.table_laws.specs.Meaning.{Meaning}
+use Rattle.table_laws.specs.Moves.{remove, settle, unpend}
+use Rattle.table_laws.specs.Acts as acts
+use Rattle.table_laws.specs.Runs.{Run}
+use Rattle.table_laws.proofs.Lists.{early}
+use Rattle.table_laws.proofs.Among.{found_among}
+use Rattle.table_laws.proofs.RequestsReached.{requests_reached}
+use Rattle.table_laws.proofs.ValuesKept.{run_reached}
+use Rattle.table_laws.proofs.Entries.{put_here}
+use Rattle.content_laws.specs.Shown.{outcome_number}
+use Rattle.content_laws.specs.Moved.{IsMove, grants_of_records}
+use Rattle.content_laws.proofs.Apart.{own_grant}
+use Rattle.content_laws.proofs.Carrying.{result_moves}
+use Rattle.content_laws.proofs.Keeping.{result_kept}
+use Rattle.content_laws.proofs.Orders.{without_order}
+use Rattle.content_laws.proofs.Records.{listed_shown, record_there}
+use Rattle.move_laws.specs.Beside.{KeepsSent, unmoved, moved}
+use Rattle.move_laws.proofs.Sent.{keeps_one, of_act}
 use Rattle.actor_laws.specs.node_moves.Shows.{pending_of, PacketShown, RefusalShown, PartsShown, NodeShown}
 use Rattle.actor_laws.specs.node_moves.Steps.{AllShown, StepShown, AnswerShown}
 use Rattle.actor_laws.proofs.node_moves.Held.{HeldAt, held_at, found_sub, shows_gone}

@@ -3,18 +3,18 @@ use Rattle.std.proofs.Common.{◌≡◌, ℕ, Bool, true, false, nat_eq, ◌&&�
 use Rattle.ids.specs.Names.{Grant}
 use Rattle.ids.specs.Naming.{name_of_grant}
 use Rattle.ids.proofs.Replacing.{put_is_found}
-use Rattle.agreement.proofs.Finding.{gone, stays, put_stays}
+use Rattle.agreement_laws.proofs.Finding.{gone, stays, put_stays}
 use Rattle.steal_protocol.specs.Replies.{name_of_reply, put_reply, reply_in}
 use Rattle.steal_protocol.specs.declared.replies.Reply.{Reply}
 use Rattle.subcomputation.specs.Subs.{SubOf, name_of_sub, put_sub, sub_in, without_sub}
 use Rattle.node_state.specs.Node.{hop_in, name_of_seen, put_seen}
 use Rattle.node_state.specs.declared.parts.Seen.{Seen}
 use Rattle.node_state.proofs.Posting.{same_name, same_names}
-use Rattle.run_tables.specs.Tables.{put_at, put_grant, same_grant}
-use Rattle.run_tables.specs.View.{Sub}
-use Rattle.run_tables.specs.View as tables
-use Rattle.run_tables.proofs.Lists.{grant_or, same_or}
-use Rattle.run_tables.proofs.Entries.{at_here, at_other_slot}
+use Rattle.table_laws.specs.Tables.{put_at, put_grant, same_grant}
+use Rattle.table_laws.specs.View.{Sub}
+use Rattle.table_laws.specs.View as tables
+use Rattle.table_laws.proofs.Lists.{grant_or, same_or}
+use Rattle.table_laws.proofs.Entries.{at_here, at_other_slot}
 use Rattle.actor_laws.specs.node_moves.Shows.{IsShown, ShowsSub, IsReply, ShowsReply}
 
 module _ {X : Type 0} where

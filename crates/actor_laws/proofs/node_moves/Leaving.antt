@@ -17,25 +17,25 @@ use Rattle.node_state.specs.declared.parts.Confirmed.{Confirmed}
 use Rattle.node_state.specs.declared.parts.State.TheVariants.{Leaving}
 use Rattle.node_core.specs.Moves.{awaited, given_by, is_awaited, is_empty, lacks, leave, leaves}
 use Rattle.node_core.specs.Steps.{sends}
-use Rattle.run_tables.specs.Tables.{◌∈◌}
-use Rattle.run_tables.specs.View.{Transfer, Sub, House, Works, View}
-use Rattle.run_tables.specs.View as tables
-use Rattle.run_tables.specs.Facts.{Lost, Said}
-use Rattle.run_tables.specs.Guards.{Free, taken, thief_lost, thief_left, self_lost, MayLeave}
-use Rattle.run_tables.specs.Meaning.{Meaning}
-use Rattle.run_tables.specs.Moves as moves
-use Rattle.run_tables.specs.Acts as acts
-use Rattle.run_tables.specs.Runs.{Run}
-use Rattle.run_tables.proofs.Among.{found_among}
-use Rattle.run_tables.proofs.HomesKept.{homes_reached}
-use Rattle.run_tables.proofs.KnownKept.{known_reached, unheard}
-use Rattle.run_tables.proofs.NamesReached.{names_reached}
-use Rattle.run_tables.proofs.RequestsReached.{requests_reached}
-use Rattle.run_tables.proofs.RostersReached.{rosters_reached}
-use Rattle.run_tables.proofs.ValuesKept.{run_reached}
-use Rattle.actor_moves.specs.Beside.{KeepsSent, MovedBy, unmoved, moved}
-use Rattle.actor_moves.specs.Listed.{status_of}
-use Rattle.actor_moves.proofs.Sent.{keeps_all, of_act, of_mark_lost}
+use Rattle.table_laws.specs.Tables.{◌∈◌}
+use Rattle.table_laws.specs.View.{Transfer, Sub, House, Works, View}
+use Rattle.table_laws.specs.View as tables
+use Rattle.table_laws.specs.Facts.{Lost, Said}
+use Rattle.table_laws.specs.Guards.{Free, taken, thief_lost, thief_left, self_lost, MayLeave}
+use Rattle.table_laws.specs.Meaning.{Meaning}
+use Rattle.table_laws.specs.Moves as moves
+use Rattle.table_laws.specs.Acts as acts
+use Rattle.table_laws.specs.Runs.{Run}
+use Rattle.table_laws.proofs.Among.{found_among}
+use Rattle.table_laws.proofs.HomesKept.{homes_reached}
+use Rattle.table_laws.proofs.KnownKept.{known_reached, unheard}
+use Rattle.table_laws.proofs.NamesReached.{names_reached}
+use Rattle.table_laws.proofs.RequestsReached.{requests_reached}
+use Rattle.table_laws.proofs.RostersReached.{rosters_reached}
+use Rattle.table_laws.proofs.ValuesKept.{run_reached}
+use Rattle.move_laws.specs.Beside.{KeepsSent, MovedBy, unmoved, moved}
+use Rattle.move_laws.specs.Listed.{status_of}
+use Rattle.move_laws.proofs.Sent.{keeps_all, of_act, of_mark_lost}
 use Rattle.actor_laws.specs.node_moves.Shows.{mode_of, IsReply, ShowsGiven, ShowsReply, ShowsSub, KeepsRoster, PartsShown, NodeShown}
 use Rattle.actor_laws.specs.node_moves.Steps.{StepShown}
 use Rattle.actor_laws.proofs.node_moves.Told.{packet_kept, none_shown, one_shown}

@@ -11,7 +11,7 @@ use Rattle.ids.specs.declared.member.Status.{Status}
 use Rattle.ids.specs.declared.member.Status.TheVariants as member
 use Rattle.ids.proofs.NameOrder.{exact_names}
 use Rattle.ids.proofs.Replacing.{put_is_found}
-use Rattle.agreement.proofs.Finding.{put_stays}
+use Rattle.agreement_laws.proofs.Finding.{put_stays}
 use Rattle.codec.specs.declared.body.OfferAck.{OfferAck}
 use Rattle.codec.specs.declared.body.Roster.{Roster}
 use Rattle.codec.specs.declared.body.Steal.{Steal}
@@ -24,20 +24,20 @@ use Rattle.node_state.proofs.Posting.{same_names}
 use Rattle.node_core.specs.Cases.{by_status, confirms, is_released, leaving_roster, stolen, taken}
 use Rattle.node_core.specs.Moves.{awaited, is_empty, leaves}
 use Rattle.node_core.specs.Steps.{Does, Ignored, quiet, sends}
-use Rattle.run_tables.specs.Tables.{◌∈◌}
-use Rattle.run_tables.specs.View.{Works, View}
-use Rattle.run_tables.specs.View as tables
-use Rattle.run_tables.specs.Facts.{ack_of, offer_of, steal_of}
-use Rattle.run_tables.specs.Guards.{MayAdopt, MayRelease}
-use Rattle.run_tables.specs.Meaning.{Meaning}
-use Rattle.run_tables.specs.Moves.{adopt, remove}
-use Rattle.run_tables.specs.Acts as acts
-use Rattle.run_tables.specs.Runs.{Run}
-use Rattle.run_tables.proofs.Lists.{same_or}
-use Rattle.run_tables.proofs.Entries.{put_here}
-use Rattle.content_moves.proofs.Orders.{without_order}
-use Rattle.actor_moves.specs.Beside.{KeepsSent, unmoved, moved}
-use Rattle.actor_moves.proofs.Sent.{keeps_one, of_act, runs_on}
+use Rattle.table_laws.specs.Tables.{◌∈◌}
+use Rattle.table_laws.specs.View.{Works, View}
+use Rattle.table_laws.specs.View as tables
+use Rattle.table_laws.specs.Facts.{ack_of, offer_of, steal_of}
+use Rattle.table_laws.specs.Guards.{MayAdopt, MayRelease}
+use Rattle.table_laws.specs.Meaning.{Meaning}
+use Rattle.table_laws.specs.Moves.{adopt, remove}
+use Rattle.table_laws.specs.Acts as acts
+use Rattle.table_laws.specs.Runs.{Run}
+use Rattle.table_laws.proofs.Lists.{same_or}
+use Rattle.table_laws.proofs.Entries.{put_here}
+use Rattle.content_laws.proofs.Orders.{without_order}
+use Rattle.move_laws.specs.Beside.{KeepsSent, unmoved, moved}
+use Rattle.move_laws.proofs.Sent.{keeps_one, of_act, runs_on}
 use Rattle.actor_laws.specs.node_moves.Shows.{RosterShown, PartsShown, NodeShown}
 use Rattle.actor_laws.specs.node_moves.Steps.{StepShown, AnswerShown}
 use Rattle.actor_laws.proofs.node_moves.Held.{HeldAt, held_at, shows_gone}

@@ -20,15 +20,15 @@ use Rattle.node_state.specs.Posts.{ReadyFrame, ready_at, ready_of_sub}
 use Rattle.node_state.specs.declared.parts.State.TheVariants.{Member}
 use Rattle.node_state.proofs.Kept.{member_holds}
 use Rattle.node_state.proofs.Posting.{same_names}
-use Rattle.run_tables.specs.View.{Works, View}
-use Rattle.run_tables.specs.View as tables
-use Rattle.run_tables.specs.Facts.{Answered, RecordOf}
-use Rattle.run_tables.specs.Acts.{ReachedInTables}
-use Rattle.run_tables.proofs.NamesReached.{names_reached}
-use Rattle.run_tables.proofs.Sent.{unminted}
-use Rattle.content_moves.specs.Moved.{next_grant}
-use Rattle.content_moves.proofs.Records.{record_shown}
-use Rattle.actor_moves.specs.Listed.{status_of}
+use Rattle.table_laws.specs.View.{Works, View}
+use Rattle.table_laws.specs.View as tables
+use Rattle.table_laws.specs.Facts.{Answered, RecordOf}
+use Rattle.table_laws.specs.Acts.{ReachedInTables}
+use Rattle.table_laws.proofs.NamesReached.{names_reached}
+use Rattle.table_laws.proofs.Sent.{unminted}
+use Rattle.content_laws.specs.Moved.{next_grant}
+use Rattle.content_laws.proofs.Records.{record_shown}
+use Rattle.move_laws.specs.Listed.{status_of}
 use Rattle.actor_laws.specs.node_moves.Shows.{mode_of, ShowsReply, KeepsRoster, PartsShown, NodeShown}
 use Rattle.actor_laws.proofs.node_moves.Held.{HeldAt}
 

@@ -16,19 +16,19 @@ use Rattle.node_state.specs.declared.parts.State.TheVariants.{Joining, Member}
 use Rattle.node_core.specs.Cases.{by_status, is_above, joins, leaving_offered, member_offered}
 use Rattle.node_core.specs.Moves.{accepts, acknowledges, recovers}
 use Rattle.node_core.specs.Steps.{Does, Ignored, quiet, sends, ◌then◌}
-use Rattle.run_tables.specs.Tables.{◌∈◌}
-use Rattle.run_tables.specs.View.{Transfer, Sub, Works, View}
-use Rattle.run_tables.specs.View as tables
-use Rattle.run_tables.specs.Facts.{Above, ack_of}
-use Rattle.run_tables.specs.Guards.{MayTake}
-use Rattle.run_tables.specs.Meaning.{Meaning}
-use Rattle.run_tables.specs.Moves.{acknowledge, admit, adopt, take}
-use Rattle.run_tables.specs.Acts as acts
-use Rattle.run_tables.specs.Runs.{Run}
-use Rattle.run_tables.proofs.Entries.{put_here}
-use Rattle.content_moves.proofs.Orders.{put_order}
-use Rattle.actor_moves.specs.Beside.{KeepsSent, unmoved, moved}
-use Rattle.actor_moves.proofs.Sent.{keeps_one, of_act, runs_on}
+use Rattle.table_laws.specs.Tables.{◌∈◌}
+use Rattle.table_laws.specs.View.{Transfer, Sub, Works, View}
+use Rattle.table_laws.specs.View as tables
+use Rattle.table_laws.specs.Facts.{Above, ack_of}
+use Rattle.table_laws.specs.Guards.{MayTake}
+use Rattle.table_laws.specs.Meaning.{Meaning}
+use Rattle.table_laws.specs.Moves.{acknowledge, admit, adopt, take}
+use Rattle.table_laws.specs.Acts as acts
+use Rattle.table_laws.specs.Runs.{Run}
+use Rattle.table_laws.proofs.Entries.{put_here}
+use Rattle.content_laws.proofs.Orders.{put_order}
+use Rattle.move_laws.specs.Beside.{KeepsSent, unmoved, moved}
+use Rattle.move_laws.proofs.Sent.{keeps_one, of_act, runs_on}
 use Rattle.actor_laws.specs.node_moves.Shows.{mode_of, IsShown, OfferShown, RosterShown, PartsShown, NodeShown}
 use Rattle.actor_laws.specs.node_moves.Steps.{StepShown, AnswerShown}
 use Rattle.actor_laws.proofs.node_moves.Held.{shows_put, seen_put}

@@ -18,32 +18,32 @@ use Rattle.node_state.specs.Node.{NodeOf}
 use Rattle.node_state.specs.declared.parts.State.TheVariants.{Member}
 use Rattle.node_core.specs.Moves.{aborts, packet, recovers}
 use Rattle.node_core.specs.Steps.{StepOf}
-use Rattle.run_tables.specs.Tables.{◌∈◌}
-use Rattle.run_tables.specs.Content.{rehost}
-use Rattle.run_tables.specs.View.{Sub, Works, View}
-use Rattle.run_tables.specs.View as tables
-use Rattle.run_tables.specs.Facts.{Live, Resolves}
-use Rattle.run_tables.specs.Guards.{by_verdict}
-use Rattle.run_tables.specs.Meaning.{Meaning}
-use Rattle.run_tables.specs.Moves.{alter, mark_lost, remove}
-use Rattle.run_tables.specs.Acts as acts
-use Rattle.run_tables.specs.Runs.{Run}
-use Rattle.run_tables.proofs.HeirsKept.{heirs_reached}
-use Rattle.run_tables.proofs.Lists.{early}
-use Rattle.run_tables.proofs.RostersReached.{rosters_reached}
-use Rattle.run_tables.proofs.ValuesKept.{run_reached}
-use Rattle.content_moves.specs.Moved.{IsMove, fill_of, told, grants_of_records as grants_in}
-use Rattle.content_moves.proofs.Apart.{own_grant}
-use Rattle.content_moves.proofs.Granting.{redo_moves}
-use Rattle.content_moves.proofs.Keeping.{parent_kept, thief_kept, redo_kept}
-use Rattle.content_moves.proofs.Orders.{put_order, without_order}
-use Rattle.content_moves.proofs.Records.{listed_shown}
-use Rattle.content_moves.proofs.Renaming.{parent_shown, thief_shown}
-use Rattle.actor_moves.specs.Beside.{KeepsSent, unmoved, moved}
-use Rattle.actor_moves.specs.Listed.{DeadEnd, MarkedLost}
-use Rattle.actor_moves.proofs.MarkingLost.{marked_lost}
-use Rattle.actor_moves.proofs.Resolving.{dead_end, resolved}
-use Rattle.actor_moves.proofs.Sent.{keeps_one, keeps_then, of_act, of_alter, of_mark_lost, runs_on}
+use Rattle.table_laws.specs.Tables.{◌∈◌}
+use Rattle.table_laws.specs.Content.{rehost}
+use Rattle.table_laws.specs.View.{Sub, Works, View}
+use Rattle.table_laws.specs.View as tables
+use Rattle.table_laws.specs.Facts.{Live, Resolves}
+use Rattle.table_laws.specs.Guards.{by_verdict}
+use Rattle.table_laws.specs.Meaning.{Meaning}
+use Rattle.table_laws.specs.Moves.{alter, mark_lost, remove}
+use Rattle.table_laws.specs.Acts as acts
+use Rattle.table_laws.specs.Runs.{Run}
+use Rattle.table_laws.proofs.HeirsKept.{heirs_reached}
+use Rattle.table_laws.proofs.Lists.{early}
+use Rattle.table_laws.proofs.RostersReached.{rosters_reached}
+use Rattle.table_laws.proofs.ValuesKept.{run_reached}
+use Rattle.content_laws.specs.Moved.{IsMove, fill_of, told, grants_of_records as grants_in}
+use Rattle.content_laws.proofs.Apart.{own_grant}
+use Rattle.content_laws.proofs.Granting.{redo_moves}
+use Rattle.content_laws.proofs.Keeping.{parent_kept, thief_kept, redo_kept}
+use Rattle.content_laws.proofs.Orders.{put_order, without_order}
+use Rattle.content_laws.proofs.Records.{listed_shown}
+use Rattle.content_laws.proofs.Renaming.{parent_shown, thief_shown}
+use Rattle.move_laws.specs.Beside.{KeepsSent, unmoved, moved}
+use Rattle.move_laws.specs.Listed.{DeadEnd, MarkedLost}
+use Rattle.move_laws.proofs.MarkingLost.{marked_lost}
+use Rattle.move_laws.proofs.Resolving.{dead_end, resolved}
+use Rattle.move_laws.proofs.Sent.{keeps_one, keeps_then, of_act, of_alter, of_mark_lost, runs_on}
 use Rattle.actor_laws.specs.node_moves.Shows.{IsShown, PartsShown, NodeShown}
 use Rattle.actor_laws.specs.node_moves.Steps.{StepShown}
 use Rattle.actor_laws.proofs.node_moves.Held.{HeldAt, held_at, shows_gone, shows_put, shows_swap}

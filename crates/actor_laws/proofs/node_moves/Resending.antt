@@ -18,23 +18,23 @@ use Rattle.node_core.specs.Calls as calls
 use Rattle.node_core.specs.Moves.{Given, all_given, awaited, beat, given, given_by, grants_in, leaves, name_of_given, results, with_given}
 use Rattle.node_core.specs.Steps.{Does, Refused, sends}
 use Rattle.node_core.specs.declared.error.NodeError.TheVariants as error
-use Rattle.run_tables.specs.Tables.{◌∈◌, put_grant}
-use Rattle.run_tables.specs.View.{Sub, Works, View}
-use Rattle.run_tables.specs.View as tables
-use Rattle.run_tables.specs.Facts.{Live}
-use Rattle.run_tables.specs.Meaning.{Meaning}
-use Rattle.run_tables.specs.Moves.{alter}
-use Rattle.run_tables.specs.Runs.{Run}
-use Rattle.run_tables.proofs.Among.{put_among, filtered, mapped, of_each}
-use Rattle.run_tables.proofs.HomesKept.{homes_reached}
-use Rattle.run_tables.proofs.Lists.{early, either, grant_or}
-use Rattle.run_tables.proofs.NamesReached.{names_reached}
-use Rattle.run_tables.proofs.RequestsReached.{requests_reached}
-use Rattle.run_tables.proofs.ValuesKept.{run_reached}
-use Rattle.content_moves.specs.Moved.{IsMove, fill_of, told}
-use Rattle.content_moves.proofs.Granting.{again_moves}
-use Rattle.actor_moves.specs.Beside.{KeepsSent, unmoved, moved}
-use Rattle.actor_moves.proofs.Sent.{keeps_one, of_alter, runs_on}
+use Rattle.table_laws.specs.Tables.{◌∈◌, put_grant}
+use Rattle.table_laws.specs.View.{Sub, Works, View}
+use Rattle.table_laws.specs.View as tables
+use Rattle.table_laws.specs.Facts.{Live}
+use Rattle.table_laws.specs.Meaning.{Meaning}
+use Rattle.table_laws.specs.Moves.{alter}
+use Rattle.table_laws.specs.Runs.{Run}
+use Rattle.table_laws.proofs.Among.{put_among, filtered, mapped, of_each}
+use Rattle.table_laws.proofs.HomesKept.{homes_reached}
+use Rattle.table_laws.proofs.Lists.{early, either, grant_or}
+use Rattle.table_laws.proofs.NamesReached.{names_reached}
+use Rattle.table_laws.proofs.RequestsReached.{requests_reached}
+use Rattle.table_laws.proofs.ValuesKept.{run_reached}
+use Rattle.content_laws.specs.Moved.{IsMove, fill_of, told}
+use Rattle.content_laws.proofs.Granting.{again_moves}
+use Rattle.move_laws.specs.Beside.{KeepsSent, unmoved, moved}
+use Rattle.move_laws.proofs.Sent.{keeps_one, of_alter, runs_on}
 use Rattle.actor_laws.specs.node_moves.Shows.{mode_of, pending_of, IsShown, ShowsSub, PartsShown, NodeShown}
 use Rattle.actor_laws.specs.node_moves.Steps.{AllShown, StepShown, AnswerShown}
 use Rattle.actor_laws.proofs.node_moves.Held.{HeldAt, held_at, grant_here, grant_beside}

@@ -17,24 +17,24 @@ use Rattle.node_state.specs.declared.parts.State.TheVariants.{Member}
 use Rattle.node_core.specs.Cases.{by_status, member_roster, recovers_by}
 use Rattle.node_core.specs.Moves.{recovers, settle_request, status_of as status_of_request}
 use Rattle.node_core.specs.Steps.{Does, Ignored, quiet}
-use Rattle.run_tables.specs.Tables.{◌∈◌}
-use Rattle.run_tables.specs.View.{Leave, Works, View}
-use Rattle.run_tables.specs.View as tables
-use Rattle.run_tables.specs.Facts.{Said}
-use Rattle.run_tables.specs.Guards.{MayAdopt, GivesUp, lost_thief, lost_victim, left_victim}
-use Rattle.run_tables.specs.Meaning.{Meaning}
-use Rattle.run_tables.specs.Moves.{adopt, fail, mark_lost, stop, unpend}
-use Rattle.run_tables.specs.Acts as acts
-use Rattle.run_tables.specs.Runs.{Run}
-use Rattle.run_tables.proofs.LeaversKept.{leavers_reached}
-use Rattle.run_tables.proofs.Lists.{same_or}
-use Rattle.run_tables.proofs.RostersReached.{rosters_reached}
-use Rattle.run_tables.proofs.ValuesKept.{run_reached}
-use Rattle.run_tables.proofs.Entries.{put_here}
-use Rattle.actor_moves.specs.Beside.{KeepsSent, unmoved, moved}
-use Rattle.actor_moves.specs.Listed.{status_of, MarkedLost}
-use Rattle.actor_moves.proofs.MarkingLost.{marked_lost}
-use Rattle.actor_moves.proofs.Sent.{keeps_one, keeps_then, of_act, of_mark_lost, runs_on}
+use Rattle.table_laws.specs.Tables.{◌∈◌}
+use Rattle.table_laws.specs.View.{Leave, Works, View}
+use Rattle.table_laws.specs.View as tables
+use Rattle.table_laws.specs.Facts.{Said}
+use Rattle.table_laws.specs.Guards.{MayAdopt, GivesUp, lost_thief, lost_victim, left_victim}
+use Rattle.table_laws.specs.Meaning.{Meaning}
+use Rattle.table_laws.specs.Moves.{adopt, fail, mark_lost, stop, unpend}
+use Rattle.table_laws.specs.Acts as acts
+use Rattle.table_laws.specs.Runs.{Run}
+use Rattle.table_laws.proofs.LeaversKept.{leavers_reached}
+use Rattle.table_laws.proofs.Lists.{same_or}
+use Rattle.table_laws.proofs.RostersReached.{rosters_reached}
+use Rattle.table_laws.proofs.ValuesKept.{run_reached}
+use Rattle.table_laws.proofs.Entries.{put_here}
+use Rattle.move_laws.specs.Beside.{KeepsSent, unmoved, moved}
+use Rattle.move_laws.specs.Listed.{status_of, MarkedLost}
+use Rattle.move_laws.proofs.MarkingLost.{marked_lost}
+use Rattle.move_laws.proofs.Sent.{keeps_one, keeps_then, of_act, of_mark_lost, runs_on}
 use Rattle.actor_laws.specs.node_moves.Shows.{pending_of, RosterShown, PartsShown, NodeShown}
 use Rattle.actor_laws.specs.node_moves.Steps.{StepShown, AnswerShown}
 use Rattle.actor_laws.proofs.node_moves.Told.{packet_kept, none_shown}

@@ -13,10 +13,10 @@ use Rattle.node_state.specs.declared.parts.State.TheVariants.{Leaving, Member}
 use Rattle.node_core.specs.Calls as calls
 use Rattle.node_core.specs.Moves.{leaves, move_to}
 use Rattle.node_core.specs.Steps.{sends}
-use Rattle.run_tables.specs.View.{View}
-use Rattle.run_tables.specs.Meaning.{Meaning}
-use Rattle.run_tables.specs.Runs.{Run}
-use Rattle.actor_moves.proofs.Sent.{runs_on}
+use Rattle.table_laws.specs.View.{View}
+use Rattle.table_laws.specs.Meaning.{Meaning}
+use Rattle.table_laws.specs.Runs.{Run}
+use Rattle.move_laws.proofs.Sent.{runs_on}
 use Rattle.actor_laws.specs.node_moves.Shows.{NodeShown}
 use Rattle.actor_laws.specs.node_moves.Steps.{StepShown, AnswerShown}
 use Rattle.actor_laws.proofs.node_moves.Beside.{steps_on}

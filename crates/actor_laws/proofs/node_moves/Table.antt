@@ -20,20 +20,20 @@ use Rattle.node_core.specs.Steps.{Does, Ignored, Refused}
 use Rattle.node_core.specs.declared.error.NodeError.TheVariants as error
 use Rattle.node_core.specs.declared.parts.Victim.{Victim}
 use Rattle.node_core.specs.declared.parts.Victim.TheVariants.{Worker, House}
-use Rattle.run_tables.specs.Tables.{◌∈◌}
-use Rattle.run_tables.specs.View.{Works, View}
-use Rattle.run_tables.specs.View as tables
-use Rattle.run_tables.specs.Guards.{MayAsk}
-use Rattle.run_tables.specs.Meaning.{Meaning}
-use Rattle.run_tables.specs.Moves.{ask}
-use Rattle.run_tables.specs.Acts as acts
-use Rattle.run_tables.specs.Runs.{Run}
-use Rattle.run_tables.proofs.RostersReached.{rosters_reached}
-use Rattle.run_tables.proofs.ValuesKept.{run_reached}
-use Rattle.actor_moves.specs.Beside.{KeepsSent, unmoved, moved}
-use Rattle.run_tables.proofs.EpochsKept.{epochs_reached}
-use Rattle.run_tables.proofs.Entries.{put_here}
-use Rattle.actor_moves.proofs.Sent.{keeps_one, of_act}
+use Rattle.table_laws.specs.Tables.{◌∈◌}
+use Rattle.table_laws.specs.View.{Works, View}
+use Rattle.table_laws.specs.View as tables
+use Rattle.table_laws.specs.Guards.{MayAsk}
+use Rattle.table_laws.specs.Meaning.{Meaning}
+use Rattle.table_laws.specs.Moves.{ask}
+use Rattle.table_laws.specs.Acts as acts
+use Rattle.table_laws.specs.Runs.{Run}
+use Rattle.table_laws.proofs.RostersReached.{rosters_reached}
+use Rattle.table_laws.proofs.ValuesKept.{run_reached}
+use Rattle.move_laws.specs.Beside.{KeepsSent, unmoved, moved}
+use Rattle.table_laws.proofs.EpochsKept.{epochs_reached}
+use Rattle.table_laws.proofs.Entries.{put_here}
+use Rattle.move_laws.proofs.Sent.{keeps_one, of_act}
 use Rattle.actor_laws.specs.node_moves.Shows.{mode_of, pending_of, BodyShown, PacketShown, PartsShown, NodeShown}
 use Rattle.actor_laws.specs.node_moves.Steps.{StepShown, AnswerShown}
 use Rattle.actor_laws.proofs.node_moves.Told.{packet_kept, one_shown}

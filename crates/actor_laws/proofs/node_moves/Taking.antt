@@ -12,21 +12,21 @@ use Rattle.node_state.specs.Node.{NodeOf, hop_in}
 use Rattle.node_core.specs.Cases.{acknowledged_again, granted, saved_fit}
 use Rattle.node_core.specs.Moves.{offer_ack, takes}
 use Rattle.node_core.specs.Steps.{Does, Ignored, sends}
-use Rattle.run_tables.specs.View.{Transfer, Sub, Works, View}
-use Rattle.run_tables.specs.View as tables
-use Rattle.run_tables.specs.Facts.{Above, ack_of, request_of}
-use Rattle.run_tables.specs.Guards.{MayTake}
-use Rattle.run_tables.specs.Meaning.{Meaning}
-use Rattle.run_tables.specs.Moves.{take, acknowledge}
-use Rattle.run_tables.specs.Acts as acts
-use Rattle.run_tables.specs.Runs.{Run}
-use Rattle.run_tables.proofs.RequestsReached.{requests_reached}
-use Rattle.run_tables.proofs.ValuesKept.{run_reached}
-use Rattle.run_tables.proofs.Entries.{put_here}
-use Rattle.content_moves.proofs.Keeping.{begun_kept}
-use Rattle.content_moves.proofs.Orders.{put_order}
-use Rattle.actor_moves.specs.Beside.{KeepsSent, unmoved, moved}
-use Rattle.actor_moves.proofs.Sent.{keeps_one, of_act}
+use Rattle.table_laws.specs.View.{Transfer, Sub, Works, View}
+use Rattle.table_laws.specs.View as tables
+use Rattle.table_laws.specs.Facts.{Above, ack_of, request_of}
+use Rattle.table_laws.specs.Guards.{MayTake}
+use Rattle.table_laws.specs.Meaning.{Meaning}
+use Rattle.table_laws.specs.Moves.{take, acknowledge}
+use Rattle.table_laws.specs.Acts as acts
+use Rattle.table_laws.specs.Runs.{Run}
+use Rattle.table_laws.proofs.RequestsReached.{requests_reached}
+use Rattle.table_laws.proofs.ValuesKept.{run_reached}
+use Rattle.table_laws.proofs.Entries.{put_here}
+use Rattle.content_laws.proofs.Keeping.{begun_kept}
+use Rattle.content_laws.proofs.Orders.{put_order}
+use Rattle.move_laws.specs.Beside.{KeepsSent, unmoved, moved}
+use Rattle.move_laws.proofs.Sent.{keeps_one, of_act}
 use Rattle.actor_laws.specs.node_moves.Shows.{pending_of, IsShown, GrantShown, PartsShown, NodeShown}
 use Rattle.actor_laws.specs.node_moves.Steps.{StepShown, AnswerShown}
 use Rattle.actor_laws.proofs.node_moves.Held.{shows_put, seen_put}

@@ -4,10 +4,10 @@ use Rattle.codec.specs.Table.{PacketOf}
 use Rattle.codec.specs.declared.body.Body.{Body}
 use Rattle.codec.specs.declared.body.Body.TheVariants as body
 use Rattle.node_core.specs.declared.parts.Fill.{Fill}
-use Rattle.run_tables.specs.Content as tables
-use Rattle.run_tables.specs.View.{Transfer, View}
-use Rattle.run_tables.proofs.Lists.{early, later, either}
-use Rattle.actor_moves.specs.Beside.{KeepsSent}
+use Rattle.table_laws.specs.Content as tables
+use Rattle.table_laws.specs.View.{Transfer, View}
+use Rattle.table_laws.proofs.Lists.{early, later, either}
+use Rattle.move_laws.specs.Beside.{KeepsSent}
 use Rattle.actor_laws.specs.node_moves.Shows.{BodyShown, PacketShown}
 use Rattle.actor_laws.specs.node_moves.Steps.{AllShown, IsSent, shown_fill, shown_fills}
 

@@ -10,10 +10,10 @@ use Rattle.ids.specs.declared.work.Record.{Record}
 use Rattle.victim_records.specs.Records.{record_in}
 use Rattle.subcomputation.specs.Recovering.{ordered, record_grants, their_records}
 use Rattle.subcomputation.specs.Subs.{SubOf, grants_of_subs, sub_in}
-use Rattle.run_tables.specs.Tables.{◌∈◌}
-use Rattle.run_tables.proofs.Among.{found_among}
-use Rattle.run_tables.proofs.Lists.{early, later}
-use Rattle.content_moves.proofs.Apart.{grant_named, own_grant}
+use Rattle.table_laws.specs.Tables.{◌∈◌}
+use Rattle.table_laws.proofs.Among.{found_among}
+use Rattle.table_laws.proofs.Lists.{early, later}
+use Rattle.content_laws.proofs.Apart.{grant_named, own_grant}
 use Rattle.actor_laws.proofs.node_moves.Members.{own_sub}
 
 -- what is made of an item is among what is made

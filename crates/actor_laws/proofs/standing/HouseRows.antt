@@ -27,7 +27,7 @@ use Rattle.codec.specs.declared.body.TaskResult.{TaskResult}
 use Rattle.saved_values.specs.Saved.{put_saved}
 use Rattle.saved_values.specs.declared.value.SavedValue.{SavedValue}
 use Rattle.serial_meaning.specs.Job.{JobOf}
-use Rattle.agreement.proofs.Finding.{put_stays, same_or_other}
+use Rattle.agreement_laws.proofs.Finding.{put_stays, same_or_other}
 use Rattle.steal_protocol.specs.Replies.{by_order, by_reply, reply_in}
 use Rattle.steal_protocol.specs.declared.replies.Reply.{Reply}
 use Rattle.clearinghouse.specs.Calls.{can_begin, declares_dead, next_epoch, open_over, passes}
@@ -37,7 +37,7 @@ use Rattle.clearinghouse.specs.Moves as moves
 use Rattle.clearinghouse.specs.Steps.{HouseAnswer, Does, Ignored, sends}
 use Rattle.clearinghouse.specs.declared.parts.Enlisted.{Enlisted}
 use Rattle.clearinghouse.specs.declared.parts.RootGrant.{RootGrant}
-use Rattle.run_tables.proofs.Lists.{some_same}
+use Rattle.table_laws.proofs.Lists.{some_same}
 use Rattle.actor_laws.specs.standing.Root.{HouseAnswerStands, RootStands}
 
 -- what is said of a worker that is kept

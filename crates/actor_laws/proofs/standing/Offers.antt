@@ -16,7 +16,7 @@ use Rattle.codec.specs.declared.body.Piece.{Piece}
 use Rattle.codec.specs.declared.body.Roster.{Roster}
 use Rattle.departure.specs.Offers.{offered}
 use Rattle.serial_meaning.specs.Job.{JobOf}
-use Rattle.agreement.proofs.Finding.{put_or_there}
+use Rattle.agreement_laws.proofs.Finding.{put_or_there}
 use Rattle.steal_protocol.specs.Requests.{request_settled}
 use Rattle.steal_protocol.specs.declared.asker.Request.{Request}
 use Rattle.subcomputation.specs.Fitting.{content_fits}
@@ -27,8 +27,8 @@ use Rattle.node_state.specs.declared.parts.State.TheVariants.{Member}
 use Rattle.node_core.specs.Cases.{Collecting, Kept, Old, Whole, collected, collects, is_above, member_offered, member_pieced, member_roster, or_forgets, put_together, recovers_by, said_by}
 use Rattle.node_core.specs.Moves.{status_of}
 use Rattle.node_core.specs.Steps.{Answer, Does, Forgets, Ignored, Refused}
-use Rattle.content_moves.proofs.Apart.{grant_named}
-use Rattle.content_moves.proofs.Orders.{put_order}
+use Rattle.content_laws.proofs.Apart.{grant_named}
+use Rattle.content_laws.proofs.Orders.{put_order}
 use Rattle.actor_laws.specs.standing.Standing.{AnswerStands, BodyIsApart, ContentStands, HaveOneHost, MemberStands, NodeStands, VictimStands}
 use Rattle.actor_laws.proofs.standing.Recovering.{all_recovered, recovery_stands}
 use Rattle.actor_laws.proofs.standing.Steps.{by_listed, by_test, holds, in_order, member_after}

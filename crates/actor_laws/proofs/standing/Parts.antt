@@ -8,18 +8,18 @@ use Rattle.ids.proofs.Replacing.{put_is_found}
 use Rattle.ids.specs.declared.member.Member.{Member}
 use Rattle.ids.specs.declared.work.Record.{Record}
 use Rattle.ids.specs.Ordered.{AreInOrder}
-use Rattle.agreement.proofs.Finding.{left, put_or_there}
+use Rattle.agreement_laws.proofs.Finding.{left, put_or_there}
 use Rattle.victim_records.specs.Records.{record_in, renamed, with_holder}
 use Rattle.sub_rules.specs.Changes.{redone, with_parent, with_thief}
 use Rattle.subcomputation.specs.Recovering.{for_some, record_settled, settle_record, settle_sub, sub_settled}
 use Rattle.subcomputation.specs.Subs.{SubOf, has_record, host_in, name_of_sub, put_sub, sub_in, with_content, without_sub}
 use Rattle.subcomputation.proofs.Others.{found_by}
-use Rattle.content_moves.proofs.Apart.{grant_named, own_grant}
-use Rattle.content_moves.proofs.Orders.{put_order, without_order}
+use Rattle.content_laws.proofs.Apart.{grant_named, own_grant}
+use Rattle.content_laws.proofs.Orders.{put_order, without_order}
 use Rattle.actor_laws.proofs.node_moves.Members.{own_sub}
 use Rattle.actor_laws.proofs.node_moves.Hearing.{unfound, passes_test}
-use Rattle.run_tables.proofs.Among.{found_among}
-use Rattle.run_tables.proofs.Lists.{none_some, one_found}
+use Rattle.table_laws.proofs.Among.{found_among}
+use Rattle.table_laws.proofs.Lists.{none_some, one_found}
 use Rattle.actor_laws.specs.standing.Standing.{HaveOneHost, Stands}
 use Rattle.actor_laws.proofs.standing.Heirs.{resolved_stands}
 

@@ -5,7 +5,7 @@ use Rattle.ids.specs.Ordered.{AreInOrder}
 use Rattle.ids.specs.declared.member.Member.{Member}
 use Rattle.subcomputation.specs.Recovering.{for_each, recovered, settle_record, settle_sub, their_records}
 use Rattle.subcomputation.specs.Subs.{SubOf, grants_of_subs, name_of_sub, sub_in}
-use Rattle.run_tables.specs.Tables.{◌∈◌}
+use Rattle.table_laws.specs.Tables.{◌∈◌}
 use Rattle.actor_laws.specs.standing.Standing.{AllStand, HaveOneHost, ContentStands, Stands}
 use Rattle.actor_laws.proofs.standing.Covered.{grant_covered, record_covered}
 use Rattle.actor_laws.proofs.standing.Parts.{Follows, HolderStands, follows_none, follows_on, holder_on, host_on, one_host_on, record_part, sub_part}

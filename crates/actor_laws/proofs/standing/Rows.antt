@@ -47,7 +47,7 @@ use Rattle.node_core.specs.Steps.{Does, Ignored, Refused, StepOf, for_some, send
 use Rattle.node_core.specs.declared.error.NodeError.TheVariants as error
 use Rattle.node_core.specs.declared.parts.Victim.{Victim}
 use Rattle.node_core.specs.declared.parts.Victim.TheVariants.{House, Worker}
-use Rattle.content_moves.proofs.Evaluated.{carried}
+use Rattle.content_laws.proofs.Evaluated.{carried}
 use Rattle.actor_laws.proofs.node_moves.Members.{ready_there}
 use Rattle.actor_laws.specs.standing.Standing.{AllStand, AnswerStands, BodyIsApart, ContentStands, IsFresh, MemberStands, NodeStands, Stands, VictimStands}
 use Rattle.actor_laws.proofs.standing.Offers.{member_roster_stands, offered_stands, pieced_stands}

@@ -19,7 +19,7 @@ use Rattle.kind_check.specs.declared.turn.Turn.TheVariants.{Sends, Joins}
 use Rattle.frames.specs.Frames.{frame_in, without_frame}
 use Rattle.victim_records.specs.Records.{without_record}
 use Rattle.codec.specs.declared.body.Roster.{Roster}
-use Rattle.agreement.proofs.Finding.{left, put_or_there}
+use Rattle.agreement_laws.proofs.Finding.{left, put_or_there}
 use Rattle.steal_protocol.specs.Replies.{by_order}
 use Rattle.sub_rules.specs.Changes.{arrives, closed, ends, filled_in, granted_out, joined, record_of, replaced, turned}
 use Rattle.sub_rules.specs.Content.{Ready}

@@ -27,9 +27,9 @@ use Rattle.node_core.specs.Moves as moves
 use Rattle.node_core.specs.Steps.{Refused, Does, sends}
 use Rattle.node_core.specs.declared.error.NodeError.TheVariants as error
 use Rattle.node_core.specs.declared.parts.Victim.{Victim}
-use Rattle.run_tables.specs.Tables.{◌∈◌}
-use Rattle.run_tables.proofs.Lists.{early, either}
-use Rattle.run_tables.proofs.Among.{filtered, mapped, put_among}
+use Rattle.table_laws.specs.Tables.{◌∈◌}
+use Rattle.table_laws.proofs.Lists.{early, either}
+use Rattle.table_laws.proofs.Among.{filtered, mapped, put_among}
 use Rattle.actor_laws.specs.whole_offers.Departs.{AnswerDeparts, AnswerSendsAgain, Departs, IsOwnOffer, SendsOwn}
 use Rattle.actor_laws.specs.whole_offers.Plain.{ArePlain, IsPlain, IsPlainNode, NoOffers, NoneNew}
 use Rattle.actor_laws.proofs.whole_offers.Rows.{both, by_test, changes_plain, if_there, in_state, leaves_plain, member_stays, none, one, results_plain}

@@ -17,8 +17,8 @@ use Rattle.codec.specs.Pieces.{AreOf, PartOf, RiseFrom, cut, cut_all, cut_body, 
 use Rattle.codec.specs.Table.{PacketOf, is_packet, is_short, packet}
 use Rattle.codec.proofs.Joining.{read_joined}
 use Rattle.node_state.specs.Assemblies.{AssemblyOf}
-use Rattle.run_tables.specs.Tables.{◌∈◌}
-use Rattle.run_tables.proofs.Lists.{early, either, later}
+use Rattle.table_laws.specs.Tables.{◌∈◌}
+use Rattle.table_laws.proofs.Lists.{early, either, later}
 use Rattle.actor_laws.specs.whole_offers.Gathered.{CameIn}
 use Rattle.actor_laws.specs.whole_offers.Whole.{AreWhole, IsPieceOf, OneOffer, Went, came_in}
 

@@ -12,11 +12,11 @@ use Rattle.serial_meaning.specs.Job.{JobOf}
 use Rattle.node_state.specs.Assemblies.{AssemblyOf, assembly_in, begun, name_of_assembly, part_in, part_of, put_part, with_part}
 use Rattle.node_state.specs.Node.{NodeOf}
 use Rattle.node_core.specs.Cases.{Kept, Old, Whole, belongs, by_all, collects}
-use Rattle.run_tables.specs.Tables.{◌∈◌}
-use Rattle.run_tables.specs.View.{View}
-use Rattle.run_tables.proofs.Among.{found_among, put_among}
-use Rattle.content_moves.proofs.Apart.{grant_named}
-use Rattle.content_moves.proofs.Orders.{none_order, first_order, put_order}
+use Rattle.table_laws.specs.Tables.{◌∈◌}
+use Rattle.table_laws.specs.View.{View}
+use Rattle.table_laws.proofs.Among.{found_among, put_among}
+use Rattle.content_laws.proofs.Apart.{grant_named}
+use Rattle.content_laws.proofs.Orders.{none_order, first_order, put_order}
 use Rattle.sub_rules.proofs.Sums.{found_name}
 use Rattle.actor_laws.specs.node_moves.Steps.{AllShown}
 use Rattle.actor_laws.specs.actor_agreement.Values.{AllRight}

@@ -6,13 +6,13 @@ use Rattle.codec.specs.declared.body.Roster.{Roster}
 use Rattle.subcomputation.specs.Subs.{SubOf, sub_in}
 use Rattle.node_state.specs.Node.{NodeOf}
 use Rattle.node_state.specs.declared.parts.State.TheVariants.{Member}
-use Rattle.run_tables.specs.View.{Transfer, Takes, Works, View}
-use Rattle.run_tables.specs.Facts.{SentTo}
-use Rattle.run_tables.specs.Names.{Handed}
-use Rattle.run_tables.specs.Meaning.{Meaning}
-use Rattle.run_tables.specs.Runs.{Run}
-use Rattle.run_tables.proofs.NamesReached.{names_reached}
-use Rattle.run_tables.proofs.ValuesKept.{run_reached}
+use Rattle.table_laws.specs.View.{Transfer, Takes, Works, View}
+use Rattle.table_laws.specs.Facts.{SentTo}
+use Rattle.table_laws.specs.Names.{Handed}
+use Rattle.table_laws.specs.Meaning.{Meaning}
+use Rattle.table_laws.specs.Runs.{Run}
+use Rattle.table_laws.proofs.NamesReached.{names_reached}
+use Rattle.table_laws.proofs.ValuesKept.{run_reached}
 use Rattle.actor_laws.specs.node_moves.Shows.{NodeShown, OfferShown}
 use Rattle.actor_laws.proofs.node_moves.Held.{HeldAt, held_at}
 use Rattle.actor_laws.proofs.node_moves.Members.{member_shown}

@@ -46,9 +46,9 @@ use Rattle.node_core.specs.Cases as cases
 use Rattle.node_core.specs.Cases.{Candidate, Collecting, Kept, Old, Whole, by_option, by_status, candidate_in, collected, collects, is_above, on_body, on_packet, or_forgets, put_together}
 use Rattle.node_core.specs.Moves as moves
 use Rattle.node_core.specs.Steps.{Answer, Ignored, Refused, Does, Forgets, StepOf, for_some, quiet, sends, ◌then◌}
-use Rattle.run_tables.specs.Tables.{◌∈◌}
-use Rattle.run_tables.proofs.Lists.{either}
-use Rattle.run_tables.proofs.Among.{filtered, found_among, put_among}
+use Rattle.table_laws.specs.Tables.{◌∈◌}
+use Rattle.table_laws.proofs.Lists.{either}
+use Rattle.table_laws.proofs.Among.{filtered, found_among, put_among}
 use Rattle.actor_laws.specs.whole_offers.Plain.{ArePlain, IsNewBy, IsPlain, IsPlainNode, NoOffers, SendsNoOffer, StaysFrozen}
 
 -- ---- lists of packets

@@ -18,10 +18,10 @@ use Rattle.node_core.specs.Cases as cases
 use Rattle.node_core.specs.Cases.{Candidate, Collecting, Old, Kept, Whole, collected, collects, is_above, on_body, on_packet, or_forgets, put_together}
 use Rattle.node_core.specs.Moves.{offer_ack}
 use Rattle.node_core.specs.Steps.{Answer, Ignored, Refused, Does, Forgets, sends}
-use Rattle.run_tables.specs.View.{Works, View}
-use Rattle.run_tables.specs.Meaning.{Meaning}
-use Rattle.run_tables.specs.Runs.{Run}
-use Rattle.actor_moves.specs.Beside.{unmoved}
+use Rattle.table_laws.specs.View.{Works, View}
+use Rattle.table_laws.specs.Meaning.{Meaning}
+use Rattle.table_laws.specs.Runs.{Run}
+use Rattle.move_laws.specs.Beside.{unmoved}
 use Rattle.actor_laws.specs.node_moves.Shows.{NodeShown, OfferShown, PartsShown, mode_of}
 use Rattle.actor_laws.specs.node_moves.Steps.{AnswerShown, StepShown}
 use Rattle.actor_laws.proofs.node_moves.Offering.{member_offered_shown, offer_again}

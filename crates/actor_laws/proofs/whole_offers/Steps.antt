@@ -22,15 +22,15 @@ use Rattle.node_core.specs.Calls as calls
 use Rattle.node_core.specs.Cases.{Candidate, on_packet}
 use Rattle.node_core.specs.Steps.{Answer, Does, Forgets, Ignored, Refused, StepOf}
 use Rattle.node_core.specs.declared.parts.Victim.{Victim}
-use Rattle.run_tables.specs.Meaning.{Meaning}
-use Rattle.run_tables.specs.Runs.{Run}
-use Rattle.run_tables.specs.Tables.{◌∈◌}
-use Rattle.run_tables.specs.View as tables
-use Rattle.run_tables.specs.View.{View, Works}
-use Rattle.run_tables.proofs.Among.{of_each}
-use Rattle.run_tables.proofs.Lists.{early, either, later, some_same}
-use Rattle.run_tables.proofs.RequestsReached.{requests_reached}
-use Rattle.run_tables.proofs.ValuesKept.{run_reached}
+use Rattle.table_laws.specs.Meaning.{Meaning}
+use Rattle.table_laws.specs.Runs.{Run}
+use Rattle.table_laws.specs.Tables.{◌∈◌}
+use Rattle.table_laws.specs.View as tables
+use Rattle.table_laws.specs.View.{View, Works}
+use Rattle.table_laws.proofs.Among.{of_each}
+use Rattle.table_laws.proofs.Lists.{early, either, later, some_same}
+use Rattle.table_laws.proofs.RequestsReached.{requests_reached}
+use Rattle.table_laws.proofs.ValuesKept.{run_reached}
 use Rattle.actor_laws.specs.node_moves.Shows.{NodeShown, OfferShown, mode_of, pending_of}
 use Rattle.actor_laws.specs.node_moves.Steps.{AllShown}
 use Rattle.actor_laws.proofs.node_moves.Members.{member_shown}

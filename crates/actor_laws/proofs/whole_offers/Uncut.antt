@@ -18,7 +18,7 @@ use Rattle.node_core.specs.Moves as moves
 use Rattle.node_core.specs.Steps.{Answer, Does, Forgets, Ignored, Refused, StepOf, sends}
 use Rattle.node_core.specs.declared.error.NodeError.TheVariants as error
 use Rattle.node_core.specs.declared.parts.Victim.{Victim}
-use Rattle.run_tables.proofs.Among.{filtered}
+use Rattle.table_laws.proofs.Among.{filtered}
 use Rattle.actor_laws.specs.whole_offers.Plain.{ArePlain, IsNewBy, IsPlainNode, NoOffers, NoneNew}
 use Rattle.actor_laws.specs.whole_offers.Whole.{cut_answer, cut_step}
 use Rattle.actor_laws.proofs.whole_offers.Calls.{ask_plain, exec_ready_plain, grants_plain, member_again, whole_ready_plain}

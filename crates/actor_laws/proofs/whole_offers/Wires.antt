@@ -7,10 +7,10 @@ use Rattle.codec.specs.declared.body.Piece.{Piece}
 use Rattle.serial_meaning.specs.Job.{JobOf}
 use Rattle.node_state.specs.Node.{NodeOf}
 use Rattle.node_core.specs.Cases.{Candidate, on_packet}
-use Rattle.run_tables.specs.Meaning.{Meaning}
-use Rattle.run_tables.specs.Runs.{Run}
-use Rattle.run_tables.specs.Tables.{◌∈◌}
-use Rattle.run_tables.specs.View.{View}
+use Rattle.table_laws.specs.Meaning.{Meaning}
+use Rattle.table_laws.specs.Runs.{Run}
+use Rattle.table_laws.specs.Tables.{◌∈◌}
+use Rattle.table_laws.specs.View.{View}
 use Rattle.actor_laws.specs.node_moves.Shows.{NodeShown, PacketShown}
 use Rattle.actor_laws.specs.node_moves.Steps.{AllShown, AnswerShown}
 use Rattle.actor_laws.proofs.node_moves.Table.{packet_shown}

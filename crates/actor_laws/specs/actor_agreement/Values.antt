@@ -12,7 +12,7 @@ use Rattle.serial_meaning.specs.Places.{outcome_at}
 use Rattle.victim_records.specs.Records.{record_in}
 use Rattle.sub_rules.specs.declared.change.Filling.{Filling}
 use Rattle.sub_rules.specs.declared.content.Content.{Content}
-use Rattle.agreement.specs.Agreement.{AllSavedAgree, ContentAgrees, IsReceived, IsSavedOf, TaskAgrees}
+use Rattle.agreement_laws.specs.Agreement.{AllSavedAgree, ContentAgrees, IsReceived, IsSavedOf, TaskAgrees}
 use Rattle.departure.specs.Offers.{offered}
 use Rattle.saved_values.specs.Places.{is_under}
 use Rattle.saved_values.specs.declared.value.SavedValue.{SavedValue}
@@ -24,8 +24,8 @@ use Rattle.node_core.specs.Steps.{StepOf, Answer, Ignored, Refused, Does, Forget
 use Rattle.node_core.specs.declared.parts.Fill.{Fill}
 use Rattle.clearinghouse.specs.House.{HouseOf}
 use Rattle.clearinghouse.specs.Steps as house
-use Rattle.run_tables.specs.Tables.{◌∈◌}
-use Rattle.content_moves.specs.Moved.{IsKept}
+use Rattle.table_laws.specs.Tables.{◌∈◌}
+use Rattle.content_laws.specs.Moved.{IsKept}
 
 -- a content agrees, and is kept as its holder keeps it
 pub record IsRight (job : JobOf) (c : Content) : Type 0 where

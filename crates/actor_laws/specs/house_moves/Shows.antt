@@ -8,9 +8,9 @@ use Rattle.steal_protocol.specs.declared.replies.Reply.{Reply}
 use Rattle.clearinghouse.specs.House.{HouseOf, name_of, roster_of}
 use Rattle.clearinghouse.specs.Laws.{living}
 use Rattle.clearinghouse.specs.declared.parts.RootGrant.{RootGrant}
-use Rattle.run_tables.specs.View.{House, View}
-use Rattle.run_tables.specs.View as tables
-use Rattle.content_moves.specs.Shown.{outcome_number}
+use Rattle.table_laws.specs.View.{House, View}
+use Rattle.table_laws.specs.View as tables
+use Rattle.content_laws.specs.Shown.{outcome_number}
 use Rattle.actor_laws.specs.node_moves.Shows.{ShowsReply, ShowsRoster, PacketShown}
 
 -- the root's grant; who holds it stands in no table

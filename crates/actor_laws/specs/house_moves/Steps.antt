@@ -3,12 +3,12 @@ use Rattle.std.specs.Prelude.{◌≡◌, ◌⊎◌, ℕ, Some}
 use Rattle.serial_meaning.specs.Job.{JobOf}
 use Rattle.clearinghouse.specs.House.{HouseOf, Kept, name_of}
 use Rattle.clearinghouse.specs.Steps.{HouseStepOf, HouseAnswer, Ignored, Refused, Does}
-use Rattle.run_tables.specs.Tables.{◌∈◌}
-use Rattle.run_tables.specs.View.{Transfer, View}
-use Rattle.run_tables.specs.Meaning.{Meaning}
-use Rattle.run_tables.specs.Program.{program_meaning}
-use Rattle.run_tables.specs.Runs.{Run, Leads}
-use Rattle.actor_moves.specs.Beside.{SameAt, KeepsSent}
+use Rattle.table_laws.specs.Tables.{◌∈◌}
+use Rattle.table_laws.specs.View.{Transfer, View}
+use Rattle.table_laws.specs.Meaning.{Meaning}
+use Rattle.table_laws.specs.Program.{program_meaning}
+use Rattle.table_laws.specs.Runs.{Run, Leads}
+use Rattle.move_laws.specs.Beside.{SameAt, KeepsSent}
 use Rattle.actor_laws.specs.node_moves.Steps.{AllShown, IsSent}
 use Rattle.actor_laws.specs.house_moves.Shows.{OpenShown}
 

@@ -6,12 +6,12 @@ use Rattle.codec.specs.declared.body.Body.TheVariants as body
 use Rattle.node_state.specs.Node.{NodeOf}
 use Rattle.node_core.specs.Steps.{StepOf, Answer, Ignored, Refused, Does, Forgets}
 use Rattle.node_core.specs.declared.parts.Fill.{Fill}
-use Rattle.run_tables.specs.Tables.{◌∈◌}
-use Rattle.run_tables.specs.Content as tables
-use Rattle.run_tables.specs.View.{Transfer, View}
-use Rattle.run_tables.specs.Meaning.{Meaning}
-use Rattle.content_moves.specs.Shown.{task_of}
-use Rattle.actor_moves.specs.Beside.{MovedBy}
+use Rattle.table_laws.specs.Tables.{◌∈◌}
+use Rattle.table_laws.specs.Content as tables
+use Rattle.table_laws.specs.View.{Transfer, View}
+use Rattle.table_laws.specs.Meaning.{Meaning}
+use Rattle.content_laws.specs.Shown.{task_of}
+use Rattle.move_laws.specs.Beside.{MovedBy}
 use Rattle.actor_laws.specs.node_moves.Shows.{PacketShown, NodeShown}
 
 abbrev pub AllShown : View → List PacketOf → Type 0

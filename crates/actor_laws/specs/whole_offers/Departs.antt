@@ -8,7 +8,7 @@ use Rattle.subcomputation.specs.Subs.{SubOf}
 use Rattle.node_state.specs.Node.{NodeOf}
 use Rattle.node_state.specs.declared.parts.State.TheVariants.{Member, Leaving}
 use Rattle.node_core.specs.Steps.{StepOf, Answer, Ignored, Refused, Does, Forgets}
-use Rattle.run_tables.specs.Tables.{◌∈◌}
+use Rattle.table_laws.specs.Tables.{◌∈◌}
 use Rattle.actor_laws.specs.whole_offers.Plain.{IsPlain}
 
 -- p is the Offer of what a node holds, which leaves

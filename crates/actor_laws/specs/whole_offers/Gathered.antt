@@ -12,8 +12,8 @@ use Rattle.serial_meaning.specs.Job.{JobOf}
 use Rattle.node_state.specs.Assemblies.{AssemblyOf, assembly_in}
 use Rattle.node_state.specs.Node.{NodeOf}
 use Rattle.node_core.specs.Cases.{Whole, collects}
-use Rattle.run_tables.specs.View.{View}
-use Rattle.run_tables.specs.Tables.{◌∈◌}
+use Rattle.table_laws.specs.View.{View}
+use Rattle.table_laws.specs.Tables.{◌∈◌}
 use Rattle.actor_laws.specs.actor_agreement.Values.{IsRight}
 use Rattle.actor_laws.specs.node_moves.Shows.{OfferShown}
 use Rattle.actor_laws.specs.whole_offers.Whole.{came_in}

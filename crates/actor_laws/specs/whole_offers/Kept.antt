@@ -11,7 +11,7 @@ use Rattle.subcomputation.specs.Subs.{SubOf}
 use Rattle.node_state.specs.Node.{NodeOf}
 use Rattle.node_state.specs.declared.parts.State.TheVariants.{Leaving}
 use Rattle.node_core.specs.Steps.{StepOf, Answer, Ignored, Refused, Does, Forgets}
-use Rattle.run_tables.specs.Tables.{◌∈◌}
+use Rattle.table_laws.specs.Tables.{◌∈◌}
 use Rattle.actor_laws.specs.whole_offers.Gathered.{AllCameIn}
 use Rattle.actor_laws.specs.whole_offers.Plain.{IsPlain}
 use Rattle.actor_laws.specs.whole_offers.Whole.{OneOffer}

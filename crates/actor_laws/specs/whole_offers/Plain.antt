@@ -12,7 +12,7 @@ use Rattle.node_state.specs.Node.{NodeOf}
 use Rattle.node_state.specs.declared.parts.State.TheVariants.{Leaving}
 use Rattle.node_core.specs.Cases.{Kept, collects}
 use Rattle.node_core.specs.Steps.{StepOf, Answer, Ignored, Refused, Does, Forgets}
-use Rattle.run_tables.specs.Tables.{◌∈◌}
+use Rattle.table_laws.specs.Tables.{◌∈◌}
 
 abbrev pub IsPlain : PacketOf → Type 0
 IsPlain p = is_short p.body ≡ true

@@ -7,7 +7,7 @@ use Rattle.codec.specs.Pieces.{PartOf, cut_all, is_large, packet_of_piece, parts
 use Rattle.codec.specs.Table.{PacketOf, packet}
 use Rattle.node_state.specs.Assemblies.{AssemblyOf}
 use Rattle.node_core.specs.Steps.{Answer, Does, Forgets, Ignored, Refused, StepOf}
-use Rattle.run_tables.specs.Tables.{◌∈◌}
+use Rattle.table_laws.specs.Tables.{◌∈◌}
 
 -- p is a piece of a large offer that is among these packets
 pub record IsPieceOf (wholes : List PacketOf) (p : PacketOf) : Type 0 where

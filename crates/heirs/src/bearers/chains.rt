@@ -61,7 +61,8 @@ impl Named for Chain {
     }
 }
 
-/// The chains of a roster after their first step; of a worker that is listed twice, the first counts.
+/// The chains of a roster after their first step; of a worker that is listed twice, the first
+/// counts.
 pub fn first_step(alloc: Global, members: &[Member]) -> Result<SortedMap<Chain>, AllocError>
     ensures { IfOk result (λ table. (n : Name) → item_in name_of_chain n table
         ≡ option_map chain_of (item_in name_of_member n members.now)) }
@@ -78,8 +79,8 @@ pub fn first_step(alloc: Global, members: &[Member]) -> Result<SortedMap<Chain>,
     Ok(table)
 }
 
-/// Chains by rising worker. Beside each stands a guess of the place in the list of the worker that it goes on at: a wrong
-/// one costs a search. Contracts see the chains.
+/// Chains by rising worker. Beside each stands a guess of the place in the list of the worker that
+/// it goes on at: a wrong one costs a search. Contracts see the chains.
 #[derive(Drop)]
 pub struct Chains {
     chains: Listed<Chain>,
@@ -179,8 +180,8 @@ fn place_of(chains: &[Chain], reach: Reach) -> Option<usize> {
     }
 }
 
-/// The chains after so many steps, each as the list of one step says. Where none goes on any more, all longer ones are
-/// the same.
+/// The chains after so many steps, each as the list of one step says. Where none goes on any more,
+/// all longer ones are the same.
 pub fn after_steps(alloc: Global, step: &Chains, steps: usize) -> Result<Chains, AllocError>
     requires some { 0 < steps }
     requires order { AreInOrder name_of_chain step.now }

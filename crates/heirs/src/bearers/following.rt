@@ -7,11 +7,12 @@ ghost use Rattle.heirs.specs.Chains.{begun};
 use super::chains::Reach;
 use ids::{Actor, Member, Status, item_of};
 
-/// Who has a worker's work: itself where it lives or isn't listed, nobody where it is dead, and where it left, whoever
-/// has its heir's; a circle of heirs ends at nobody. Takes no memory.
+/// Who has a worker's work: itself where it lives or isn't listed, nobody where it is dead, and
+/// where it left, whoever has its heir's; a circle of heirs ends at nobody. Takes no memory.
 ///
-/// The members are looked through once. Where they stand by rising worker, each heir is then found by binary search; else they
-/// are looked through again for each heir. A circle is seen after three times as many heirs as left, or fewer.
+/// The members are looked through once. Where they stand by rising worker, each heir is then found
+/// by binary search; else they are looked through again for each heir. A circle is seen after three
+/// times as many heirs as left, or fewer.
 pub fn bearer_of(members: &[Member], worker: Actor) -> Option<Actor>
     ensures { result ≡ resolve members.now worker }
 {
@@ -49,7 +50,8 @@ fn first_reach(members: &[Member], rising: bool, worker: Actor) -> Reach
     }
 }
 
-/// What is said of a worker; none of one that isn't listed. Found by binary search where the members stand by rising worker.
+/// What is said of a worker; none of one that isn't listed. Found by binary search where the
+/// members stand by rising worker.
 fn status_of(members: &[Member], rising: bool, worker: Actor) -> Option<Status>
     requires { IsTrue rising → AreInOrder name_of_member members.now }
     ensures { result ≡ status_in worker members.now }

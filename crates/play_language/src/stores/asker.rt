@@ -1,8 +1,8 @@
 //! The request of a thief.
 
-use super::words::{actor_at, count_at, status};
+use super::words::{actor_at, count_at};
 use ids::Status;
-use play_packets::grant;
+use play_packets::{grant, status, write_field};
 use play_words::{Answers, CommandLine};
 use steal_protocol::Asker;
 
@@ -18,15 +18,12 @@ fn said(line: &CommandLine<'_>) -> Option<Option<Status>> {
 fn write_state(out: &mut Answers, asker: &Asker) {
     match asker.pending() {
         Some(request) => {
-            out.text("> request ");
-            out.number(request.seq.number());
-            out.text(" of ");
-            out.number(request.victim.word());
+            write_field(out, "> request ", request.seq.number());
+            write_field(out, " of ", request.victim.word());
         }
         None => out.text("> no request"),
     }
-    out.text(", ");
-    out.number(asker.asked());
+    write_field(out, ", ", asker.asked());
     out.text(" made");
     out.end();
 }

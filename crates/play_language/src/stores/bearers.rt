@@ -1,24 +1,19 @@
 //! Who has the work of a roster's workers.
 
-use super::words::{ends, status};
 use heirs::Bearers;
-use ids::{Actor, Incarnation, Listed, Member};
+use ids::{Actor, Member};
+use play_packets::{ends, members, write_field};
 use play_words::{Answers, CommandLine};
 use std::alloc::Global;
 
 /// Writes who has the work of workers.
 fn write_bearer(out: &mut Answers, first: u64, last: u64, bearer: Option<Actor>) {
-    out.text(" ");
-    out.number(first);
+    write_field(out, " ", first);
     if first != last {
-        out.text("..");
-        out.number(last);
+        write_field(out, "..", last);
     }
     match bearer {
-        Some(actor) => {
-            out.text(":");
-            out.number(actor.word());
-        }
+        Some(actor) => write_field(out, ":", actor.word()),
         None => out.text(":-"),
     }
 }
@@ -58,39 +53,6 @@ fn write_heirs(alloc: Global, members: &[Member], first: u64, last: u64, out: &m
             }
             Err(_) => out.line("E9"),
         }
-    }
-}
-
-/// Adds a member `WORD:STATUS`, or with `FIRST..LAST` in the word's place one for each word; none
-/// where it is no such text.
-fn add_members(list: &mut Listed<Member>, text: &str, out: &mut Answers) -> Option<()> {
-    let (words, said) = text.split_once(':')?;
-    let (first, last) = ends(words)?;
-    for word in first..=last {
-        let status = status(said, word)?;
-        out.put(list.push(Member {
-            incarnation: Incarnation::worker(word)?,
-            status,
-        }));
-    }
-    Some(())
-}
-
-fn add_all_members(list: &mut Listed<Member>, text: &str, out: &mut Answers) -> bool {
-    let mut are_members = true;
-    for part in text.split(',') {
-        are_members = are_members && add_members(list, part, out).is_some();
-    }
-    are_members
-}
-
-/// The members of a text, parted by commas.
-fn members(alloc: Global, text: &str, out: &mut Answers) -> Option<Listed<Member>> {
-    let mut list = Listed::new(alloc);
-    if text == "-" || add_all_members(&mut list, text, out) {
-        Some(list)
-    } else {
-        None
     }
 }
 

@@ -3,7 +3,7 @@
 use super::words::range;
 use frames::{Filled, Frames};
 use ids::{Frame, FrameNo, Listed};
-use play_packets::{read_frames, write_frame};
+use play_packets::{read_frames, write_field, write_frame};
 use play_words::{Answers, CommandLine, keep};
 use std::alloc::Global;
 
@@ -48,12 +48,9 @@ fn write_fill(line: &CommandLine<'_>, frames: &mut Frames, out: &mut Answers) ->
 }
 
 fn write_tally(tally: Tally, out: &mut Answers) {
-    out.text("> ");
-    out.number(u64::from(tally.still));
-    out.text(" still wait, ");
-    out.number(u64::from(tally.ready));
-    out.text(" are ready, level ");
-    out.number(u64::from(tally.level));
+    write_field(out, "> ", u64::from(tally.still));
+    write_field(out, " still wait, ", u64::from(tally.ready));
+    write_field(out, " are ready, level ", u64::from(tally.level));
     out.end();
 }
 

@@ -3,7 +3,7 @@
 use super::words::{frame_at, range};
 use ids::{FrameNo, GrantId};
 use level_deques::{Post, PostTest, Posts};
-use play_packets::{grant, write_grant};
+use play_packets::{grant, write_field, write_framed};
 use play_words::{Answers, CommandLine, keep};
 
 /// Keeps the posts from a level on.
@@ -26,11 +26,8 @@ fn write_post(out: &mut Answers, post: Option<Post>) {
     match post {
         Some(post) => {
             out.text("> ");
-            write_grant(out, post.grant);
-            out.text(" frame ");
-            out.number(u64::from(post.frame.number()));
-            out.text(" level ");
-            out.number(u64::from(post.level));
+            write_framed(out, post.grant, post.frame);
+            write_field(out, " level ", u64::from(post.level));
             out.end();
         }
         None => out.line("none"),
@@ -95,10 +92,8 @@ fn write_retained(level: u16, posts: &mut Posts, out: &mut Answers) {
         match posts.clone() {
             Ok(copy) => {
                 posts.retain(&FromLevel { level });
-                out.text("> ");
-                out.number(posts.len() as u64);
-                out.text(" posts, ");
-                out.number(copy.len() as u64);
+                write_field(out, "> ", posts.len() as u64);
+                write_field(out, " posts, ", copy.len() as u64);
                 out.text(" in a copy");
                 out.end();
                 write_post(out, copy.shallowest());

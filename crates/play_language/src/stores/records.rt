@@ -3,7 +3,7 @@
 use super::words::{range, worker_at};
 use codec::Body;
 use ids::{Actor, GrantId, Incarnation, Record};
-use play_packets::{grant, let_go, read_packet, write_grant};
+use play_packets::{grant, let_go, read_packet, write_field, write_grant};
 use play_words::{Answers, CommandLine, keep};
 use std::alloc::{AllocError, Global};
 use victim_records::Records;
@@ -46,8 +46,7 @@ fn write_opened(
 
 /// Writes how many grants there are, and which, but of many only how many.
 fn write_grants(grants: &[GrantId], out: &mut Answers) {
-    out.text("> ");
-    out.number(grants.len() as u64);
+    write_field(out, "> ", grants.len() as u64);
     out.text(" records");
     if grants.len() < 10 {
         for grant in grants {
@@ -77,10 +76,8 @@ fn write_found(out: &mut Answers, found: Option<&Record>) {
         Some(record) => {
             out.text("> ");
             write_grant(out, record.grant);
-            out.text(" held by ");
-            out.number(record.holder.word());
-            out.text(" frame ");
-            out.number(u64::from(record.frame.number()));
+            write_field(out, " held by ", record.holder.word());
+            write_field(out, " frame ", u64::from(record.frame.number()));
             out.end();
         }
         None => out.line("none"),
@@ -89,10 +86,8 @@ fn write_found(out: &mut Answers, found: Option<&Record>) {
 
 /// Writes how many records there are, and how many in a copy.
 fn write_counts(records: &Records, copy: &Records, out: &mut Answers) {
-    out.text("> ");
-    out.number(records.len() as u64);
-    out.text(" records, ");
-    out.number(copy.len() as u64);
+    write_field(out, "> ", records.len() as u64);
+    write_field(out, " records, ", copy.len() as u64);
     out.text(" in the copy");
     out.end();
 }

@@ -2,7 +2,7 @@ use ids::{
     Actor, Address, Count, Epoch, FrameNo, GrantId, Hop, Incarnation, Outcome, Progress, Return,
     Status,
 };
-use play_words::{byte, signed64, word32, word64};
+use play_words::{CommandLine, byte, signed64, size, word32, word64};
 
 pub fn worker(text: &str) -> Option<Incarnation> {
     Incarnation::worker(word64(text)?)
@@ -72,12 +72,31 @@ pub fn returned(text: &str) -> Option<Return> {
     Some(Return::Local(frame_number(frame)?, byte(slot)?))
 }
 
-pub fn status(text: &str) -> Option<Status> {
-    if text == "live" {
-        Some(Status::Live)
-    } else if text == "dead" {
-        Some(Status::Dead)
-    } else {
-        Some(Status::Left(worker(text.strip_prefix("left:")?)?))
+/// What is said of a worker: that it lives, is dead, left to another one or to the next one.
+pub fn status(text: &str, word: u64) -> Option<Status> {
+    match text {
+        "live" => Some(Status::Live),
+        "dead" => Some(Status::Dead),
+        "left:next" => Some(Status::Left(Incarnation::worker(word.checked_add(1)?)?)),
+        _ => Some(Status::Left(worker(text.strip_prefix("left:")?)?)),
     }
+}
+
+/// The first and the last number of `FROM..TO`, which may be one number; none where the first is
+/// greater.
+pub fn ends(text: &str) -> Option<(u64, u64)> {
+    let (first, last) = text.split_once("..").unwrap_or((text, text));
+    let (first, last) = (word64(first)?, word64(last)?);
+    (first <= last).then_some((first, last))
+}
+
+/// The same as numbers of frames.
+pub fn frame_ends(text: &str) -> Option<(u32, u32)> {
+    let (first, last) = ends(text)?;
+    Some((u32::try_from(first).ok()?, u32::try_from(last).ok()?))
+}
+
+/// The count that the word at an index is.
+pub fn size_at(line: &CommandLine<'_>, index: usize) -> Option<usize> {
+    size(line.word(index)?)
 }

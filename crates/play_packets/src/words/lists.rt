@@ -1,19 +1,18 @@
 //! Lists in words.
 
-use crate::words::fields::status;
+use crate::words::fields::{ends, status};
 use ids::{Incarnation, Listed, Member, Place, Slots};
 use play_words::{Answers, byte, bytes_of_hex, signed64, word32, word64};
 use saved_values::{SavedPlace, SavedValue};
 use std::alloc::Global;
 
-/// Adds a member `WORD:STATUS`, or with `FROM..TO` in the word's place one for each word; none where it is no such text.
+/// Adds a member `WORD:STATUS`, or with `FROM..TO` in the word's place one for each word; none
+/// where it is no such text.
 fn add_members(list: &mut Listed<Member>, text: &str, out: &mut Answers) -> Option<()> {
     let (words, said) = text.split_once(':')?;
-    let status = status(said)?;
-    let (first, last) = words.split_once("..").unwrap_or((words, words));
-    let first = word64(first)?;
-    let last = word64(last)?;
+    let (first, last) = ends(words)?;
     for word in first..=last {
+        let status = status(said, word)?;
         out.put(list.push(Member {
             incarnation: Incarnation::worker(word)?,
             status,
@@ -30,13 +29,11 @@ fn add_all_members(list: &mut Listed<Member>, text: &str, out: &mut Answers) -> 
     are_members
 }
 
+/// Members that commas part, `-` for none.
 pub fn members(alloc: Global, text: &str, out: &mut Answers) -> Option<Listed<Member>> {
     let mut list = Listed::new(alloc);
-    if text == "-" || add_all_members(&mut list, text, out) {
-        Some(list)
-    } else {
-        None
-    }
+    let is_list = text == "-" || add_all_members(&mut list, text, out);
+    is_list.then_some(list)
 }
 
 /// Adds numbers that commas part. Whether they are numbers.
@@ -54,11 +51,8 @@ fn add_numbers(list: &mut Listed<i64>, text: &str, out: &mut Answers) -> bool {
 /// Numbers that commas part, `-` for none; none where they are no numbers.
 pub fn numbers(alloc: Global, text: &str, out: &mut Answers) -> Option<Listed<i64>> {
     let mut list = Listed::new(alloc);
-    if text == "-" || add_numbers(&mut list, text, out) {
-        Some(list)
-    } else {
-        None
-    }
+    let is_list = text == "-" || add_numbers(&mut list, text, out);
+    is_list.then_some(list)
 }
 
 fn slot(text: &str) -> Option<Option<i64>> {
@@ -82,11 +76,8 @@ fn add_slots(list: &mut Slots, text: &str, out: &mut Answers) -> bool {
 
 pub fn slots(alloc: Global, text: &str, out: &mut Answers) -> Option<Slots> {
     let mut list = Slots::new(alloc);
-    if text == "-" || add_slots(&mut list, text, out) {
-        Some(list)
-    } else {
-        None
-    }
+    let is_list = text == "-" || add_slots(&mut list, text, out);
+    is_list.then_some(list)
 }
 
 /// A step, or `STEP*TIMES`.
@@ -119,11 +110,8 @@ fn add_steps(list: &mut Listed<u8>, text: &str, out: &mut Answers) -> bool {
 /// Steps joined by dots, `-` for none; `STEP*TIMES` is so many of a step.
 pub fn steps(alloc: Global, text: &str, out: &mut Answers) -> Option<Listed<u8>> {
     let mut list = Listed::new(alloc);
-    if text == "-" || add_steps(&mut list, text, out) {
-        Some(list)
-    } else {
-        None
-    }
+    let is_list = text == "-" || add_steps(&mut list, text, out);
+    is_list.then_some(list)
 }
 
 /// The place that steps lead to.
@@ -154,10 +142,14 @@ fn add_saved(alloc: Global, list: &mut Listed<SavedValue>, text: &str, out: &mut
 /// Values that are saved, `-` for none.
 pub fn saved_values(alloc: Global, text: &str, out: &mut Answers) -> Option<Listed<SavedValue>> {
     let mut list = Listed::new(alloc);
-    if text == "-" || add_saved(alloc, &mut list, text, out) {
-        Some(list)
-    } else {
-        None
+    let is_list = text == "-" || add_saved(alloc, &mut list, text, out);
+    is_list.then_some(list)
+}
+
+/// Adds bytes so many times.
+pub fn add_times(bytes: &mut Vec<u8>, part: &[u8], times: u64, out: &mut Answers) {
+    for _ in 0..times {
+        out.put(bytes.extend_from_slice(part));
     }
 }
 
@@ -167,8 +159,6 @@ pub fn bytes(alloc: Global, text: &str, out: &mut Answers) -> Option<Listed<u8>>
     let times = word32(times)?;
     let spelled = bytes_of_hex(alloc, hex, out)?;
     let mut bytes = Vec::new(alloc);
-    for _ in 0..times {
-        out.put(bytes.extend_from_slice(&spelled));
-    }
+    add_times(&mut bytes, &spelled, u64::from(times), out);
     Some(Listed::from_vec(bytes))
 }

@@ -11,8 +11,8 @@ use ids::{
 use play_words::{Answers, CommandLine, byte, signed64, word64};
 use std::alloc::Global;
 
-/// The words of a packet that are still to be read, none behind the last one, and whether one was wrong of which a list was to be
-/// read.
+/// The words of a packet that are still to be read, none behind the last one, and whether one was
+/// wrong of which a list was to be read.
 #[derive(Clone, Copy)]
 struct Words<'a> {
     rest: Option<&'a str>,
@@ -35,7 +35,8 @@ impl<'a> Words<'a> {
         }
     }
 
-    /// The value of the next word, which has this key; empty, which is no value of any key, where it has not.
+    /// The value of the next word, which has this key; empty, which is no value of any key, where
+    /// it has not.
     fn value(&mut self, key: &str) -> &'a str {
         match self.word().split_once('=') {
             Some((name, value)) if name == key => value,
@@ -62,8 +63,8 @@ pub fn read_packet(
     packet_in(alloc, line, from, out)?
 }
 
-/// The same, where words that are no packet's in form are none; none inside where they have a field that no packet can hold, or
-/// an address that doesn't suit the kind.
+/// The same, where words that are no packet's in form are none; none inside where they have a field
+/// that no packet can hold, or an address that doesn't suit the kind.
 pub fn packet_in(
     alloc: Global,
     line: &CommandLine<'_>,
@@ -108,8 +109,8 @@ pub fn let_go(packet: Packet) {
 fn body(alloc: Global, words: &mut Words<'_>, out: &mut Answers) -> Option<Body> {
     match words.word() {
         "Roster" => roster(alloc, words, out),
-        "Grant" => grant(alloc, words, out),
-        "SavedGrant" => saved_grant(alloc, words, out),
+        "Grant" => grant(alloc, words, false, out),
+        "SavedGrant" => grant(alloc, words, true, out),
         "Offer" => offer(alloc, words, out),
         "Piece" => piece(alloc, words, out),
         "Save" => save(alloc, words, out),
@@ -162,24 +163,16 @@ fn task_in(alloc: Global, words: &mut Words<'_>, out: &mut Answers) -> Option<Ta
     task(alloc, thread, at, words.value("on"), out)
 }
 
-fn grant(alloc: Global, words: &mut Words<'_>, out: &mut Answers) -> Option<Body> {
+/// A Grant, with saved values where its kind has some.
+fn grant(alloc: Global, words: &mut Words<'_>, has_saved: bool, out: &mut Answers) -> Option<Body> {
     let seq = fields::count(words.value("seq"))?;
     let grant = fields::grant(words.value("grant"))?;
     let task = task_in(alloc, words, out)?;
-    Some(Body::Grant(Grant {
-        seq,
-        grant,
-        task,
-        saved: Listed::new(alloc),
-    }))
-}
-
-/// A Grant with one saved value or more.
-fn saved_grant(alloc: Global, words: &mut Words<'_>, out: &mut Answers) -> Option<Body> {
-    let seq = fields::count(words.value("seq"))?;
-    let grant = fields::grant(words.value("grant"))?;
-    let task = task_in(alloc, words, out)?;
-    let saved = saved_values(alloc, words.value("saved"), out)?;
+    let saved = if has_saved {
+        saved_values(alloc, words.value("saved"), out)?
+    } else {
+        Listed::new(alloc)
+    };
     Some(Body::Grant(Grant {
         seq,
         grant,

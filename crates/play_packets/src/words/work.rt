@@ -1,9 +1,9 @@
 //! Tasks, frames and records in words.
 
-use crate::words::fields::{frame_number, grant, returned, worker};
+use crate::words::fields::{frame_ends, frame_number, grant, returned, worker};
 use crate::words::lists::{numbers, place, slots};
 use ids::{Frame, FrameNo, GrantId, Listed, Numbers, Record, Return, Task};
-use play_words::{Answers, byte, word32, word64};
+use play_words::{Answers, byte, word64};
 use std::alloc::Global;
 
 /// The task of a thread at a place on numbers.
@@ -72,22 +72,11 @@ fn add_framed(
     true
 }
 
-/// The first and the last number of `FROM..TO`, which may be one number.
-fn ends(text: &str) -> Option<(u32, u32)> {
-    match text.split_once("..") {
-        Some((first, last)) => Some((word32(first)?, word32(last)?)),
-        None => {
-            let number = word32(text)?;
-            Some((number, number))
-        }
-    }
-}
-
-/// Adds a frame `NUMBER;PLACE;THREAD;SLOTS;RETURN`, or with `FROM..TO` in the number's place one for each number. Whether it is
-/// so.
+/// Adds a frame `NUMBER;PLACE;THREAD;SLOTS;RETURN`, or with `FROM..TO` in the number's place one
+/// for each number. Whether it is so.
 pub fn add_frames(alloc: Global, list: &mut Listed<Frame>, text: &str, out: &mut Answers) -> bool {
     match text.split_once(';') {
-        Some((numbers, rest)) => match ends(numbers) {
+        Some((numbers, rest)) => match frame_ends(numbers) {
             Some(ends) => add_framed(alloc, list, ends, rest, out),
             None => false,
         },
@@ -98,11 +87,8 @@ pub fn add_frames(alloc: Global, list: &mut Listed<Frame>, text: &str, out: &mut
 /// The same frames in a list; none where the text is no such word.
 pub fn read_frames(alloc: Global, text: &str, out: &mut Answers) -> Option<Listed<Frame>> {
     let mut list = Listed::new(alloc);
-    if add_frames(alloc, &mut list, text, out) {
-        Some(list)
-    } else {
-        None
-    }
+    let is_word = add_frames(alloc, &mut list, text, out);
+    is_word.then_some(list)
 }
 
 /// The task of words `PLACE;THREAD;NUMBERS;RETURN`, and where its value returns.
@@ -154,7 +140,8 @@ fn add_record(
     }
 }
 
-/// Adds a record for each grant from the first one to that of the last number. Whether they are records.
+/// Adds a record for each grant from the first one to that of the last number. Whether they are
+/// records.
 fn add_recorded(
     alloc: Global,
     list: &mut Listed<Record>,
@@ -181,8 +168,8 @@ fn granted(text: &str) -> Option<(GrantId, u64)> {
     }
 }
 
-/// Adds a record `GRANT;HOLDER;FRAME;PLACE;THREAD;NUMBERS;RETURN`, or with `MINTER/FROM..TO` in the grant's place one for each
-/// number of a grant. Whether it is so.
+/// Adds a record `GRANT;HOLDER;FRAME;PLACE;THREAD;NUMBERS;RETURN`, or with `MINTER/FROM..TO` in the
+/// grant's place one for each number of a grant. Whether it is so.
 pub fn add_records(
     alloc: Global,
     list: &mut Listed<Record>,

@@ -1,7 +1,7 @@
 use codec::{Body, Grant, Offer, OfferAck, Packet, Piece, Roster, Save, TaskResult};
 use ids::{
-    Actor, Address, Frame, GrantId, Incarnation, Member, Outcome, Place, Progress, Record, Return,
-    Status, Task,
+    Actor, Address, Frame, FrameNo, GrantId, Incarnation, Member, Outcome, Place, Progress, Record,
+    Return, Status, Task,
 };
 use play_words::Answers;
 use saved_values::SavedValue;
@@ -15,7 +15,7 @@ pub fn write_packet(out: &mut Answers, packet: &Packet) {
 }
 
 /// Writes a number behind a text.
-fn write_field(out: &mut Answers, name: &str, number: u64) {
+pub fn write_field(out: &mut Answers, name: &str, number: u64) {
     out.text(name);
     out.number(number);
 }
@@ -135,7 +135,8 @@ fn repeated(bytes: &[u8]) -> Option<u8> {
     }
 }
 
-/// Writes bytes in hexadecimal digits; several that are all the same as one of them and how many there are.
+/// Writes bytes in hexadecimal digits; several that are all the same as one of them and how many
+/// there are.
 fn write_bytes(out: &mut Answers, bytes: &[u8]) {
     match repeated(bytes) {
         Some(byte) => {
@@ -290,6 +291,12 @@ pub fn write_outcome(out: &mut Answers, outcome: Outcome) {
 pub fn write_grant(out: &mut Answers, grant: GrantId) {
     write_actor(out, grant.minter());
     write_field(out, "/", grant.number());
+}
+
+/// Writes a frame of a grant, as `3/9 frame 4`.
+pub fn write_framed(out: &mut Answers, grant: GrantId, frame: FrameNo) {
+    write_grant(out, grant);
+    write_field(out, " frame ", u64::from(frame.number()));
 }
 
 fn write_actor(out: &mut Answers, actor: Actor) {

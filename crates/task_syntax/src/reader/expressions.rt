@@ -37,7 +37,8 @@ pub fn value(alloc: Global, tokens: &[Token]) -> Result<(Expr, &[Token]), ParseE
     Ok((tree, rest))
 }
 
-/// An expression with no operator looser than `loosest` and at most so many parentheses inside each other.
+/// An expression with no operator looser than `loosest` and at most so many parentheses inside each
+/// other.
 #[cycle(expression)]
 fn expression(
     alloc: Global,

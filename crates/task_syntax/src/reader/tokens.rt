@@ -139,7 +139,8 @@ pub fn level(op: Operator) -> u8
     }
 }
 
-/// An operator of a level from `loosest` to `tightest`, where one stands first, its place, and the tokens behind it.
+/// An operator of a level from `loosest` to `tightest`, where one stands first, its place, and the
+/// tokens behind it.
 pub fn infix(loosest: u8, tightest: u8, tokens: &[Token]) -> Option<(Operator, u32, &[Token])>
     ensures some { IfSome result (λ x. IsInfix loosest tightest x.0 x.1 tokens.now x.2.now) }
     ensures none { IfNone result (LacksInfix loosest tightest tokens.now) }

@@ -1,4 +1,5 @@
--- What was read is a packet, by the laws of its format; and nothing is behind it, since all of the bytes are one.
+-- What was read is a packet, by the laws of its format; and nothing is behind it, since all of the
+-- bytes are one.
 use Rattle.std.proofs.Common.{List, ℕ, sym, ap, subst, ◌∙◌, arith}
 use Rattle.std.proofs.lemmas.Result.{err_from_is_err_and}
 use Rattle.packet_fields.specs.Format.{Fails}

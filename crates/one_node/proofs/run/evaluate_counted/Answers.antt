@@ -1,4 +1,5 @@
--- Each turn that was taken leads to the run after one more, and the run that goes on has a next turn.
+-- Each turn that was taken leads to the run after one more, and the run that goes on has a next
+-- turn.
 use Rattle.std.proofs.Common.{◌≡◌, ◌+◌, arith}
 use Rattle.one_node.specs.Outcomes.{IsRunEnd}
 use Rattle.one_node.specs.Runs.{run_of}
