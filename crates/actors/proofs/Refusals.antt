@@ -21,6 +21,11 @@ same a error.NotJoined old new meets = meets.1
 same a error.Busy old new meets = meets.1
 same a error.Spent old new meets = meets.1
 
-pub did : (a : Answer) (r : Result Bool NodeCallError) (old new : NodeActorOf) → NodeCalled (Meets a) r old new → Did a r old new
-did a r old new (Ok step, meets, tells) = subst (λ (x : Result Bool NodeCallError). Did a x old new) (sym tells.0) (step, meets, tells.1)
-did a r old new (Err e, meets, tells) = subst (λ (x : Result Bool NodeCallError). Did a x old new) (sym tells.0) (ap (λ (on : NodeOn). record { on = on; waits = new.waits }) (same a e old.on new.on meets) ∙ ap (λ (waits : List PacketOf). record { on = old.on; waits = waits }) tells.1)
+pub did : (a : Answer) (r : Result Bool NodeCallError) (old new : NodeActorOf) → NodeCalled (Meets a) r old new
+    → Did a r old new
+did a r old new (Ok step, meets, tells) =
+    subst (λ (x : Result Bool NodeCallError). Did a x old new) (sym tells.0) (step, meets, tells.1)
+did a r old new (Err e, meets, tells) =
+    subst (λ (x : Result Bool NodeCallError). Did a x old new) (sym tells.0)
+    (ap (λ (on : NodeOn). record { on = on; waits = new.waits }) (same a e old.on new.on meets)
+    ∙ ap (λ (waits : List PacketOf). record { on = old.on; waits = waits }) tells.1)

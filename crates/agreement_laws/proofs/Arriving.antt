@@ -31,7 +31,8 @@ pub record ChangeAgrees (job : JobOf) (change : ContentChange) : Type 0 where
   pub fill : FillAgrees job change.fill
 
 -- the end of a content agrees where the outcome does
-pub end_agrees : (job : JobOf) (o : Outcome) (c : Content) → TaskAgrees job c.task → o ≡ outcome_at job.program job.input c.task.place → ChangeAgrees job (ends o c)
+pub end_agrees : (job : JobOf) (o : Outcome) (c : Content) → TaskAgrees job c.task
+    → o ≡ outcome_at job.program job.input c.task.place → ChangeAgrees job (ends o c)
 end_agrees job o c task is = record {
   content = record {
     task = task;
@@ -49,7 +50,9 @@ end_agrees job o c task is = record {
     no_record r at = cc
 
 -- a successor agrees with the value that one of its slots receives
-successor_filled : (p : Program) (input : List ℤ) (place before : List ℕ) (t : ℕ) (slots : List (Option ℤ)) (j : ℕ) (v : ℤ) → place ≡ zero ∷ before → FrameAgrees p input place t slots → slot_at p input before j ≡ Some v → FrameAgrees p input place t (slice_set slots j (Some v))
+successor_filled : (p : Program) (input : List ℤ) (place before : List ℕ) (t : ℕ) (slots : List (Option ℤ)) (j : ℕ)
+    (v : ℤ) → place ≡ zero ∷ before → FrameAgrees p input place t slots → slot_at p input before j ≡ Some v
+    → FrameAgrees p input place t (slice_set slots j (Some v))
 successor_filled p input place before t slots j v successor agrees is =
     let next : FrameAgrees p input (zero ∷ before) t slots = rw successor at agrees in
     rw successor (filled_agrees p input before t slots j v next is)
@@ -61,7 +64,8 @@ name_number : (m n : ℕ) → ◌≡◌ {A = Name} (m, 0) (n, 0) → m ≡ n
 name_number m n same = ap (λ (name : Name). name.0) same
 
 -- each frame stays at its place when a slot of one is filled
-keeps_filled : (parent : Frame) (j : ℕ) (v : ℤ) (frames : List Frame) (r : Return) → frame_in parent.number frames ≡ Some parent → Keeps frames (put_frame (with_slot j v parent) frames) r
+keeps_filled : (parent : Frame) (j : ℕ) (v : ℤ) (frames : List Frame) (r : Return)
+    → frame_in parent.number frames ≡ Some parent → Keeps frames (put_frame (with_slot j v parent) frames) r
 keeps_filled parent j v frames r here m i f is there = elim (same_or_other (m, 0) (parent.number, 0)) [
   | inl same ↦
       let number : m ≡ parent.number = name_number m parent.number same in
@@ -71,37 +75,54 @@ keeps_filled parent j v frames r here m i f is there = elim (same_or_other (m, 0
         there = rw number (put_is_found name_of_frame (with_slot j v parent) frames);
         at = ap (λ (g : Frame). g.place) (same_found parent f (frame_in parent.number frames) here at);
       }
-  | inr other ↦ record { frame = f; there = put_stays name_of_frame (m, 0) (with_slot j v parent) frames other ∙ there; at = refl }
+  | inr other ↦ record {
+    frame = f;
+    there = put_stays name_of_frame (m, 0) (with_slot j v parent) frames other ∙ there;
+    at = refl;
+  }
 ]
 
 -- the frame whose slot is filled holds
-parent_holds : (job : JobOf) (root : List ℕ) (frames : List Frame) (parent : Frame) (before : List ℕ) (j : ℕ) (v : ℤ) → frame_in parent.number frames ≡ Some parent → parent.place ≡ zero ∷ before → slot_at job.program job.input before j ≡ Some v → FrameHolds job root frames parent → FrameHolds job root (put_frame (with_slot j v parent) frames) (with_slot j v parent)
+parent_holds : (job : JobOf) (root : List ℕ) (frames : List Frame) (parent : Frame) (before : List ℕ) (j : ℕ) (v : ℤ)
+    → frame_in parent.number frames ≡ Some parent → parent.place ≡ zero ∷ before
+    → slot_at job.program job.input before j ≡ Some v → FrameHolds job root frames parent
+    → FrameHolds job root (put_frame (with_slot j v parent) frames) (with_slot j v parent)
 parent_holds job root frames parent before j v here successor is holds = record {
   takes = rw (length-set parent.slots j (Some v)) holds.takes;
-  agrees = successor_filled job.program job.input parent.place before parent.thread parent.slots j v successor holds.agrees is;
+  agrees = successor_filled job.program job.input parent.place before parent.thread parent.slots j v successor
+      holds.agrees is;
   short = holds.short;
   below = holds.below;
-  owed = still_owed job root frames (put_frame (with_slot j v parent) frames) parent.place parent.returns (keeps_filled parent j v frames parent.returns here) holds.owed;
+  owed = still_owed job root frames (put_frame (with_slot j v parent) frames) parent.place parent.returns
+      (keeps_filled parent j v frames parent.returns here) holds.owed;
 }
 
 -- the value that a slot receives comes to it
-fill_agrees : (job : JobOf) (c : Content) (parent : Frame) (before : List ℕ) (j : ℕ) (v : ℤ) → ContentAgrees job c → frame_in parent.number c.frames ≡ Some parent → parent.place ≡ zero ∷ before → slot_at job.program job.input before j ≡ Some v → ChangeAgrees job (filled j v c parent)
+fill_agrees : (job : JobOf) (c : Content) (parent : Frame) (before : List ℕ) (j : ℕ) (v : ℤ) → ContentAgrees job c
+    → frame_in parent.number c.frames ≡ Some parent → parent.place ≡ zero ∷ before
+    → slot_at job.program job.input before j ≡ Some v → ChangeAgrees job (filled j v c parent)
 fill_agrees job c parent before j v agrees here successor is = record {
   content = record {
     task = agrees.task;
     frames = λ m g at. elim (put_or_there name_of_frame (m, 0) (with_slot j v parent) g c.frames at) [
-      | inl x ↦ rw (x.1) (parent_holds job c.task.place c.frames parent before j v here successor is (agrees.frames parent.number parent here))
-      | inr x ↦ still_holds job c.task.place c.frames (put_frame (with_slot j v parent) c.frames) g (keeps_filled parent j v c.frames g.returns here) (agrees.frames m g x.1)
+      | inl x ↦ rw (x.1) (parent_holds job c.task.place c.frames parent before j v here successor is
+          (agrees.frames parent.number parent here))
+      | inr x ↦ still_holds job c.task.place c.frames (put_frame (with_slot j v parent) c.frames) g
+          (keeps_filled parent j v c.frames g.returns here) (agrees.frames m g x.1)
     ];
-    records = λ g r at. record_still_holds job c.task.place c.frames (put_frame (with_slot j v parent) c.frames) r (keeps_filled parent j v c.frames r.returns here) (agrees.records g r at);
+    records = λ g r at. record_still_holds job c.task.place c.frames (put_frame (with_slot j v parent) c.frames) r
+        (keeps_filled parent j v c.frames r.returns here) (agrees.records g r at);
     outcome = agrees.outcome;
   };
   fill = record { before = before; successor = successor; value = is };
 }
 
 -- a value that is owed comes to where it is awaited
-pub arrival_agrees : (job : JobOf) (c : Content) (place : List ℕ) (r : Return) (v : ℤ) → ContentAgrees job c → IsOwed job c.task.place c.frames place r → value_at job.program job.input place ≡ Some v → ChangeAgrees job (arrives r v c)
-arrival_agrees job c place Whole v agrees owed is = end_agrees job (Value v) c agrees.task (sym (ap outcome_of (sym owed ∙ is)))
+pub arrival_agrees : (job : JobOf) (c : Content) (place : List ℕ) (r : Return) (v : ℤ) → ContentAgrees job c
+    → IsOwed job c.task.place c.frames place r → value_at job.program job.input place ≡ Some v
+    → ChangeAgrees job (arrives r v c)
+arrival_agrees job c place Whole v agrees owed is =
+    end_agrees job (Value v) c agrees.task (sym (ap outcome_of (sym owed ∙ is)))
 arrival_agrees job c place (Local n j) v agrees owed is =
     let number : n ≡ owed.parent.number = frame_number n owed.parent c.frames owed.there in
     let here : frame_in owed.parent.number c.frames ≡ Some owed.parent = rw number at owed.there in

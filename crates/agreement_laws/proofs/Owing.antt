@@ -18,7 +18,8 @@ pub record Stands (frames : List Frame) (n : ℕ) (place : List ℕ) : Type 0 wh
 abbrev pub Keeps : (old new : List Frame) → Return → Type 0
 Keeps old new r = (n j : ℕ) (f : Frame) → r ≡ Local n j → frame_in n old ≡ Some f → Stands new n f.place
 
-pub still_owed : (job : JobOf) (root : List ℕ) (old new : List Frame) (place : List ℕ) (r : Return) → Keeps old new r → IsOwed job root old place r → IsOwed job root new place r
+pub still_owed : (job : JobOf) (root : List ℕ) (old new : List Frame) (place : List ℕ) (r : Return) → Keeps old new r
+    → IsOwed job root old place r → IsOwed job root new place r
 still_owed job root old new place Whole keeps owed = owed
 still_owed job root old new place (Local n j) keeps owed =
     let stands = keeps n j owed.parent refl owed.there in
@@ -30,7 +31,8 @@ still_owed job root old new place (Local n j) keeps owed =
       value = owed.value;
     }
 
-pub still_holds : (job : JobOf) (root : List ℕ) (old new : List Frame) (f : Frame) → Keeps old new f.returns → FrameHolds job root old f → FrameHolds job root new f
+pub still_holds : (job : JobOf) (root : List ℕ) (old new : List Frame) (f : Frame) → Keeps old new f.returns
+    → FrameHolds job root old f → FrameHolds job root new f
 still_holds job root old new f keeps holds = record {
   takes = holds.takes;
   agrees = holds.agrees;
@@ -39,7 +41,8 @@ still_holds job root old new f keeps holds = record {
   owed = still_owed job root old new f.place f.returns keeps holds.owed;
 }
 
-pub record_still_holds : (job : JobOf) (root : List ℕ) (old new : List Frame) (r : Record) → Keeps old new r.returns → RecordHolds job root old r → RecordHolds job root new r
+pub record_still_holds : (job : JobOf) (root : List ℕ) (old new : List Frame) (r : Record) → Keeps old new r.returns
+    → RecordHolds job root old r → RecordHolds job root new r
 record_still_holds job root old new r keeps holds = record {
   task = holds.task;
   below = holds.below;

@@ -37,7 +37,8 @@ use Rattle.agreement_laws.proofs.Resuming.{known_stand}
 use Rattle.agreement_laws.proofs.Joining.{join_agrees}
 
 -- the content with which a task begins
-pub granted_agrees : (job : JobOf) (host : ℕ) (task : Task) → TaskAgrees job task → ContentAgrees job (granted_content host task)
+pub granted_agrees : (job : JobOf) (host : ℕ) (task : Task) → TaskAgrees job task
+    → ContentAgrees job (granted_content host task)
 granted_agrees job host task agrees = record {
   task = agrees;
   frames = λ n f at. rw (only f (is_eq (name_cmp (n, 0) (0, 0))) at) first;
@@ -46,7 +47,8 @@ granted_agrees job host task agrees = record {
 }
   where
     first : FrameHolds job task.place (first_frame task ∷ []) (first_frame task)
-    first = task_holds job task.place (first_frame task ∷ []) (first_frame task) task agrees refl refl refl (record { steps = []; is = refl }) refl
+    first = task_holds job task.place (first_frame task ∷ []) (first_frame task) task agrees refl refl refl
+        (record { steps = []; is = refl }) refl
 
     only : (f : Frame) (b : Bool) → cond b (Some (first_frame task)) None ≡ Some f → f ≡ first_frame task
     only f true at = cc
@@ -56,7 +58,8 @@ granted_agrees job host task agrees = record {
     no_record r at = cc
 
 -- an accepted program's turns fit
-turn_fits : (p : Program) (t : ℕ) (numbers : List ℤ) (turn : Turn) → IsAccepted p → Takes p t (length numbers) → turn_of p t numbers ≡ Some turn → TurnFits p turn
+turn_fits : (p : Program) (t : ℕ) (numbers : List ℤ) (turn : Turn) → IsAccepted p → Takes p t (length numbers)
+    → turn_of p t numbers ≡ Some turn → TurnFits p turn
 turn_fits p t numbers turn accepted takes is =
     let reaches = accepted.total.each t numbers takes in
     let same : reaches.turn ≡ turn = same_turn (turn_of p t numbers) reaches.turn reaches.reached is in
@@ -76,15 +79,20 @@ pub record Turns (job : JobOf) (c : Content) (f : Frame) (numbers : List ℤ) (t
   pub fits : TurnFits job.program turn
 
 -- a frame that joins where no place is below makes the whole too deep
-deep_agrees : (job : JobOf) (c : Content) (f : Frame) (numbers : List ℤ) (t : ℕ) (slots : List Slot) → Turns job c f numbers (Joins t slots) → 1024 ≤ length f.place → ChangeAgrees job (ends TooDeep c)
+deep_agrees : (job : JobOf) (c : Content) (f : Frame) (numbers : List ℤ) (t : ℕ) (slots : List Slot)
+    → Turns job c f numbers (Joins t slots) → 1024 ≤ length f.place → ChangeAgrees job (ends TooDeep c)
 deep_agrees job c f numbers t slots turns long =
     let holds = turns.agrees.frames f.number f turns.there in
     let none = last_value job.program job.input f.place f.thread numbers t slots long turns.task.at turns.turn_is in
-    end_agrees job TooDeep c turns.agrees.task (sym (ap outcome_of (none_at_root job.program job.input c.task.place f.place (call_of f.thread numbers) holds.below turns.task.short turns.task.at none)))
+    end_agrees job TooDeep c turns.agrees.task
+    (sym (ap outcome_of (none_at_root job.program job.input c.task.place f.place
+    (call_of f.thread numbers) holds.below turns.task.short turns.task.at none)))
 
 -- a frame that joins above has the frames of its join in its place, by what is known of its kids'
 -- values
-replaced_agrees : (job : JobOf) (known : Known) (c : Content) (f : Frame) (numbers : List ℤ) (t : ℕ) (slots : List Slot) → KnownAgrees job known → Turns job c f numbers (Joins t slots) → length f.place < 1024 → ChangeAgrees job (replaced f.number (joined f t (resumed_slots known f.place slots) c.next) c)
+replaced_agrees : (job : JobOf) (known : Known) (c : Content) (f : Frame) (numbers : List ℤ) (t : ℕ) (slots : List Slot)
+    → KnownAgrees job known → Turns job c f numbers (Joins t slots) → length f.place < 1024
+    → ChangeAgrees job (replaced f.number (joined f t (resumed_slots known f.place slots) c.next) c)
 replaced_agrees job known c f numbers t slots right turns short =
     let holds = turns.agrees.frames f.number f turns.there in
     let rest = without_frame f.number c.frames in
@@ -93,12 +101,21 @@ replaced_agrees job known c f numbers t slots right turns short =
       content = join_agrees job c rest f numbers t slots xs (c.next + length (joined f t xs c.next))
           (left_agrees job c f.number turns.unowed turns.agrees)
           (all_filtered (λ x. x.number < c.next) _ c.frames turns.sound.below)
-          (record { task = turns.task.at; turn = turns.turn_is; takes = turns.fits.0; fits = turns.fits.1; below = holds.below; short = short; stand = known_stand job known f.place f.thread numbers t slots right turns.task.at turns.turn_is })
+          (record {
+            task = turns.task.at;
+            turn = turns.turn_is;
+            takes = turns.fits.0;
+            fits = turns.fits.1;
+            below = holds.below;
+            short = short;
+            stand = known_stand job known f.place f.thread numbers t slots right turns.task.at turns.turn_is;
+          })
           (left_owes job c f turns.unowed turns.there turns.agrees);
       fill = tt;
     }
 
-turn_of_kind : (job : JobOf) (known : Known) (c : Content) (f : Frame) (numbers : List ℤ) (turn : Turn) → KnownAgrees job known → Turns job c f numbers turn → ChangeAgrees job (turned f (resumed known f.place turn) c)
+turn_of_kind : (job : JobOf) (known : Known) (c : Content) (f : Frame) (numbers : List ℤ) (turn : Turn)
+    → KnownAgrees job known → Turns job c f numbers turn → ChangeAgrees job (turned f (resumed known f.place turn) c)
 turn_of_kind job known c f numbers (Sends v) right turns =
     arrival_agrees job (record c { frames = without_frame f.number c.frames }) f.place f.returns v
     (left_agrees job c f.number turns.unowed turns.agrees)
@@ -106,17 +123,24 @@ turn_of_kind job known c f numbers (Sends v) right turns =
     (sent_value job.program job.input f.place f.thread numbers v turns.task.at turns.turn_is)
 turn_of_kind job known c f numbers (Joins t slots) right turns = by_depth (nat_lt (length f.place) 1024) refl
   where
-    by_depth : (b : Bool) → nat_lt (length f.place) 1024 ≡ b → ChangeAgrees job (if b then replaced f.number (joined f t (resumed_slots known f.place slots) c.next) c else ends TooDeep c)
+    by_depth : (b : Bool) → nat_lt (length f.place) 1024 ≡ b
+        → ChangeAgrees job (if b then replaced f.number
+        (joined f t (resumed_slots known f.place slots) c.next) c else ends TooDeep c)
     by_depth true is = replaced_agrees job known c f numbers t slots right turns (ltb-true (length f.place) 1024 is)
     by_depth false is = deep_agrees job c f numbers t slots turns (ltb-false (length f.place) 1024 is)
 
 -- what the task at a place gives is the value there
-given_value : (job : JobOf) (task : Task) (v : ℤ) → TaskAgrees job task → serial job.program (room task.place) task.thread task.numbers ≡ Some v → value_at job.program job.input task.place ≡ Some v
+given_value : (job : JobOf) (task : Task) (v : ℤ) → TaskAgrees job task
+    → serial job.program (room task.place) task.thread task.numbers ≡ Some v
+    → value_at job.program job.input task.place ≡ Some v
 unfolding value_within
 given_value job task v agrees is = rw (agrees.at) is
 
 -- a ready frame that sends what its task gives, in the room below its place, keeps agreement
-pub given_agrees : (job : JobOf) (c : Content) (f : Frame) (numbers : List ℤ) (v : ℤ) → IsSound c → AreInOrder name_of_frame c.frames → ContentAgrees job c → frame_in f.number c.frames ≡ Some f → numbers_in f.slots ≡ Some numbers → serial job.program (room f.place) f.thread numbers ≡ Some v → ChangeAgrees job (turned f (Sends v) c)
+pub given_agrees : (job : JobOf) (c : Content) (f : Frame) (numbers : List ℤ) (v : ℤ) → IsSound c
+    → AreInOrder name_of_frame c.frames → ContentAgrees job c → frame_in f.number c.frames ≡ Some f
+    → numbers_in f.slots ≡ Some numbers → serial job.program (room f.place) f.thread numbers ≡ Some v
+    → ChangeAgrees job (turned f (Sends v) c)
 given_agrees job c f numbers v sound order agrees there full is =
     let task = frame_task job c.task.place c.frames f numbers (agrees.frames f.number f there) full in
     let unowed = ready_unowed c f sound order there (numbers_full f.slots numbers full) in
@@ -126,7 +150,10 @@ given_agrees job c f numbers v sound order agrees there full is =
     (given_value job (record { place = f.place; thread = f.thread; numbers = numbers }) v task is)
 
 -- a turn keeps agreement
-pub turn_agrees : (job : JobOf) (known : Known) (c : Content) (f : Frame) (numbers : List ℤ) (turn : Turn) → IsAccepted job.program → KnownAgrees job known → IsSound c → AreInOrder name_of_frame c.frames → ContentAgrees job c → frame_in f.number c.frames ≡ Some f → numbers_in f.slots ≡ Some numbers → turn_of job.program f.thread numbers ≡ Some turn → ChangeAgrees job (turned f (resumed known f.place turn) c)
+pub turn_agrees : (job : JobOf) (known : Known) (c : Content) (f : Frame) (numbers : List ℤ) (turn : Turn)
+    → IsAccepted job.program → KnownAgrees job known → IsSound c → AreInOrder name_of_frame c.frames
+    → ContentAgrees job c → frame_in f.number c.frames ≡ Some f → numbers_in f.slots ≡ Some numbers
+    → turn_of job.program f.thread numbers ≡ Some turn → ChangeAgrees job (turned f (resumed known f.place turn) c)
 turn_agrees job known c f numbers turn accepted right sound order agrees there full is =
     let task = frame_task job c.task.place c.frames f numbers (agrees.frames f.number f there) full in
     turn_of_kind job known c f numbers turn right (record {

@@ -62,8 +62,14 @@ node a = search (sendable, job, parts.the_send) depth 20
 
 house : (a : NamedLft) (D : RattleType) (g : Ghosts D.Denot) → IsSend D → IsSend (House.the_row a D g)
 house a D g d =
-    let fields : AllSend ((shr_ref_field a Job.the_row tt).row ∷ Book.the_row ∷ Store.the_row D g ∷ (Option.the_field Stop.the_row).row ∷ []) =
-    (search (sendable, job) depth 12, (book.the_send, (store.the_send D g d, (search (sendable, stop.the_send, stop.the_field_send) depth 20, tt)))) in
+    let fields : AllSend ((shr_ref_field a Job.the_row tt).row ∷ Book.the_row ∷ Store.the_row D g ∷
+    (Option.the_field Stop.the_row).row ∷ []) = (
+      search (sendable, job) depth 12,
+      (
+        book.the_send,
+        (store.the_send D g d, (search (sendable, stop.the_send, stop.the_field_send) depth 20, tt)),
+      ),
+    ) in
     search (sendable, fields) depth 12
 
 datagrams : IsSend (Kept.the_row Datagram.the_row)
@@ -79,11 +85,13 @@ nodes : (a : NamedLft) → IsSend (Option.the_row (Node.the_row a))
 nodes a = search (sendable, node) depth 20
 
 stand : (a : NamedLft) (D : RattleType) (g : Ghosts D.Denot) → IsSend D → IsSend (HouseState.the_field a D g).row
-stand a D g d = enum_send (cases (HouseState.the_type a D g)) ((d, tt), ((stop.the_field_send, (d, tt)), ((house a D g d, tt), (tt, tt))))
+stand a D g d = enum_send (cases (HouseState.the_type a D g))
+    ((d, tt), ((stop.the_field_send, (d, tt)), ((house a D g d, tt), (tt, tt))))
 
 seat : (a : NamedLft) (D : RattleType) (g : Ghosts D.Denot) → IsSend D → IsSend (HouseSlot.the_row a D g)
 seat a D g d =
-    let fields : AllSend ((shr_ref_field a Job.the_row tt).row ∷ (HouseState.the_field a D g).row ∷ []) = (search (sendable, job) depth 12, (stand a D g d, tt)) in
+    let fields : AllSend ((shr_ref_field a Job.the_row tt).row ∷ (HouseState.the_field a D g).row ∷ []) =
+    (search (sendable, job) depth 12, (stand a D g d, tt)) in
     search (sendable, fields) depth 12
 
 all_nodes : (a : NamedLft) → IsSend (Vec.the_row (Option.the_row (Node.the_row a)) Heap.the_row ghosts)
@@ -139,8 +147,25 @@ flat = search (sendable, instr, listed.the_send) depth 25
 
 world : (a : NamedLft) (D : RattleType) (g : Ghosts D.Denot) → IsSend D → IsSend (World.the_row a D g)
 world a D g d =
-    let fields : AllSend ((shr_ref_field a Job.the_row tt).row ∷ Flat.the_row ∷ Vec.the_row (Option.the_row (Node.the_row a)) Heap.the_row ghosts ∷ HouseSlot.the_row a D g ∷ Kept.the_row Datagram.the_row ∷ Kept.the_row Fill.the_row ∷ SortedMap.the_row Word.the_row named ∷ Box.the_row RunCounts.the_row Heap.the_row ghosts ∷ []) =
-    (search (sendable, job) depth 12, (flat, (all_nodes a, (seat a D g d, (datagrams, (fills, (used, (search (sendable, Box-send, counts.the_send) depth 12, tt)))))))) in
+    let fields : AllSend ((shr_ref_field a Job.the_row tt).row ∷ Flat.the_row ∷ Vec.the_row
+    (Option.the_row (Node.the_row a)) Heap.the_row ghosts ∷ HouseSlot.the_row a D g ∷ Kept.the_row
+    Datagram.the_row ∷ Kept.the_row Fill.the_row ∷ SortedMap.the_row Word.the_row named ∷ Box.the_row
+    RunCounts.the_row Heap.the_row ghosts ∷ []) = (
+      search (sendable, job) depth 12,
+      (
+        flat,
+        (
+          all_nodes a,
+          (
+            seat a D g d,
+            (
+              datagrams,
+              (fills, (used, (search (sendable, Box-send, counts.the_send) depth 12, tt))),
+            ),
+          ),
+        ),
+      ),
+    ) in
     search (sendable, fields) depth 12
 
 -- a history with its world, a seat, and a chronicle
@@ -150,12 +175,23 @@ entries = Vec-send Entry.the_row entry.the_send
 
 history : (a : NamedLft) (D : RattleType) (g : Ghosts D.Denot) → IsSend D → IsSend (History.the_row a D g)
 history a D g d =
-    let fields : AllSend (Heap.the_row ∷ Vec.the_row Entry.the_row Heap.the_row ghosts ∷ Box.the_row (World.the_row a D g) Heap.the_row ghosts ∷ bool ∷ Snapshot.the_row D ∷ []) =
-    (search (sendable, crosses) depth 12, (entries, (Box-send (World.the_row a D g) (world a D g d), (search sendable depth 12, (search (sendable, crosses) depth 12, tt))))) in
+    let fields : AllSend (Heap.the_row ∷ Vec.the_row Entry.the_row Heap.the_row ghosts ∷ Box.the_row
+    (World.the_row a D g) Heap.the_row ghosts ∷ bool ∷ Snapshot.the_row D ∷ []) = (
+      search (sendable, crosses) depth 12,
+      (
+        entries,
+        (
+          Box-send (World.the_row a D g) (world a D g d),
+          (search sendable depth 12, (search (sendable, crosses) depth 12, tt)),
+        ),
+      ),
+    ) in
     search (sendable, fields) depth 12
 
-pub actor_seat : (a : NamedLft) (D : RattleType) (s : SteadyGhosts D.Denot) (g : Ghosts D.Denot) → IsSend D → IsSend (ActorSeat.the_row a D s g)
+pub actor_seat : (a : NamedLft) (D : RattleType) (s : SteadyGhosts D.Denot) (g : Ghosts D.Denot) → IsSend D
+    → IsSend (ActorSeat.the_row a D s g)
 actor_seat a D s g d = search (sendable, history, lock_seat.the_send) depth 25
 
-pub chronicle : (a : NamedLft) (D : RattleType) (s : SteadyGhosts D.Denot) (g : Ghosts D.Denot) → IsSend D → IsSync (Chronicle.the_row a D s g)
+pub chronicle : (a : NamedLft) (D : RattleType) (s : SteadyGhosts D.Denot) (g : Ghosts D.Denot) → IsSend D
+    → IsSync (Chronicle.the_row a D s g)
 chronicle a D s g d = search (sendable, job, history, lock.the_sync, crosses) depth 25

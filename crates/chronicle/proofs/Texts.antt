@@ -29,17 +29,24 @@ is_read text es is read = ap script is ∙ text_read es read
 
 -- a text grows by the line of the next event
 
-pub text_goes_on : (text more whole : List ℕ) (left rest : List Entry) (e : Entry) → left ≡ e ∷ rest → text ++ lines_of (events_of left) ≡ whole → more ≡ text ++ ended (written e.event) → more ++ lines_of (events_of rest) ≡ whole
+pub text_goes_on : (text more whole : List ℕ) (left rest : List Entry) (e : Entry) → left ≡ e ∷ rest
+    → text ++ lines_of (events_of left) ≡ whole → more ≡ text ++ ended (written e.event)
+    → more ++ lines_of (events_of rest) ≡ whole
 text_goes_on text more whole left rest e front is one =
     ap (λ (t : List ℕ). t ++ lines_of (events_of rest)) one
-    ∙ (append_assoc text (ended (written e.event)) (lines_of (events_of rest)) ∙ (sym (ap (λ (es : List Entry). text ++ lines_of (events_of es)) front) ∙ is))
+    ∙ (append_assoc text (ended (written e.event)) (lines_of (events_of rest))
+    ∙ (sym (ap (λ (es : List Entry). text ++ lines_of (events_of es)) front) ∙ is))
 
-pub read_goes_on : (left rest : List Entry) (e : Entry) (All : Type 0) → left ≡ e ∷ rest → (AreRead (events_of left) → All) → IsRead e.event → AreRead (events_of rest) → All
+pub read_goes_on : (left rest : List Entry) (e : Entry) (All : Type 0) → left ≡ e ∷ rest
+    → (AreRead (events_of left) → All) → IsRead e.event → AreRead (events_of rest) → All
 read_goes_on left rest e All front is one others = is (rw front (one, others))
 
 -- and is whole when none is left
-pub text_ends : (text : List ℕ) (entries left : List Entry) → left ≡ [] → text ++ lines_of (events_of left) ≡ text_of (events_of entries) → text ≡ text_of (events_of entries)
-text_ends text entries left none is = sym (append-nil text) ∙ (sym (ap (λ (es : List Entry). text ++ lines_of (events_of es)) none) ∙ is)
+pub text_ends : (text : List ℕ) (entries left : List Entry) → left ≡ []
+    → text ++ lines_of (events_of left) ≡ text_of (events_of entries) → text ≡ text_of (events_of entries)
+text_ends text entries left none is =
+    sym (append-nil text) ∙ (sym (ap (λ (es : List Entry). text ++ lines_of (events_of es)) none) ∙ is)
 
-pub read_ends : (entries left : List Entry) → left ≡ [] → (AreRead (events_of left) → AreRead (events_of entries)) → AreRead (events_of entries)
+pub read_ends : (entries left : List Entry) → left ≡ [] → (AreRead (events_of left) → AreRead (events_of entries))
+    → AreRead (events_of entries)
 read_ends entries left none is = is (rw none tt)

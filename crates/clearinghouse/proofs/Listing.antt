@@ -25,17 +25,22 @@ HasAnother w = IsTrue (has_another w.incarnation w.status)
 abbrev lives : Enlisted → Bool
 lives w = says_live (Some w.status)
 
-all_mapped : (f : Enlisted → Enlisted) → ((w : Enlisted) → HasAnother w → HasAnother (f w)) → (ws : List Enlisted) → AllByRecursion HasAnother ws → AllByRecursion HasAnother (map f ws)
+all_mapped : (f : Enlisted → Enlisted) → ((w : Enlisted) → HasAnother w → HasAnother (f w)) → (ws : List Enlisted)
+    → AllByRecursion HasAnother ws → AllByRecursion HasAnother (map f ws)
 all_mapped f keeps [] h = tt
 all_mapped f keeps (w ∷ ws) h = (keeps w h.0, all_mapped f keeps ws h.1)
 
 -- no more live where nobody comes to life
-at_most : (f : Enlisted → Enlisted) → ((w : Enlisted) → one_if (lives (f w)) ≤ one_if (lives w)) → (ws : List Enlisted) → living (map f ws) ≤ living ws
+at_most : (f : Enlisted → Enlisted) → ((w : Enlisted) → one_if (lives (f w)) ≤ one_if (lives w)) → (ws : List Enlisted)
+    → living (map f ws) ≤ living ws
 at_most f less [] = omega arith
 at_most f less (w ∷ ws) = let rest : living (map f ws) ≤ living ws = at_most f less ws in omega (arith, less w, rest)
 
 -- a map that keeps names, and makes nobody live, to another version
-mapped : (f : Enlisted → Enlisted) (version next : ℕ) (ws : List Enlisted) → ((w : Enlisted) → name_of_enlisted (f w) ≡ name_of_enlisted w) → ((w : Enlisted) → HasAnother w → HasAnother (f w)) → next + living (map f ws) ≤ version + living ws → IsListing version ws → IsListing next (map f ws)
+mapped : (f : Enlisted → Enlisted) (version next : ℕ) (ws : List Enlisted)
+    → ((w : Enlisted) → name_of_enlisted (f w) ≡ name_of_enlisted w)
+    → ((w : Enlisted) → HasAnother w → HasAnother (f w)) → next + living (map f ws) ≤ version + living ws
+    → IsListing version ws → IsListing next (map f ws)
 mapped f version next ws names heirs less is = record {
   few = let same : length (map f ws) ≡ length ws = length-map ws f in omega (arith, same, is.few);
   rising = rising_map name_of_enlisted f names ws is.rising;
@@ -73,11 +78,13 @@ hear_less i moment w = by_test (has_key name_of_enlisted name_cmp (i, 0) w)
     by_test true = omega arith
     by_test false = omega arith
 
-pub heard_listing : (i moment version : ℕ) (ws : List Enlisted) → IsListing version ws → IsListing version (changed (hear moment) i ws)
+pub heard_listing : (i moment version : ℕ) (ws : List Enlisted) → IsListing version ws
+    → IsListing version (changed (hear moment) i ws)
 heard_listing i moment version ws is =
     let fewer : living (map (hear_at i moment) ws) ≤ living ws = at_most (hear_at i moment) (hear_less i moment) ws in
     rw (changed_everywhere name_of_enlisted (hear moment) (λ w. refl) (i, 0) ws is.rising)
-    (mapped (hear_at i moment) version version ws (change_keeps name_of_enlisted (hear moment) (λ w. refl) (i, 0)) (hear_heirs i moment) (omega (arith, fewer)) is)
+    (mapped (hear_at i moment) version version ws (change_keeps name_of_enlisted (hear moment) (λ w. refl) (i, 0))
+    (hear_heirs i moment) (omega (arith, fewer)) is)
 
 -- something else is said of a live one, which doesn't live then
 abbrev say : Status → Enlisted → Enlisted
@@ -107,22 +114,31 @@ module _ (i : ℕ) (s : Status) (gone : says_live (Some s) ≡ false) where
       by_test true = omega (arith, none)
       by_test false = omega arith
 
-  say_fewer : (ws : List Enlisted) → says_live (status_in i (map member_of ws)) ≡ true → living (map (say_at i s) ws) + 1 ≤ living ws
+  say_fewer : (ws : List Enlisted) → says_live (status_in i (map member_of ws)) ≡ true
+      → living (map (say_at i s) ws) + 1 ≤ living ws
   say_fewer [] live = cc
-  say_fewer (w ∷ ws) live = by_test (say_fewer ws) (at_most (say_at i s) say_less ws) (has_key name_of_enlisted name_cmp (i, 0) w) live
+  say_fewer (w ∷ ws) live = by_test (say_fewer ws) (at_most (say_at i s) say_less ws)
+      (has_key name_of_enlisted name_cmp (i, 0) w) live
     where
-      by_test : (says_live (status_in i (map member_of ws)) ≡ true → living (map (say_at i s) ws) + 1 ≤ living ws) → living (map (say_at i s) ws) ≤ living ws → (b : Bool) → says_live (status_of (cond b (Some (member_of w)) (item_in name_of_member (i, 0) (map member_of ws)))) ≡ true → one_if (lives (cond b (say s w) w)) + living (map (say_at i s) ws) + 1 ≤ one_if (lives w) + living ws
+      by_test : (says_live (status_in i (map member_of ws)) ≡ true → living (map (say_at i s) ws) + 1 ≤ living ws)
+          → living (map (say_at i s) ws) ≤ living ws → (b : Bool)
+          → says_live (status_of (cond b (Some (member_of w)) (item_in name_of_member (i, 0) (map member_of ws))))
+          ≡ true → one_if (lives (cond b (say s w) w)) + living (map (say_at i s) ws) + 1 ≤ one_if (lives w) + living ws
       by_test rest less true at =
           let none : one_if (says_live (Some s)) ≡ 0 = ap one_if gone in
           let one : one_if (lives w) ≡ 1 = ap one_if at in
           omega (arith, none, one, less)
-      by_test rest less false at = let behind : living (map (say_at i s) ws) + 1 ≤ living ws = rest at in omega (arith, behind)
+      by_test rest less false at = let behind : living (map (say_at i s) ws) + 1 ≤ living ws =
+          rest at in omega (arith, behind)
 
-  pub said_listing : (version : ℕ) (ws : List Enlisted) → IsTrue (has_another i s) → says_live (status_in i (map member_of ws)) ≡ true → IsListing version ws → IsListing (version + 1) (changed (say s) i ws)
+  pub said_listing : (version : ℕ) (ws : List Enlisted) → IsTrue (has_another i s)
+      → says_live (status_in i (map member_of ws)) ≡ true → IsListing version ws
+      → IsListing (version + 1) (changed (say s) i ws)
   said_listing version ws another live is =
       let fewer : living (map (say_at i s) ws) + 1 ≤ living ws = say_fewer ws live in
       rw (changed_everywhere name_of_enlisted (say s) (λ w. refl) (i, 0) ws is.rising)
-      (mapped (say_at i s) version (version + 1) ws (change_keeps name_of_enlisted (say s) (λ w. refl) (i, 0)) (say_heirs another) (omega (arith, fewer)) is)
+      (mapped (say_at i s) version (version + 1) ws (change_keeps name_of_enlisted (say s) (λ w. refl) (i, 0))
+      (say_heirs another) (omega (arith, fewer)) is)
 
 -- those that are lost don't live any more
 module _ (limit now : ℕ) where
@@ -147,33 +163,49 @@ module _ (limit now : ℕ) where
       by_test true at = refl
       by_test false at = cc
 
-  declare_dead_fewer : (ws : List Enlisted) → list_any (is_lost limit now) ws ≡ true → living (map (declared_dead limit now) ws) + 1 ≤ living ws
+  declare_dead_fewer : (ws : List Enlisted) → list_any (is_lost limit now) ws ≡ true
+      → living (map (declared_dead limit now) ws) + 1 ≤ living ws
   declare_dead_fewer [] some = cc
-  declare_dead_fewer (w ∷ ws) some = by_test (declare_dead_fewer ws) (at_most (declared_dead limit now) declare_dead_less ws) (is_lost limit now w) refl some
+  declare_dead_fewer (w ∷ ws) some = by_test (declare_dead_fewer ws)
+      (at_most (declared_dead limit now) declare_dead_less ws) (is_lost limit now w) refl some
     where
-      by_test : (list_any (is_lost limit now) ws ≡ true → living (map (declared_dead limit now) ws) + 1 ≤ living ws) → living (map (declared_dead limit now) ws) ≤ living ws → (b : Bool) → is_lost limit now w ≡ b → (b || list_any (is_lost limit now) ws) ≡ true → one_if (lives (say (cond b Dead w.status) w)) + living (map (declared_dead limit now) ws) + 1 ≤ one_if (lives w) + living ws
-      by_test rest less true is at = let one : one_if (lives w) ≡ 1 = ap one_if (lost_lives w is) in omega (arith, one, less)
-      by_test rest less false is at = let behind : living (map (declared_dead limit now) ws) + 1 ≤ living ws = rest at in omega (arith, behind)
+      by_test : (list_any (is_lost limit now) ws ≡ true → living (map (declared_dead limit now) ws) + 1 ≤ living ws)
+          → living (map (declared_dead limit now) ws) ≤ living ws → (b : Bool) → is_lost limit now w ≡ b
+          → (b || list_any (is_lost limit now) ws) ≡ true
+          → one_if (lives (say (cond b Dead w.status) w)) + living (map (declared_dead limit now) ws) + 1
+          ≤ one_if (lives w) + living ws
+      by_test rest less true is at = let one : one_if (lives w) ≡ 1 =
+          ap one_if (lost_lives w is) in omega (arith, one, less)
+      by_test rest less false is at = let behind : living (map (declared_dead limit now) ws) + 1 ≤ living ws =
+          rest at in omega (arith, behind)
 
-  pub declared_dead_listing : (version : ℕ) (ws : List Enlisted) → list_any (is_lost limit now) ws ≡ true → IsListing version ws → IsListing (version + 1) (map (declared_dead limit now) ws)
+  pub declared_dead_listing : (version : ℕ) (ws : List Enlisted) → list_any (is_lost limit now) ws ≡ true
+      → IsListing version ws → IsListing (version + 1) (map (declared_dead limit now) ws)
   declared_dead_listing version ws some is =
       let fewer : living (map (declared_dead limit now) ws) + 1 ≤ living ws = declare_dead_fewer ws some in
       mapped (declared_dead limit now) version (version + 1) ws (λ w. refl) declare_dead_heirs (omega (arith, fewer)) is
 
 -- a new worker
-not_there : (i : ℕ) (ws : List Enlisted) → status_in i (map member_of ws) ≡ None → item_in name_of_enlisted (i, 0) ws ≡ None
+not_there : (i : ℕ) (ws : List Enlisted) → status_in i (map member_of ws) ≡ None
+    → item_in name_of_enlisted (i, 0) ws ≡ None
 not_there i [] none = refl
 not_there i (w ∷ ws) none = by_test (not_there i ws) (has_key name_of_enlisted name_cmp (i, 0) w) none
   where
-    by_test : (status_in i (map member_of ws) ≡ None → item_in name_of_enlisted (i, 0) ws ≡ None) → (b : Bool) → status_of (cond b (Some (member_of w)) (item_in name_of_member (i, 0) (map member_of ws))) ≡ None → cond b (Some w) (item_in name_of_enlisted (i, 0) ws) ≡ None
+    by_test : (status_in i (map member_of ws) ≡ None → item_in name_of_enlisted (i, 0) ws ≡ None) → (b : Bool)
+        → status_of (cond b (Some (member_of w)) (item_in name_of_member (i, 0) (map member_of ws))) ≡ None
+        → cond b (Some w) (item_in name_of_enlisted (i, 0) ws) ≡ None
     by_test rest true at = cc
     by_test rest false at = rest at
 
-pub listed_listing : (w : Enlisted) (version : ℕ) (ws : List Enlisted) → w.status ≡ Live → status_in w.incarnation (map member_of ws) ≡ None → length ws < 4096 → IsListing version ws → IsListing (version + 1) (put_in name_of_enlisted w ws)
+pub listed_listing : (w : Enlisted) (version : ℕ) (ws : List Enlisted) → w.status ≡ Live
+    → status_in w.incarnation (map member_of ws) ≡ None → length ws < 4096 → IsListing version ws
+    → IsListing (version + 1) (put_in name_of_enlisted w ws)
 listed_listing w version ws live none room is =
     let new : item_in name_of_enlisted (w.incarnation, 0) ws ≡ None = not_there w.incarnation ws none in
-    let longer : length (put_in name_of_enlisted w ws) ≡ 1 + length ws = sum_put name_of_enlisted (λ v. 1) length (λ v vs. omega arith) w ws new in
-    let more : living (put_in name_of_enlisted w ws) ≡ one_if (lives w) + living ws = sum_put name_of_enlisted (λ v. one_if (lives v)) living (λ v vs. refl) w ws new in
+    let longer : length (put_in name_of_enlisted w ws) ≡ 1 + length ws =
+    sum_put name_of_enlisted (λ v. 1) length (λ v vs. omega arith) w ws new in
+    let more : living (put_in name_of_enlisted w ws) ≡ one_if (lives w) + living ws =
+    sum_put name_of_enlisted (λ v. one_if (lives v)) living (λ v vs. refl) w ws new in
     let one : one_if (lives w) ≡ 1 = ap (λ s. one_if (says_live (Some s))) live in record {
       few = omega (arith, longer, room);
       rising = rising_put name_of_enlisted w ws is.rising;
@@ -195,7 +227,8 @@ module _ (i : ℕ) (members : List Member) where
   another_to None = refl
   another_to (Some heir) = by_test (nat_eq heir i) refl (is_live heir members)
     where
-      by_test : (b : Bool) → nat_eq heir i ≡ b → (live : Bool) → IsTrue (has_another i (cond (not b && live) (Left heir) Dead))
+      by_test : (b : Bool) → nat_eq heir i ≡ b → (live : Bool)
+          → IsTrue (has_another i (cond (not b && live) (Left heir) Dead))
       by_test true is live = refl
       by_test false is true = rw is refl
       by_test false is false = refl

@@ -19,11 +19,14 @@ said (Some w) = Some w.status
 abbrev told : Option Member → Option Status
 told o = o >>= λ m. Some m.status
 
-pub status_found : (i : ℕ) (ws : List Enlisted) → status_in i (map member_of ws) ≡ said (item_in name_of_enlisted (i, 0) ws)
+pub status_found : (i : ℕ) (ws : List Enlisted)
+    → status_in i (map member_of ws) ≡ said (item_in name_of_enlisted (i, 0) ws)
 status_found i [] = refl
 status_found i (w ∷ ws) = by_test (status_found i ws) (has_key name_of_enlisted name_cmp (i, 0) w)
   where
-    by_test : status_in i (map member_of ws) ≡ said (item_in name_of_enlisted (i, 0) ws) → (b : Bool) → told (cond b (Some (member_of w)) (item_in name_of_member (i, 0) (map member_of ws))) ≡ said (cond b (Some w) (item_in name_of_enlisted (i, 0) ws))
+    by_test : status_in i (map member_of ws) ≡ said (item_in name_of_enlisted (i, 0) ws) → (b : Bool)
+        → told (cond b (Some (member_of w)) (item_in name_of_member (i, 0) (map member_of ws)))
+        ≡ said (cond b (Some w) (item_in name_of_enlisted (i, 0) ws))
     by_test rest true = refl
     by_test rest false = rest
 
@@ -31,5 +34,6 @@ there : (o : Option Enlisted) → says_live (said o) ≡ true → IsSomeAnd o (�
 there None live = cc
 there (Some w) live = tt
 
-pub live_there : (i : ℕ) (ws : List Enlisted) → is_live i (map member_of ws) ≡ true → IsSomeAnd (item_in name_of_enlisted (i, 0) ws) (λ w. Unit {0})
+pub live_there : (i : ℕ) (ws : List Enlisted) → is_live i (map member_of ws) ≡ true
+    → IsSomeAnd (item_in name_of_enlisted (i, 0) ws) (λ w. Unit {0})
 live_there i ws live = there (item_in name_of_enlisted (i, 0) ws) (rw (status_found i ws) at live)

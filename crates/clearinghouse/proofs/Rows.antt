@@ -60,7 +60,13 @@ ask i seq = Comes house (body.Steal (record { from = i; seq = seq }))
 
 -- a thief is granted the root, under a number, or is refused
 abbrev granted : ℕ → ℕ → ℕ → Event
-granted i seq number = to i (body.Grant (record { seq = seq; grant = root number; task = record { place = []; thread = 0; numbers = pos 2 ∷ [] }; saved = [] }))
+granted i seq number = to i (body.Grant
+    (record {
+      seq = seq;
+      grant = root number;
+      task = record { place = []; thread = 0; numbers = pos 2 ∷ [] };
+      saved = [];
+    }))
 
 abbrev refused : ℕ → ℕ → Event
 refused i seq = to i (body.Refuse (record { seq = seq }))
@@ -72,13 +78,19 @@ aborted i number = to i (body.Abort (record { grant = root number }))
 -- the first epoch begins over a checkpoint that was just formatted, and is committed; none begins
 -- behind the last
 first_epoch : open_over 500 (record { sequence = 0; epoch = 0; outcome = None; saved = [] }) ≡
-    Does (record { after = first; commits = Some (record { sequence = 1; epoch = 1; outcome = None; saved = [] }); sent = [] })
+    Does (record {
+      after = first;
+      commits = Some (record { sequence = 1; epoch = 1; outcome = None; saved = [] });
+      sent = [];
+    })
 first_epoch = refl
 
-last_epoch : (o : Option Outcome) → open_over 500 (record { sequence = 5; epoch = 2 ^ 63 - 1; outcome = o; saved = [] }) ≡ Refused error.Spent
+last_epoch : (o : Option Outcome) → open_over 500 (record { sequence = 5; epoch = 2 ^ 63 - 1; outcome = o; saved = [] })
+    ≡ Refused error.Spent
 last_epoch o = refl
 
-last_commit : (o : Option Outcome) → open_over 500 (record { sequence = 2 ^ 64 - 1; epoch = 5; outcome = o; saved = [] }) ≡ Refused error.Spent
+last_commit : (o : Option Outcome) → open_over 500
+    (record { sequence = 2 ^ 64 - 1; epoch = 5; outcome = o; saved = [] }) ≡ Refused error.Spent
 last_commit o = refl
 
 -- a byte is no packet; a stopped clearinghouse doesn't look at it
@@ -92,7 +104,8 @@ join_bytes =
     0x43 ∷ 0x4E ∷ 1 ∷ 1 ∷ 0 ∷ 0 ∷ 0 ∷ 0 ∷ 0 ∷ 0 ∷ 0 ∷ 1 ∷
     0x80 ∷ 0 ∷ 0 ∷ 0 ∷ 0 ∷ 0 ∷ 0 ∷ 0 ∷ 0 ∷ 0 ∷ 0 ∷ 0 ∷ 0 ∷ 0 ∷ 0 ∷ 3 ∷ []
 
-read : (p : Pointer) → on_bytes (job_of p) join_bytes (Open first) ≡ Does (sends (roster_packet 3 2 (member 3 ∷ []) ∷ []) (after (job_of p) (join 3 ∷ [])))
+read : (p : Pointer) → on_bytes (job_of p) join_bytes (Open first)
+    ≡ Does (sends (roster_packet 3 2 (member 3 ∷ []) ∷ []) (after (job_of p) (join 3 ∷ [])))
 unfolding reading packet fields kind_join worker on_body on_packet by_status by_order passes follow
 read p = refl
 
@@ -104,7 +117,8 @@ joined p = refl
 -- the root is asked for twice with one count: the same Grant twice; another thief, and a newer
 -- request, are refused
 asked_twice : (p : Pointer) → events (job_of p) (join 3 ∷ join 5 ∷ ask 3 1 ∷ ask 3 1 ∷ ask 5 1 ∷ ask 3 2 ∷ []) ≡
-    told 3 2 (member 3 ∷ []) ∷ told 5 3 (member 3 ∷ member 5 ∷ []) ∷ granted 3 1 1 ∷ granted 3 1 1 ∷ refused 5 1 ∷ refused 3 2 ∷ []
+    told 3 2 (member 3 ∷ []) ∷ told 5 3
+    (member 3 ∷ member 5 ∷ []) ∷ granted 3 1 1 ∷ granted 3 1 1 ∷ refused 5 1 ∷ refused 3 2 ∷ []
 unfolding on_body on_packet by_status by_order passes follow
 asked_twice p = refl
 
@@ -123,7 +137,8 @@ abbrev alone : List Call
 alone = join 3 ∷ ask 3 1 ∷ result 3 1 ∷ []
 
 recorded : (p : Pointer) → events (job_of p) (alone ++ result 3 1 ∷ ask 3 2 ∷ []) ≡
-    told 3 2 (member 3 ∷ []) ∷ granted 3 1 1 ∷ Commits (found 2) ∷ acknowledged 3 1 ∷ acknowledged 3 1 ∷ refused 3 2 ∷ []
+    told 3 2 (member 3 ∷ []) ∷ granted 3 1 1 ∷ Commits
+    (found 2) ∷ acknowledged 3 1 ∷ acknowledged 3 1 ∷ refused 3 2 ∷ []
 unfolding on_body on_packet by_status by_order passes follow
 recorded p = refl
 
@@ -141,7 +156,8 @@ abbrev root_at : ℕ → ℕ → Option RootGrant
 root_at number holder = Some (record { grant = root number; holder = holder })
 
 other_result : (p : Pointer) → answer_after (job_of p) (join 3 ∷ ask 3 1 ∷ []) (result 3 7) ≡
-    Does (sends (packet_to 3 (body.ResultAck (record { grant = root 7 })) ∷ []) (after (job_of p) (join 3 ∷ ask 3 1 ∷ [])))
+    Does (sends (packet_to 3 (body.ResultAck (record { grant = root 7 })) ∷ [])
+    (after (job_of p) (join 3 ∷ ask 3 1 ∷ [])))
 unfolding on_body on_packet by_status by_order passes follow
 other_result p = refl
 
@@ -160,17 +176,20 @@ epoch_2 : (p : Pointer) → name_of (again p) ≡ house_of 2
 unfolding on_body on_packet by_status by_order passes follow
 epoch_2 p = refl
 
-outcome_found : (p : Pointer) → on_packet (job_of p) (record { job = 1; to = house_of 2; body = body.Steal (record { from = 3; seq = 1 }) }) (listed_again p) ≡
+outcome_found : (p : Pointer) → on_packet (job_of p)
+    (record { job = 1; to = house_of 2; body = body.Steal (record { from = 3; seq = 1 }) }) (listed_again p) ≡
     Does (refuses (job_of p) (record { from = 3; seq = 1 }) (listed_again p))
 unfolding on_body on_packet by_status by_order passes follow
 outcome_found p = refl
 
 -- a member that was silent for 500 lives; after 501 it is dead
-silent_for_500 : (p : Pointer) → roster_of (after (job_of p) (join 3 ∷ Ticks 500 ∷ [])) ≡ record { epoch = 1; version = 2; members = member 3 ∷ [] }
+silent_for_500 : (p : Pointer) → roster_of (after (job_of p) (join 3 ∷ Ticks 500 ∷ []))
+    ≡ record { epoch = 1; version = 2; members = member 3 ∷ [] }
 unfolding on_body on_packet by_status by_order passes follow
 silent_for_500 p = refl
 
-silent_for_501 : (p : Pointer) → roster_of (after (job_of p) (join 3 ∷ Ticks 501 ∷ [])) ≡ record { epoch = 1; version = 3; members = dead 3 ∷ [] }
+silent_for_501 : (p : Pointer) → roster_of (after (job_of p) (join 3 ∷ Ticks 501 ∷ []))
+    ≡ record { epoch = 1; version = 3; members = dead 3 ∷ [] }
 unfolding on_body on_packet by_status by_order passes follow
 silent_for_501 p = refl
 
@@ -179,17 +198,20 @@ silent_for_501 p = refl
 abbrev beat : (epoch i version : ℕ) → Call
 beat epoch i version = Comes (house_of epoch) (body.Beat (record { from = i; version = version }))
 
-heard_at_100 : (p : Pointer) → members_of (after (job_of p) (join 3 ∷ join 4 ∷ join 5 ∷ Ticks 100 ∷ beat 1 3 2 ∷ join 4 ∷ join 6 ∷ Ticks 600 ∷ [])) ≡
+heard_at_100 : (p : Pointer) → members_of
+    (after (job_of p) (join 3 ∷ join 4 ∷ join 5 ∷ Ticks 100 ∷ beat 1 3 2 ∷ join 4 ∷ join 6 ∷ Ticks 600 ∷ [])) ≡
     member 3 ∷ member 4 ∷ dead 5 ∷ member 6 ∷ []
 unfolding on_body on_packet by_status by_order passes follow
 heard_at_100 p = refl
 
-two_deaths : (p : Pointer) → roster_of (after (job_of p) (join 3 ∷ join 5 ∷ Ticks 501 ∷ [])) ≡ record { epoch = 1; version = 4; members = dead 3 ∷ dead 5 ∷ [] }
+two_deaths : (p : Pointer) → roster_of (after (job_of p) (join 3 ∷ join 5 ∷ Ticks 501 ∷ []))
+    ≡ record { epoch = 1; version = 4; members = dead 3 ∷ dead 5 ∷ [] }
 unfolding on_body on_packet by_status by_order passes follow
 two_deaths p = refl
 
 -- a moment that is no later than the last changes nothing
-late : (p : Pointer) → answer_after (job_of p) (join 3 ∷ Ticks 500 ∷ []) (Ticks 500) ≡ Does (sends [] (after (job_of p) (join 3 ∷ Ticks 500 ∷ [])))
+late : (p : Pointer) → answer_after (job_of p) (join 3 ∷ Ticks 500 ∷ []) (Ticks 500)
+    ≡ Does (sends [] (after (job_of p) (join 3 ∷ Ticks 500 ∷ [])))
 unfolding on_body on_packet by_status by_order passes follow
 late p = refl
 
@@ -249,12 +271,15 @@ unfolding on_body on_packet by_status by_order passes follow
 left_twice p = refl
 
 -- to an heir that has left: to whoever has that one's work
-left_to_the_last : (p : Pointer) → members_of (after (job_of p) (join 3 ∷ join 5 ∷ join 7 ∷ leave 5 7 ∷ leave 3 5 ∷ [])) ≡ left 3 7 ∷ left 5 7 ∷ member 7 ∷ []
+left_to_the_last : (p : Pointer) → members_of (after (job_of p) (join 3 ∷ join 5 ∷ join 7 ∷ leave 5 7 ∷ leave 3 5 ∷ []))
+    ≡ left 3 7 ∷ left 5 7 ∷ member 7 ∷ []
 unfolding on_body on_packet by_status by_order passes follow
 left_to_the_last p = refl
 
 -- to a dead heir, and to one that isn't listed: dead
-left_to_the_dead : (p : Pointer) → roster_of (after (job_of p) (join 3 ∷ Ticks 400 ∷ join 5 ∷ Ticks 501 ∷ leave 5 3 ∷ [])) ≡ record { epoch = 1; version = 5; members = dead 3 ∷ dead 5 ∷ [] }
+left_to_the_dead : (p : Pointer) → roster_of
+    (after (job_of p) (join 3 ∷ Ticks 400 ∷ join 5 ∷ Ticks 501 ∷ leave 5 3 ∷ []))
+    ≡ record { epoch = 1; version = 5; members = dead 3 ∷ dead 5 ∷ [] }
 unfolding on_body on_packet by_status by_order passes follow
 left_to_the_dead p = refl
 
@@ -265,7 +290,8 @@ left_to_nobody p = refl
 -- to itself, by an heir that left to it: dead. With the root's grant it is told who is listed, and
 -- then to stop
 left_to_itself : (p : Pointer) → events (job_of p) (join 3 ∷ join 5 ∷ ask 3 1 ∷ leave 5 3 ∷ leave 3 5 ∷ []) ≡
-    both_told ++ granted 3 1 1 ∷ told 5 4 (member 3 ∷ left 5 3 ∷ []) ∷ told 3 5 (dead 3 ∷ left 5 3 ∷ []) ∷ aborted 3 1 ∷ []
+    both_told ++ granted 3 1 1 ∷ told 5 4 (member 3 ∷ left 5 3 ∷ []) ∷ told 3 5
+    (dead 3 ∷ left 5 3 ∷ []) ∷ aborted 3 1 ∷ []
 unfolding on_body on_packet by_status by_order passes follow
 left_to_itself p = refl
 
@@ -286,7 +312,8 @@ heir_dies p = refl
 
 -- the root's holder is dead: it is told to stop, and the root is granted again under another
 -- number; the old Result is acknowledged, and the new one is the outcome
-granted_again : (p : Pointer) → events (job_of p) (join 3 ∷ ask 3 1 ∷ Ticks 501 ∷ join 5 ∷ ask 5 1 ∷ result 3 1 ∷ result 5 2 ∷ []) ≡
+granted_again : (p : Pointer) → events (job_of p)
+    (join 3 ∷ ask 3 1 ∷ Ticks 501 ∷ join 5 ∷ ask 5 1 ∷ result 3 1 ∷ result 5 2 ∷ []) ≡
     told 3 2 (member 3 ∷ []) ∷ granted 3 1 1 ∷ aborted 3 1 ∷ told 5 4 (dead 3 ∷ member 5 ∷ []) ∷ granted 5 1 2 ∷
     acknowledged 3 1 ∷ Commits (found 2) ∷ acknowledged 5 2 ∷ []
 unfolding on_body on_packet by_status by_order passes follow
@@ -294,14 +321,17 @@ granted_again p = refl
 
 -- a packet of another job, to another address, or of a kind that isn't for the clearinghouse is
 -- ignored
-other_job : (p : Pointer) → on_packet (job_of p) (record { job = 2; to = 2 ^ 63; body = body.Join (record { from = 3 }) }) first ≡ Ignored
+other_job : (p : Pointer) → on_packet (job_of p)
+    (record { job = 2; to = 2 ^ 63; body = body.Join (record { from = 3 }) }) first ≡ Ignored
 unfolding on_body on_packet by_status by_order passes follow
 other_job p = refl
 
-other_address : (p : Pointer) → answer_after (job_of p) (join 3 ∷ []) (Comes (house_of 2) (body.Steal (record { from = 3; seq = 1 }))) ≡ Ignored
+other_address : (p : Pointer) → answer_after (job_of p) (join 3 ∷ [])
+    (Comes (house_of 2) (body.Steal (record { from = 3; seq = 1 }))) ≡ Ignored
 unfolding on_body on_packet by_status by_order passes follow
 other_address p = refl
 
-other_kind : (p : Pointer) → answer_after (job_of p) (join 3 ∷ []) (Comes house (body.Abort (record { grant = root 1 }))) ≡ Ignored
+other_kind : (p : Pointer) → answer_after (job_of p) (join 3 ∷ [])
+    (Comes house (body.Abort (record { grant = root 1 }))) ≡ Ignored
 unfolding on_body on_packet by_status by_order passes follow
 other_kind p = refl

@@ -21,16 +21,24 @@ module _ {D : Type 0} (job : JobOf) (store : Opened D) (h : HouseOf) (is : IsOpe
       let same : kept_of s.after ≡ kept_of h = subst (λ c. Commits c h s.after) none keeps.commits in
       record {
         house = keeps.holds is.house;
-        stored = is.stored ∙ ap (λ (k : Kept). record store { «record» = record_of job k; sequence = k.sequence; ended = false }) (sym same);
+        stored = is.stored ∙ ap (λ (k : Kept). record store {
+          «record» = record_of job k;
+          sequence = k.sequence;
+          ended = false;
+        }) (sym same);
       }
 
-  pub sent_stands : (a : HouseAnswer) → ((s : HouseStepOf) → a ≡ Does s → KeepsHouse h s) → (sent : List PacketOf) (new : HouseOf) → IsSent a sent new → IsOpen job store new
+  pub sent_stands : (a : HouseAnswer) → ((s : HouseStepOf) → a ≡ Does s → KeepsHouse h s)
+      → (sent : List PacketOf) (new : HouseOf) → IsSent a sent new → IsOpen job store new
   sent_stands Ignored keeps sent new is_sent = absurd is_sent
   sent_stands (Refused e) keeps sent new is_sent = absurd is_sent
   sent_stands (Does s) keeps sent new is_sent = rw is_sent.2 (stands s (keeps s refl) is_sent.0)
 
-  pub packet_stands : (p : _) (sent : List PacketOf) (new : HouseOf) → IsSent (on_packet job p h) sent new → IsOpen job store new
+  pub packet_stands : (p : _) (sent : List PacketOf) (new : HouseOf) → IsSent (on_packet job p h) sent new
+      → IsOpen job store new
   packet_stands p = sent_stands (on_packet job p h) (packet_keeps job p h)
 
-  pub moment_stands : (now : ℕ) (sent : List PacketOf) (new : HouseOf) → IsSent (Does (passes job now h)) sent new → IsOpen job store new
-  moment_stands now = sent_stands (Does (passes job now h)) (λ s same. subst (KeepsHouse h) (step_of (passes job now h) s same) (moment_keeps job now h))
+  pub moment_stands : (now : ℕ) (sent : List PacketOf) (new : HouseOf) → IsSent (Does (passes job now h)) sent new
+      → IsOpen job store new
+  moment_stands now = sent_stands (Does (passes job now h))
+      (λ s same. subst (KeepsHouse h) (step_of (passes job now h) s same) (moment_keeps job now h))

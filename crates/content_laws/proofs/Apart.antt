@@ -15,7 +15,8 @@ use Rattle.table_laws.proofs.Lists.{none_some, one_found}
 use Rattle.content_laws.specs.Shown.{ShowsFrame, ShowsRecord, Shows}
 
 -- a frame is found under its number
-pub own_number : (n : ℕ) (f : Frame) (frames : List Frame) → frame_in n frames ≡ Some f → frame_in f.number frames ≡ Some f
+pub own_number : (n : ℕ) (f : Frame) (frames : List Frame) → frame_in n frames ≡ Some f
+    → frame_in f.number frames ≡ Some f
 own_number n f frames there = rw (frame_number n f frames there) at there
 
 -- other numbers are other names
@@ -39,7 +40,8 @@ pub stolen_apart : (t : Tables) (f : Frame) (x : Record) → ShowsFrame t f → 
 stolen_apart t f x frame stolen same = none_some frame.unstolen (rw same at stolen.stolen)
 
 -- records of other grants have other numbers
-pub records_apart : (t : Tables) (c : Content) (g h : Grant) (x y : Record) → Shows t c → record_in g c.records ≡ Some x → record_in h c.records ≡ Some y → name_of_grant g ≢ name_of_grant h → x.frame ≢ y.frame
+pub records_apart : (t : Tables) (c : Content) (g h : Grant) (x y : Record) → Shows t c → record_in g c.records ≡ Some x
+    → record_in h c.records ≡ Some y → name_of_grant g ≢ name_of_grant h → x.frame ≢ y.frame
 records_apart t c g h x y shows here there other same =
     let first : t.granted y.frame ≡ Some x.grant = rw same at (shows.records g x here).stolen in
     let grants : x.grant ≡ y.grant = one_found first (shows.records h y there).stolen in

@@ -37,7 +37,8 @@ abbrev pub ended : Tables → Option ℤ → Tables
 ended t o = record t { returns = λ n. None; granted = λ n. None; slots = λ n j. Absent; outcome = Some o }
 
 -- they show the content that ended
-pub end_shown : (t : Tables) (c : Content) (o : Outcome) → Shows t c → Shows (ended t (outcome_number o)) (ends o c).after
+pub end_shown : (t : Tables) (c : Content) (o : Outcome) → Shows t c
+    → Shows (ended t (outcome_number o)) (ends o c).after
 end_shown t c o shows = record {
   host = shows.host;
   task = shows.task;
@@ -50,13 +51,21 @@ end_shown t c o shows = record {
 
 -- and are what a move asks of an end
 pub all_ends : (t : Tables) (o : Option ℤ) → Ends t (ended t o) o None
-all_ends t o = record { outcome = refl; none = λ n. refl; unrecorded = λ n. refl; bare = λ n j. refl; next = refl; unfilled = refl }
+all_ends t o = record {
+  outcome = refl;
+  none = λ n. refl;
+  unrecorded = λ n. refl;
+  bare = λ n j. refl;
+  next = refl;
+  unfilled = refl;
+}
 
 -- slot j of frame f is filled
 abbrev pub filled_at : Tables → ℕ → ℕ → ℤ → Tables
 filled_at t f j v = record t { slots = put_at t.slots f j (Full v) }
 
-module _ (t : Tables) (c : Content) (h : Frame) (j : ℕ) (v : ℤ) (shows : Shows t c) (there : frame_in h.number c.frames ≡ Some h) (empty : IsTrue (is_vacant (slice_get h.slots j))) where
+module _ (t : Tables) (c : Content) (h : Frame) (j : ℕ) (v : ℤ) (shows : Shows t c)
+    (there : frame_in h.number c.frames ≡ Some h) (empty : IsTrue (is_vacant (slice_get h.slots j))) where
   -- the frame with the filled slot
   parent_shown : ShowsFrame (filled_at t h.number j v) (with_slot j v h)
   parent_shown = record {
@@ -67,9 +76,11 @@ module _ (t : Tables) (c : Content) (h : Frame) (j : ℕ) (v : ℤ) (shows : Sho
     unstolen = (shows.frames h.number h there).unstolen;
   }
     where
-      by_slot : (l : ℕ) → (l ≡ j) ⊎ (l ≢ j) → put_at t.slots h.number j (Full v) h.number l ≡ slot_of (slice_get (with_slot j v h).slots l)
+      by_slot : (l : ℕ) → (l ≡ j) ⊎ (l ≢ j)
+          → put_at t.slots h.number j (Full v) h.number l ≡ slot_of (slice_get (with_slot j v h).slots l)
       by_slot l (inl same) = rw same (at_here t.slots h.number j (Full v) ∙ sym (filled_here h.slots j v empty))
-      by_slot l (inr other) = at_other_slot t.slots h.number j l (Full v) other ∙ (shows.frames h.number h there).slots l ∙ sym (filled_other h.slots l j v other)
+      by_slot l (inr other) = at_other_slot t.slots h.number j l (Full v) other
+          ∙ (shows.frames h.number h there).slots l ∙ sym (filled_other h.slots l j v other)
 
   -- frames, records and numbers elsewhere stay
   other_frame : (f : Frame) → f.number ≢ h.number → ShowsFrame t f → ShowsFrame (filled_at t h.number j v) f
@@ -109,29 +120,41 @@ module _ (t : Tables) (c : Content) (h : Frame) (j : ℕ) (v : ℤ) (shows : Sho
     next = shows.next;
     outcome = shows.outcome;
     frames = λ m f at. by_name m f (put_or_there name_of_frame (m, 0) (with_slot j v h) f c.frames at);
-    records = λ g x at. other_record x (stolen_apart t h x (shows.frames h.number h there) (shows.records g x at)) (shows.records g x at);
+    records = λ g x at. other_record x (stolen_apart t h x (shows.frames h.number h there) (shows.records g x at))
+        (shows.records g x at);
     unused = λ m u. (
-        let other : m ≢ h.number = λ same. (let here : frame_in m (put_frame (with_slot j v h) c.frames) ≡ Some (with_slot j v h) = rw same (put_is_found name_of_frame (with_slot j v h) c.frames) in none_some u.frame here) in
+        let other : m ≢ h.number = λ same.
+        (let here : frame_in m (put_frame (with_slot j v h) c.frames) ≡ Some (with_slot j v h) =
+        rw same (put_is_found name_of_frame (with_slot j v h) c.frames) in none_some u.frame here) in
         other_number m other (shows.unused m (record {
-          frame = sym (put_stays name_of_frame (m, 0) (with_slot j v h) c.frames (other_name m h.number other)) ∙ u.frame;
+          frame = sym (put_stays name_of_frame (m, 0) (with_slot j v h) c.frames (other_name m h.number other))
+              ∙ u.frame;
           record_of = u.record_of;
         })));
   }
     where
-      by_name : (m : ℕ) (f : Frame) → (((◌≡◌ {A = Name} (m, 0) (h.number, 0)) × (f ≡ with_slot j v h)) ⊎ ((◌≢◌ {A = Name} (m, 0) (h.number, 0)) × (frame_in m c.frames ≡ Some f))) → ShowsFrame (filled_at t h.number j v) f
+      by_name : (m : ℕ) (f : Frame) → (((◌≡◌ {A = Name} (m, 0) (h.number, 0)) × (f ≡ with_slot j v h))
+          ⊎ ((◌≢◌ {A = Name} (m, 0) (h.number, 0)) × (frame_in m c.frames ≡ Some f)))
+          → ShowsFrame (filled_at t h.number j v) f
       by_name m f (inl new) = rw (new.1) parent_shown
-      by_name m f (inr was) = other_frame f (λ same. was.0 (same_name m h.number (frame_number m f c.frames was.1 ∙ same))) (shows.frames m f was.1)
+      by_name m f (inr was) = other_frame f
+          (λ same. was.0 (same_name m h.number (frame_number m f c.frames was.1 ∙ same))) (shows.frames m f was.1)
 
 -- the value of number n, which is gone, fills a slot of a frame
-pub fills : (g : Grant) (t : Tables) (n j : ℕ) (v : ℤ) (h : Frame) → h.number ≢ n → t.granted h.number ≡ None → t.place h.number ≡ h.place → t.outcome ≡ None → Filled g t (filled_at (cleared t n) h.number j v) n h.number j v (Some (record { grant = g; frame = h.number; slot = j; place = h.place; value = v }))
+pub fills : (g : Grant) (t : Tables) (n j : ℕ) (v : ℤ) (h : Frame) → h.number ≢ n → t.granted h.number ≡ None
+    → t.place h.number ≡ h.place → t.outcome ≡ None
+    → Filled g t (filled_at (cleared t n) h.number j v) n h.number j v
+    (Some (record { grant = g; frame = h.number; slot = j; place = h.place; value = v }))
 fills g t n j v h apart unstolen place active = record {
   frame = unstolen;
   gone = put_here t.returns n None;
   ungranted = put_here t.granted n None;
-  bare = λ l. at_other_row (put_row t.slots n (λ k. Absent)) h.number j n l (Full v) (λ same. apart (sym same)) ∙ row_here t.slots n l (λ k. Absent);
+  bare = λ l. at_other_row (put_row t.slots n (λ k. Absent)) h.number j n l (Full v) (λ same. apart (sym same))
+      ∙ row_here t.slots n l (λ k. Absent);
   kept = λ k other. put_other t.returns n k None other;
   granted = λ k other. put_other t.granted n k None other;
-  slots = λ k l other. ap (λ s. if nat_eq k h.number && nat_eq l j then Full v else s) (row_other t.slots n k l (λ i. Absent) other);
+  slots = λ k l other. ap (λ s. if nat_eq k h.number && nat_eq l j then Full v else s)
+      (row_other t.slots n k l (λ i. Absent) other);
   places = λ k. refl;
   threads = λ k. refl;
   next = refl;
@@ -152,16 +175,26 @@ IsAwaited Whole frames = Unit {0}
 IsAwaited (Local f j) frames = IsTrue (is_empty_of (frame_in f frames) j)
 
 -- the value of number n comes to c, where nothing stands under n any more
-pub value_arrives : (g : Grant) (t : Tables) (n : ℕ) (r : Return) (v : ℤ) (c : Content) → Shows (cleared t n) c → t.outcome ≡ None → ((k : Grant) → k ∈ grants_of_records c.records → RecordOf t k) → IsAwaited r c.frames → Arrived g t n r v c
+pub value_arrives : (g : Grant) (t : Tables) (n : ℕ) (r : Return) (v : ℤ) (c : Content) → Shows (cleared t n) c
+    → t.outcome ≡ None → ((k : Grant) → k ∈ grants_of_records c.records → RecordOf t k) → IsAwaited r c.frames
+    → Arrived g t n r v c
 value_arrives g t n Whole v c shows active had awaited = record {
   content = ended (cleared t n) (Some v);
   shown = end_shown (cleared t n) c (Value v) shows;
-  comes = record { outcome = refl; none = λ m. refl; unrecorded = λ m. refl; bare = λ m j. refl; next = refl; unfilled = refl };
+  comes = record {
+    outcome = refl;
+    none = λ m. refl;
+    unrecorded = λ m. refl;
+    bare = λ m j. refl;
+    next = refl;
+    unfilled = refl;
+  };
   settles = record { had = had; lost = λ k at there. none_some refl there.is };
 }
 value_arrives g t n (Local f j) v c shows active had awaited = by_found (frame_in f c.frames) refl awaited
   where
-    at_frame : (h : Frame) → frame_in f c.frames ≡ Some h → IsTrue (is_vacant (slice_get h.slots j)) → Arrived g t n (Local f j) v c
+    at_frame : (h : Frame) → frame_in f c.frames ≡ Some h → IsTrue (is_vacant (slice_get h.slots j))
+        → Arrived g t n (Local f j) v c
     at_frame h there empty =
         let number = frame_number f h c.frames there in
         let here = own_number f h c.frames there in
@@ -199,7 +232,8 @@ arrives_task (Local n j) v c = by_found (frame_in n c.frames)
     by_found (Some f) = refl
 
 -- the number whose value came is no record's
-pub arrived_unstolen : (g : Grant) (t d : Tables) (n : ℕ) (r : tables.Return) (v : ℤ) (fill : Option Fill) → Arrives g t d n r v fill → d.granted n ≡ None
+pub arrived_unstolen : (g : Grant) (t d : Tables) (n : ℕ) (r : tables.Return) (v : ℤ) (fill : Option Fill)
+    → Arrives g t d n r v fill → d.granted n ≡ None
 arrived_unstolen g t d n tables.Whole v fill comes = comes.unrecorded n
 arrived_unstolen g t d n (tables.Local f j) v fill comes = comes.ungranted
 

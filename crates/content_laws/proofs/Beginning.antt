@@ -73,7 +73,8 @@ module _ (host : ℕ) (task : Task) where
 
       unused : (n : ℕ) → IsUnused (granted_content host task) n → ShowsNothing begun n
       unused n u =
-          let other : n ≢ 0 = λ same. (let here : frame_in n (first_frame task ∷ []) ≡ Some (first_frame task) = rw same first_there in none_some u.frame here) in
+          let other : n ≢ 0 = λ same. (let here : frame_in n (first_frame task ∷ []) ≡ Some (first_frame task) =
+          rw same first_there in none_some u.frame here) in
           record {
             returns = put_other none_yet 0 n (Some tables.Whole) other;
             slots = λ j. row_other no_slots 0 n j (given task.numbers) other;
@@ -90,7 +91,10 @@ module _ (host : ℕ) (task : Task) where
   only_number n r at = by_number (same_or n 0)
     where
       by_number : (n ≡ 0) ⊎ (n ≢ 0) → First n r
-      by_number (inl same) = record { number = same; whole = some_same (sym (rw same at at) ∙ put_here none_yet 0 (Some tables.Whole)) }
+      by_number (inl same) = record {
+        number = same;
+        whole = some_same (sym (rw same at at) ∙ put_here none_yet 0 (Some tables.Whole));
+      }
       by_number (inr other) = absurd (none_some (put_other none_yet 0 n (Some tables.Whole) other) at)
 
   -- no value goes to a slot
@@ -102,7 +106,8 @@ module _ (host : ℕ) (task : Task) where
   no_empty f j at = by_number (same_or f 0)
     where
       by_number : (f ≡ 0) ⊎ (f ≢ 0) → ⊥
-      by_number (inl same) = given_full task.numbers j (sym (row_here no_slots 0 j (given task.numbers)) ∙ rw same at at)
+      by_number (inl same) = given_full task.numbers j (sym (row_here no_slots 0 j (given task.numbers))
+          ∙ rw same at at)
       by_number (inr other) = let none = row_other no_slots 0 f j (given task.numbers) other in cc
 
   -- so each has its debtor
@@ -116,7 +121,8 @@ module _ (host : ℕ) (task : Task) where
     whole = λ active. record { number = 0; owes = put_here none_yet 0 (Some tables.Whole) };
     over = λ o n at. absurd (none_some refl at);
     bare = λ n j at. (
-        let other : n ≢ 0 = λ same. (let here : put none_yet 0 (Some tables.Whole) n ≡ Some tables.Whole = rw same (put_here none_yet 0 (Some tables.Whole)) in none_some at here) in
+        let other : n ≢ 0 = λ same. (let here : put none_yet 0 (Some tables.Whole) n ≡ Some tables.Whole =
+        rw same (put_here none_yet 0 (Some tables.Whole)) in none_some at here) in
         row_other no_slots 0 n j (given task.numbers) other);
   }
 

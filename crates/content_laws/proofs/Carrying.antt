@@ -48,7 +48,8 @@ use Rattle.content_laws.proofs.Joining.{with_made, unused_from, made_shown, join
 use Rattle.content_laws.proofs.Granting.{record_settled}
 
 -- all records of a content that ends are settled
-pub all_settled : (t : Tables) (c : Content) (o : Option ℤ) → IsKept c → Shows t c → Settles t (ended t o) (grants_of_records c.records)
+pub all_settled : (t : Tables) (c : Content) (o : Option ℤ) → IsKept c → Shows t c
+    → Settles t (ended t o) (grants_of_records c.records)
 all_settled t c o kept shows = record {
   had = λ k listed. listed_shown t c k kept shows listed;
   lost = λ k listed at. none_some refl at.is;
@@ -59,12 +60,18 @@ abbrev pub IsKnownOf : Program → List ℤ → Known → Type 0
 IsKnownOf p input known = (place : List ℕ) (v : ℤ) → known place ≡ Some v → value_at p input place ≡ Some v
 
 -- the slots of a join by what is known stand for its own
-parts_stand : (p : Program) (input : List ℤ) (known : Known) (place : List ℕ) (slots : List Slot) → IsKnownOf p input known → PartsStand (program_meaning p input) place (map part_of slots) (map part_of (resumed_slots known place slots))
+parts_stand : (p : Program) (input : List ℤ) (known : Known) (place : List ℕ) (slots : List Slot)
+    → IsKnownOf p input known → PartsStand (program_meaning p input) place (map part_of slots)
+    (map part_of (resumed_slots known place slots))
 parts_stand p input known place [] right = tt
 parts_stand p input known place (Filled v ∷ slots) right = (refl, parts_stand p input known place slots right)
-parts_stand p input known place (Awaits kid ∷ slots) right = by_value (known (kid.hole ∷ place)) (right (kid.hole ∷ place)) (parts_stand p input known place slots right)
+parts_stand p input known place (Awaits kid ∷ slots) right =
+    by_value (known (kid.hole ∷ place)) (right (kid.hole ∷ place)) (parts_stand p input known place slots right)
   where
-    by_value : (o : Option ℤ) → ((v : ℤ) → o ≡ Some v → value_at p input (kid.hole ∷ place) ≡ Some v) → PartsStand (program_meaning p input) place (map part_of slots) (map part_of (resumed_slots known place slots)) → PartsStand (program_meaning p input) place (map part_of (Awaits kid ∷ slots)) (map part_of (slot_by kid o ∷ resumed_slots known place slots))
+    by_value : (o : Option ℤ) → ((v : ℤ) → o ≡ Some v → value_at p input (kid.hole ∷ place) ≡ Some v)
+        → PartsStand (program_meaning p input) place (map part_of slots) (map part_of (resumed_slots known place slots))
+        → PartsStand (program_meaning p input) place (map part_of (Awaits kid ∷ slots))
+        (map part_of (slot_by kid o ∷ resumed_slots known place slots))
     by_value None is rest = (refl, rest)
     by_value (Some v) is rest = (is v refl, rest)
 
@@ -76,7 +83,8 @@ pub record Turning (t : Tables) (c : Content) (f : Frame) (numbers : List ℤ) :
   pub full : numbers_in f.slots ≡ Some numbers
 
 -- whose turn sends a number gives it, in whatever room
-sent_is_given : (p : Program) (d t : ℕ) (numbers : List ℤ) (x : ℤ) → turn_of p t numbers ≡ Some (Sends x) → serial p d t numbers ≡ Some x
+sent_is_given : (p : Program) (d t : ℕ) (numbers : List ℤ) (x : ℤ) → turn_of p t numbers ≡ Some (Sends x)
+    → serial p d t numbers ≡ Some x
 sent_is_given p zero t numbers x end = rw end refl
 sent_is_given p (suc d) t numbers x end = rw end refl
 
@@ -86,13 +94,16 @@ Comes p place t numbers (Sends x) = serial p (room place) t numbers ≡ Some x
 Comes p place t numbers (Joins u slots) = turn_of p t numbers ≡ Some (Joins u slots)
 
 -- to the end of its turn it comes
-pub comes_of : (p : Program) (place : List ℕ) (t : ℕ) (numbers : List ℤ) (turn : Turn) → turn_of p t numbers ≡ Some turn → Comes p place t numbers turn
+pub comes_of : (p : Program) (place : List ℕ) (t : ℕ) (numbers : List ℤ) (turn : Turn) → turn_of p t numbers ≡ Some turn
+    → Comes p place t numbers turn
 comes_of p place t numbers (Sends x) end = sent_is_given p (room place) t numbers x end
 comes_of p place t numbers (Joins u slots) end = end
 
-module _ (p : Program) (input : List ℤ) (v : View) (i : ℕ) (g : Grant) (s : Sub) (c : Content) (f : Frame) (numbers : List ℤ) (live : Live v i g s) (is : Turning s.content c f numbers) where
+module _ (p : Program) (input : List ℤ) (v : View) (i : ℕ) (g : Grant) (s : Sub) (c : Content) (f : Frame)
+    (numbers : List ℤ) (live : Live v i g s) (is : Turning s.content c f numbers) where
   -- it takes its turn
-  abbrev takes_turn : (turn : Turn) → turn_of p f.thread numbers ≡ Some turn → TakesTurn (program_meaning p input) s.content f.number (end_of turn)
+  abbrev takes_turn : (turn : Turn) → turn_of p f.thread numbers ≡ Some turn
+      → TakesTurn (program_meaning p input) s.content f.number (end_of turn)
   takes_turn turn end = record {
     frame = record {
       returns = return_of f.returns;
@@ -106,14 +117,16 @@ module _ (p : Program) (input : List ℤ) (v : View) (i : ℕ) (g : Grant) (s : 
 
   -- its content goes on
   active : s.content.outcome ≡ None
-  active = is.shows.outcome ∙ ap outcome_of (frame_goes_on c.progress f.number f c.frames c.records is.there is.kept.sound.owed).0
+  active = is.shows.outcome ∙ ap outcome_of
+      (frame_goes_on c.progress f.number f c.frames c.records is.there is.kept.sound.owed).0
 
   -- what is left without it
   abbrev rest : Content
   rest = record c { frames = without_frame f.number c.frames }
 
   -- it gives a number
-  abbrev gives_number : (x : ℤ) → serial p (room f.place) f.thread numbers ≡ Some x → GivesNumber (program_meaning p input) s.content f.number x
+  abbrev gives_number : (x : ℤ) → serial p (room f.place) f.thread numbers ≡ Some x
+      → GivesNumber (program_meaning p input) s.content f.number x
   gives_number x gives = record {
     frame = record {
       returns = return_of f.returns;
@@ -126,73 +139,112 @@ module _ (p : Program) (input : List ℤ) (v : View) (i : ℕ) (g : Grant) (s : 
   }
 
   -- it sends what it gives
-  pub given_moves : (x : ℤ) → serial p (room f.place) f.thread numbers ≡ Some x → IsMove (program_meaning p input) v i g s (turned f (Sends x) c).after (turned f (Sends x) c).fill (grants_of_records (turned f (Sends x) c).dropped)
+  pub given_moves : (x : ℤ) → serial p (room f.place) f.thread numbers ≡ Some x
+      → IsMove (program_meaning p input) v i g s (turned f (Sends x) c).after (turned f (Sends x) c).fill
+      (grants_of_records (turned f (Sends x) c).dropped)
   given_moves x gives =
-      let lacks = (frame_leaves c f is.kept.sound is.kept.frames (left_order f.number c.frames is.kept.frames) is.there (numbers_full f.slots numbers is.full)).lacks in
-      let came : Arrived g s.content f.number f.returns x rest = value_arrives g s.content f.number f.returns x rest (frame_cleared s.content c f is.shows is.there) active (λ k listed. listed_shown s.content c k is.kept is.shows listed) (is_awaited f.returns rest lacks) in
-      moved (program_meaning p input) v i g s c (arrives f.returns x rest).after (arrives f.returns x rest).fill (grants_of_records (arrives f.returns x rest).dropped) came.content live is.shows came.shown (arrives_parent f.returns x rest) (arrives_task f.returns x rest) (sends f.number x (gives_number x gives) came.comes) came.settles
+      let lacks = (frame_leaves c f is.kept.sound is.kept.frames (left_order f.number c.frames is.kept.frames) is.there
+      (numbers_full f.slots numbers is.full)).lacks in
+      let came : Arrived g s.content f.number f.returns x rest =
+      value_arrives g s.content f.number f.returns x rest (frame_cleared s.content c f is.shows is.there) active
+      (λ k listed. listed_shown s.content c k is.kept is.shows listed) (is_awaited f.returns rest lacks) in
+      moved (program_meaning p input) v i g s c (arrives f.returns x rest).after (arrives f.returns x rest).fill
+      (grants_of_records (arrives f.returns x rest).dropped) came.content live is.shows came.shown
+      (arrives_parent f.returns x rest) (arrives_task f.returns x rest)
+      (sends f.number x (gives_number x gives) came.comes) came.settles
 
   -- it joins, and there is a place below its own
-  join_moves : (known : Known) (u : ℕ) (slots : List Slot) → IsKnownOf p input known → turn_of p f.thread numbers ≡ Some (Joins u slots) → length f.place < 1024 → IsMove (program_meaning p input) v i g s (replaced f.number (joined f u (resumed_slots known f.place slots) c.next) c).after None []
+  join_moves : (known : Known) (u : ℕ) (slots : List Slot) → IsKnownOf p input known
+      → turn_of p f.thread numbers ≡ Some (Joins u slots) → length f.place < 1024
+      → IsMove (program_meaning p input) v i g s
+      (replaced f.number (joined f u (resumed_slots known f.place slots) c.next) c).after None []
   join_moves known u slots right end short =
       let place = (is.shows.frames f.number f is.there).place in
       let d = joined_tables s.content f u xs place less active above bare in
-      moved (program_meaning p input) v i g s c (replaced f.number (joined f u xs c.next) c).after None [] d live is.shows shown refl refl (joins f.number u (map part_of slots) (map part_of xs) (takes_turn (Joins u slots) end) (rw place (parts_stand p input known f.place slots right)) (rw place short) (join_is s.content f u xs place less active above bare) refl) (settles_none s.content d)
+      moved (program_meaning p input) v i g s c
+      (replaced f.number (joined f u xs c.next) c).after None [] d live is.shows shown refl refl
+      (joins f.number u (map part_of slots) (map part_of xs) (takes_turn (Joins u slots) end)
+      (rw place (parts_stand p input known f.place slots right)) (rw place short)
+      (join_is s.content f u xs place less active above bare) refl) (settles_none s.content d)
     where
       xs : List Slot
       xs = resumed_slots known f.place slots
 
       less : f.number < s.content.next
-      less = rw is.shows.next (all_found name_of_frame (λ (x : Frame). x.number < c.next) (f.number, 0) f c.frames is.kept.sound.below is.there)
+      less = rw is.shows.next (all_found name_of_frame (λ (x : Frame). x.number < c.next)
+          (f.number, 0) f c.frames is.kept.sound.below is.there)
 
       above : (k : ℕ) → s.content.next ≤ k → ShowsNothing s.content k
-      above k le = is.shows.unused k (unused_from c k is.kept.sound.below is.kept.sound.stolen_below (rw is.shows.next at le))
+      above k le = is.shows.unused k (unused_from c k is.kept.sound.below is.kept.sound.stolen_below
+          (rw is.shows.next at le))
 
       bare : (k : ℕ) → s.content.returns k ≡ None → ShowsNothing s.content k
       bare k none = returns_bare s.content c is.kept is.shows k none
 
-      shown : Shows (with_made (cleared s.content f.number) (joined f u xs s.content.next) (s.content.next + length (joined f u xs s.content.next))) (replaced f.number (joined f u xs c.next) c).after
+      shown : Shows (with_made (cleared s.content f.number) (joined f u xs s.content.next)
+          (s.content.next + length (joined f u xs s.content.next))) (replaced f.number (joined f u xs c.next) c).after
       shown = subst
-          (λ (k : ℕ). Shows (with_made (cleared s.content f.number) (joined f u xs k) (k + length (joined f u xs k))) (replaced f.number (joined f u xs c.next) c).after)
+          (λ (k : ℕ). Shows (with_made (cleared s.content f.number) (joined f u xs k) (k + length (joined f u xs k)))
+          (replaced f.number (joined f u xs c.next) c).after)
           (sym is.shows.next)
-          (made_shown (cleared s.content f.number) rest (joined f u xs c.next) (c.next + length (joined f u xs c.next)) (frame_cleared s.content c f is.shows is.there) (all_filtered (λ x. x.number < c.next) _ c.frames is.kept.sound.below) is.kept.sound.stolen_below (joined_numbered f u xs c.next))
+          (made_shown (cleared s.content f.number) rest (joined f u xs c.next) (c.next + length (joined f u xs c.next))
+          (frame_cleared s.content c f is.shows is.there)
+          (all_filtered (λ x. x.number < c.next) _ c.frames is.kept.sound.below) is.kept.sound.stolen_below
+          (joined_numbered f u xs c.next))
 
   -- it joins at the last place
-  deep_moves : (u : ℕ) (slots : List Slot) → turn_of p f.thread numbers ≡ Some (Joins u slots) → 1024 ≤ length f.place → IsMove (program_meaning p input) v i g s (ends TooDeep c).after None (grants_of_records c.records)
+  deep_moves : (u : ℕ) (slots : List Slot) → turn_of p f.thread numbers ≡ Some (Joins u slots) → 1024 ≤ length f.place
+      → IsMove (program_meaning p input) v i g s (ends TooDeep c).after None (grants_of_records c.records)
   deep_moves u slots end long =
       let place = (is.shows.frames f.number f is.there).place in
-      moved (program_meaning p input) v i g s c (ends TooDeep c).after None (grants_of_records c.records) (ended s.content None) live is.shows (end_shown s.content c TooDeep is.shows) refl refl (is_deep f.number u (map part_of slots) (takes_turn (Joins u slots) end) (rw place long) (all_ends s.content None)) (all_settled s.content c None is.kept is.shows)
+      moved (program_meaning p input) v i g s c (ends TooDeep c).after None (grants_of_records c.records)
+      (ended s.content None) live is.shows (end_shown s.content c TooDeep is.shows) refl refl
+      (is_deep f.number u (map part_of slots) (takes_turn (Joins u slots) end) (rw place long)
+      (all_ends s.content None)) (all_settled s.content c None is.kept is.shows)
 
   -- whatever the end of its turn, by what is known of kids' values
-  pub turn_moves : (known : Known) (turn : Turn) → IsKnownOf p input known → turn_of p f.thread numbers ≡ Some turn → IsMove (program_meaning p input) v i g s (turned f (resumed known f.place turn) c).after (turned f (resumed known f.place turn) c).fill (grants_of_records (turned f (resumed known f.place turn) c).dropped)
+  pub turn_moves : (known : Known) (turn : Turn) → IsKnownOf p input known → turn_of p f.thread numbers ≡ Some turn
+      → IsMove (program_meaning p input) v i g s (turned f (resumed known f.place turn) c).after
+      (turned f (resumed known f.place turn) c).fill
+      (grants_of_records (turned f (resumed known f.place turn) c).dropped)
   turn_moves known (Sends x) right end = given_moves x (sent_is_given p (room f.place) f.thread numbers x end)
   turn_moves known (Joins u slots) right end = by_depth (nat_lt (length f.place) 1024) refl
     where
-      by_depth : (b : Bool) → nat_lt (length f.place) 1024 ≡ b → (let change = if b then replaced f.number (joined f u (resumed_slots known f.place slots) c.next) c else ends TooDeep c in IsMove (program_meaning p input) v i g s change.after change.fill (grants_of_records change.dropped))
+      by_depth : (b : Bool) → nat_lt (length f.place) 1024 ≡ b
+          → (let change = if b then replaced f.number
+          (joined f u (resumed_slots known f.place slots) c.next) c else ends TooDeep c in IsMove
+          (program_meaning p input) v i g s change.after change.fill (grants_of_records change.dropped))
       by_depth true short = join_moves known u slots right end (ltb-true (length f.place) 1024 short)
       by_depth false long = deep_moves u slots end (ltb-false (length f.place) 1024 long)
 
   -- whatever the end that it comes to
-  pub ended_moves : (known : Known) (turn : Turn) → IsKnownOf p input known → Comes p f.place f.thread numbers turn → IsMove (program_meaning p input) v i g s (turned f (resumed known f.place turn) c).after (turned f (resumed known f.place turn) c).fill (grants_of_records (turned f (resumed known f.place turn) c).dropped)
+  pub ended_moves : (known : Known) (turn : Turn) → IsKnownOf p input known → Comes p f.place f.thread numbers turn
+      → IsMove (program_meaning p input) v i g s (turned f (resumed known f.place turn) c).after
+      (turned f (resumed known f.place turn) c).fill
+      (grants_of_records (turned f (resumed known f.place turn) c).dropped)
   ended_moves known (Sends x) right end = given_moves x end
   ended_moves known (Joins u slots) right end = turn_moves known (Joins u slots) right end
 
 -- an outcome comes for a record
-module _ (m : Meaning) (v : View) (i : ℕ) (g : Grant) (s : Sub) (c : Content) (r : Record) (live : Live v i g s) (kept : IsKept c) (shows : Shows s.content c) (there : record_in r.grant c.records ≡ Some r) where
+module _ (m : Meaning) (v : View) (i : ℕ) (g : Grant) (s : Sub) (c : Content) (r : Record) (live : Live v i g s)
+    (kept : IsKept c) (shows : Shows s.content c) (there : record_in r.grant c.records ≡ Some r) where
   -- what is left without the record
   abbrev others : Content
   others = record c { records = without_record r.grant c.records }
 
   -- the content goes on
   goes_on : s.content.outcome ≡ None
-  goes_on = shows.outcome ∙ ap outcome_of (record_goes_on c.progress r.grant r c.frames c.records there kept.sound.owed).0
+  goes_on = shows.outcome ∙ ap outcome_of
+      (record_goes_on c.progress r.grant r c.frames c.records there kept.sound.owed).0
 
   -- the other records were there
   had_others : (k : Grant) → k ∈ grants_of_records (without_record r.grant c.records) → RecordOf s.content k
   had_others k listed = listed_shown s.content c k kept shows (left_listed r.grant k c.records listed)
 
   -- its own grant is settled with the others
-  with_own : (d : Tables) (gone : List Grant) → d.granted r.frame ≡ None → ((n : ℕ) (k : Grant) → d.granted n ≡ Some k → s.content.granted n ≡ Some k) → Settles s.content d gone → Settles s.content d (r.grant ∷ gone)
+  with_own : (d : Tables) (gone : List Grant) → d.granted r.frame ≡ None
+      → ((n : ℕ) (k : Grant) → d.granted n ≡ Some k → s.content.granted n ≡ Some k) → Settles s.content d gone
+      → Settles s.content d (r.grant ∷ gone)
   with_own d gone none fewer settles = record { had = had; lost = lost }
     where
       had : (k : Grant) → k ∈ (r.grant ∷ gone) → RecordOf s.content k
@@ -204,27 +256,55 @@ module _ (m : Meaning) (v : View) (i : ℕ) (g : Grant) (s : Sub) (c : Content) 
       lost k (inr listed) at = settles.lost k listed at
 
   -- a number
-  value_moves : (x : ℤ) → result_to r.grant i (Some x) ∈ v.results → IsMove m v i g s (closed r (Value x) c).after (closed r (Value x) c).fill (r.grant ∷ grants_of_records (closed r (Value x) c).dropped)
+  value_moves : (x : ℤ) → result_to r.grant i (Some x) ∈ v.results
+      → IsMove m v i g s (closed r (Value x) c).after (closed r (Value x) c).fill
+      (r.grant ∷ grants_of_records (closed r (Value x) c).dropped)
   value_moves x told =
       let shown = shows.records r.grant r there in
       let lacks = (record_leaves c r kept.sound kept.frames kept.records there).lacks in
-      let came : Arrived g s.content r.frame r.returns x others = value_arrives g s.content r.frame r.returns x others (record_cleared s.content c r shows there) goes_on had_others (is_awaited r.returns others lacks) in
-      let cause : Cause m v i g s.content came.content (fill_of g (arrives r.returns x others).fill) = hears r.frame r.grant (return_of r.returns) x r.task.numbers shown.stolen shown.returns shown.holds.numbers told came.comes in
-      let none = arrived_unstolen g s.content came.content r.frame (return_of r.returns) x (fill_of g (arrives r.returns x others).fill) came.comes in
-      let settles = with_own came.content (grants_of_records (arrives r.returns x others).dropped) none (λ n k at. (cause_records m v i g s.content came.content (fill_of g (arrives r.returns x others).fill) cause n k at).0) came.settles in
-      moved m v i g s c (arrives r.returns x others).after (arrives r.returns x others).fill (r.grant ∷ grants_of_records (arrives r.returns x others).dropped) came.content live shows came.shown (arrives_parent r.returns x others) (arrives_task r.returns x others) cause settles
+      let came : Arrived g s.content r.frame r.returns x others =
+      value_arrives g s.content r.frame r.returns x others
+      (record_cleared s.content c r shows there) goes_on had_others (is_awaited r.returns others lacks) in
+      let cause : Cause m v i g s.content came.content (fill_of g (arrives r.returns x others).fill) =
+      hears r.frame r.grant (return_of r.returns) x r.task.numbers shown.stolen shown.returns shown.holds.numbers
+      told came.comes in
+      let none = arrived_unstolen g s.content came.content r.frame (return_of r.returns) x
+      (fill_of g (arrives r.returns x others).fill) came.comes in
+      let settles = with_own came.content (grants_of_records (arrives r.returns x others).dropped) none
+      (λ n k at. (cause_records m v i g s.content came.content
+      (fill_of g (arrives r.returns x others).fill) cause n k at).0) came.settles in
+      moved m v i g s c (arrives r.returns x others).after (arrives r.returns x others).fill
+      (r.grant ∷ grants_of_records (arrives r.returns x others).dropped) came.content live shows came.shown
+      (arrives_parent r.returns x others) (arrives_task r.returns x others) cause settles
 
   -- too deep
-  too_deep_moves : result_to r.grant i None ∈ v.results → IsMove m v i g s (closed r TooDeep c).after None (r.grant ∷ grants_of_records (without_record r.grant c.records))
+  too_deep_moves : result_to r.grant i None ∈ v.results
+      → IsMove m v i g s (closed r TooDeep c).after None
+      (r.grant ∷ grants_of_records (without_record r.grant c.records))
   too_deep_moves told =
       let shown = shows.records r.grant r there in
       let d = ended (cleared s.content r.frame) None in
-      let settles : Settles s.content d (grants_of_records (without_record r.grant c.records)) = record { had = had_others; lost = λ k listed at. none_some refl at.is } in
-      let none_left : Ends s.content d None None = record { outcome = refl; none = λ n. refl; unrecorded = λ n. refl; bare = λ n j. refl; next = refl; unfilled = refl } in
-      moved m v i g s c (closed r TooDeep c).after None (r.grant ∷ grants_of_records (without_record r.grant c.records)) d live shows (end_shown (cleared s.content r.frame) others TooDeep (record_cleared s.content c r shows there)) refl refl (hears_deep r.frame r.grant (return_of r.returns) shown.stolen shown.returns told none_left) (with_own d (grants_of_records (without_record r.grant c.records)) refl (λ n k at. absurd (none_some refl at)) settles)
+      let settles : Settles s.content d (grants_of_records (without_record r.grant c.records)) =
+      record { had = had_others; lost = λ k listed at. none_some refl at.is } in
+      let none_left : Ends s.content d None None =
+      record {
+        outcome = refl;
+        none = λ n. refl;
+        unrecorded = λ n. refl;
+        bare = λ n j. refl;
+        next = refl;
+        unfilled = refl;
+      } in
+      moved m v i g s c (closed r TooDeep c).after None
+      (r.grant ∷ grants_of_records (without_record r.grant c.records)) d live shows
+      (end_shown (cleared s.content r.frame) others TooDeep (record_cleared s.content c r shows there)) refl refl
+      (hears_deep r.frame r.grant (return_of r.returns) shown.stolen shown.returns told none_left)
+      (with_own d (grants_of_records (without_record r.grant c.records)) refl
+      (λ n k at. absurd (none_some refl at)) settles)
 
   -- whatever the outcome
-  pub result_moves : (o : Outcome) → result_to r.grant i (outcome_number o) ∈ v.results → IsMove m v i g s (closed r o c).after (closed r o c).fill (r.grant ∷ grants_of_records (closed r o c).dropped)
+  pub result_moves : (o : Outcome) → result_to r.grant i (outcome_number o) ∈ v.results
+      → IsMove m v i g s (closed r o c).after (closed r o c).fill (r.grant ∷ grants_of_records (closed r o c).dropped)
   result_moves (Value x) told = value_moves x told
   result_moves TooDeep told = too_deep_moves told
 
@@ -236,5 +316,7 @@ end_is g t c o kept shows =
       content = ended t (outcome_number o);
       shown = shown;
       none_left = all_ends t (outcome_number o);
-      alters = alters_told g t (ended t (outcome_number o)) c (ends o c).after (grants_of_records c.records) shows shown refl refl (λ n k at. absurd (none_some refl at)) (all_settled t c (outcome_number o) kept shows);
+      alters = alters_told g t (ended t (outcome_number o)) c (ends o c).after
+          (grants_of_records c.records) shows shown refl refl (λ n k at. absurd (none_some refl at))
+          (all_settled t c (outcome_number o) kept shows);
     }

@@ -26,7 +26,8 @@ use Rattle.sub_rules.specs.Resuming.{Known, resumed}
 use Rattle.content_laws.proofs.Keeping.{turn_kept}
 
 -- slots that hold numbers are full of them
-held_numbers : (slots : List (Option ℤ)) (numbers : List ℤ) → holds_numbers slots numbers ≡ true → numbers_in slots ≡ Some numbers
+held_numbers : (slots : List (Option ℤ)) (numbers : List ℤ) → holds_numbers slots numbers ≡ true
+    → numbers_in slots ≡ Some numbers
 held_numbers [] [] holds = refl
 held_numbers [] (n ∷ ns) holds = cc
 held_numbers (None ∷ slots) [] holds = cc
@@ -46,37 +47,51 @@ pub record IsCarried (known : Known) (d : DoneOf) (n : ℕ) (c : Content) (chang
   pub is : turned frame (resumed known frame.place d.turn) c ≡ change
 
 -- so it is where it is carried out
-pub carried : (known : Known) (d : DoneOf) (n : ℕ) (c : Content) (change : ContentChange) → exec_content known d n c ≡ Ok change → IsCarried known d n c change
+pub carried : (known : Known) (d : DoneOf) (n : ℕ) (c : Content) (change : ContentChange)
+    → exec_content known d n c ≡ Ok change → IsCarried known d n c change
 carried known d n c change is = by_frame (frame_in n c.frames) refl is
   where
-    by_next : (f : Frame) → frame_in n c.frames ≡ Some f → is_turn_of d f ≡ true → (b : Bool) → cond {A = Result ContentChange SubError} b (Ok (turned f (resumed known f.place d.turn) c)) (Err Spent) ≡ Ok change → IsCarried known d n c change
+    by_next : (f : Frame) → frame_in n c.frames ≡ Some f → is_turn_of d f ≡ true → (b : Bool)
+        → cond {A = Result ContentChange SubError} b (Ok (turned f (resumed known f.place d.turn) c)) (Err Spent)
+        ≡ Ok change → IsCarried known d n c change
     by_next f there turn true at = record {
       frame = f;
       at = there;
       there = own_number n f c.frames there;
-      thread = (Decides-eqb f.thread d.thread).0 (and_parts (nat_eq f.thread d.thread) (holds_numbers f.slots d.numbers) turn).0;
-      full = held_numbers f.slots d.numbers (and_parts (nat_eq f.thread d.thread) (holds_numbers f.slots d.numbers) turn).1;
+      thread = (Decides-eqb f.thread d.thread).0
+          (and_parts (nat_eq f.thread d.thread) (holds_numbers f.slots d.numbers) turn).0;
+      full = held_numbers f.slots d.numbers
+          (and_parts (nat_eq f.thread d.thread) (holds_numbers f.slots d.numbers) turn).1;
       is = cc;
     }
     by_next f there turn false at = cc
 
-    by_turn : (f : Frame) → frame_in n c.frames ≡ Some f → (b : Bool) → is_turn_of d f ≡ b → cond {A = Result ContentChange SubError} b (within_numbers (turned f (resumed known f.place d.turn) c)) (Err Stale) ≡ Ok change → IsCarried known d n c change
-    by_turn f there true turn at = by_next f there turn (nat_lt (turned f (resumed known f.place d.turn) c).after.next (2 ^ 32)) at
+    by_turn : (f : Frame) → frame_in n c.frames ≡ Some f → (b : Bool) → is_turn_of d f ≡ b
+        → cond {A = Result ContentChange SubError} b (within_numbers (turned f (resumed known f.place d.turn) c))
+        (Err Stale) ≡ Ok change → IsCarried known d n c change
+    by_turn f there true turn at = by_next f there turn
+        (nat_lt (turned f (resumed known f.place d.turn) c).after.next (2 ^ 32)) at
     by_turn f there false turn at = cc
 
-    by_frame : (o : Option Frame) → frame_in n c.frames ≡ o → executed known d c o ≡ Ok change → IsCarried known d n c change
+    by_frame : (o : Option Frame) → frame_in n c.frames ≡ o → executed known d c o ≡ Ok change
+        → IsCarried known d n c change
     by_frame None there at = cc
     by_frame (Some f) there at = by_turn f there (is_turn_of d f) refl at
 
 -- carrying it out is a move
-pub exec_moves : (input : List ℤ) (known : Known) (v : View) (i : ℕ) (g : Grant) (s : Sub) (c : Content) (d : DoneOf) (n : ℕ) (change : ContentChange) → IsKnownOf d.program input known → Live v i g s → IsKept c → Shows s.content c → IsEvaluated d → exec_content known d n c ≡ Ok change → IsMove (program_meaning d.program input) v i g s change.after change.fill (grants_of_records change.dropped)
+pub exec_moves : (input : List ℤ) (known : Known) (v : View) (i : ℕ) (g : Grant) (s : Sub) (c : Content) (d : DoneOf)
+    (n : ℕ) (change : ContentChange) → IsKnownOf d.program input known → Live v i g s → IsKept c → Shows s.content c
+    → IsEvaluated d → exec_content known d n c ≡ Ok change
+    → IsMove (program_meaning d.program input) v i g s change.after change.fill (grants_of_records change.dropped)
 exec_moves input known v i g s c d n change right live kept shows evaluated is =
     let done = carried known d n c change is in
     let end : turn_of d.program done.frame.thread d.numbers ≡ Some d.turn = rw done.thread evaluated.reached in
-    rw (← done.is) (turn_moves d.program input v i g s c done.frame d.numbers live (record { kept = kept; shows = shows; there = done.there; full = done.full }) known d.turn right end)
+    rw (← done.is) (turn_moves d.program input v i g s c done.frame d.numbers live
+    (record { kept = kept; shows = shows; there = done.there; full = done.full }) known d.turn right end)
 
 -- and keeps the content
-pub exec_kept : (known : Known) (c : Content) (d : DoneOf) (n : ℕ) (change : ContentChange) → IsKept c → exec_content known d n c ≡ Ok change → IsKept change.after
+pub exec_kept : (known : Known) (c : Content) (d : DoneOf) (n : ℕ) (change : ContentChange) → IsKept c
+    → exec_content known d n c ≡ Ok change → IsKept change.after
 exec_kept known c d n change kept is =
     let done = carried known d n c change is in
     rw (← done.is) (turn_kept c done.frame d.numbers kept done.there done.full (resumed known done.frame.place d.turn))

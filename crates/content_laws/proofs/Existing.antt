@@ -22,7 +22,8 @@ use Rattle.content_laws.proofs.Apart.{own_number}
 use Rattle.content_laws.proofs.Records.{Stolen, NoneStolen, stolen_or}
 
 -- in a sound content, a record's number is that of no frame
-stolen_unframed : (c : Content) (g : Grant) (x : Record) (n : ℕ) (f : Frame) → IsSound c → record_in g c.records ≡ Some x → frame_in n c.frames ≡ Some f → x.frame ≢ n
+stolen_unframed : (c : Content) (g : Grant) (x : Record) (n : ℕ) (f : Frame) → IsSound c
+    → record_in g c.records ≡ Some x → frame_in n c.frames ≡ Some f → x.frame ≢ n
 stolen_unframed c g x n f sound at there same =
     let number : n ≡ f.number = frame_number n f c.frames there in
     let once = sound.once n in
@@ -33,16 +34,19 @@ stolen_unframed c g x n f sound at there same =
     omega arith
 
 -- and of one record only
-stolen_once : (c : Content) (g h : Grant) (x y : Record) → IsKept c → record_in g c.records ≡ Some x → record_in h c.records ≡ Some y → x.frame ≡ y.frame → x ≡ y
+stolen_once : (c : Content) (g h : Grant) (x y : Record) → IsKept c → record_in g c.records ≡ Some x
+    → record_in h c.records ≡ Some y → x.frame ≡ y.frame → x ≡ y
 stolen_once c g h x y kept here there same = by_name (same_or_other (name_of_grant g) (name_of_grant h))
   where
     by_name : (name_of_grant g ≡ name_of_grant h) ⊎ (name_of_grant g ≢ name_of_grant h) → x ≡ y
     by_name (inl one) = let found : record_in h c.records ≡ Some x = rw one at here in one_found found there
     by_name (inr other) =
         let once = kept.sound.once y.frame in
-        let left : record_in g (without_record h c.records) ≡ Some x = stays name_of_record (name_of_grant g) (name_of_grant h) c.records other ∙ here in
+        let left : record_in g (without_record h c.records) ≡ Some x =
+        stays name_of_record (name_of_grant g) (name_of_grant h) c.records other ∙ here in
         let sums = sum_left name_of_record (is_stolen y.frame) (name_of_grant h) y c.records kept.records there in
-        let part = part_of_sum name_of_record (is_stolen y.frame) (name_of_grant g) x (without_record h c.records) left in
+        let part = part_of_sum name_of_record (is_stolen y.frame) (name_of_grant g) x
+        (without_record h c.records) left in
         let one : is_stolen y.frame x ≡ 1 = ap (λ (k : ℕ). is_stolen k x) (sym same) ∙ stolen_itself x in
         let two = stolen_itself y in
         absurd (omega arith)
@@ -113,7 +117,8 @@ module _ (c : Content) (kept : IsKept c) where
   framed n f there = ap (λ (o : Option Frame). entry_of o (stolen_or n c.records kept.records)) there
 
   -- a record's number has no frame
-  unframed : (n : ℕ) (x : Record) (g : Grant) → record_in g c.records ≡ Some x → x.frame ≡ n → frame_in n c.frames ≡ None
+  unframed : (n : ℕ) (x : Record) (g : Grant) → record_in g c.records ≡ Some x → x.frame ≡ n
+      → frame_in n c.frames ≡ None
   unframed n x g there same = by_found (frame_in n c.frames) refl
     where
       by_found : (o : Option Frame) → frame_in n c.frames ≡ o → frame_in n c.frames ≡ None
@@ -122,7 +127,8 @@ module _ (c : Content) (kept : IsKept c) where
 
   -- under a record's number stands the record
   recorded : (g : Grant) (x : Record) → record_in g c.records ≡ Some x → entry x.frame ≡ Recorded x
-  recorded g x there = ap (λ (o : Option Frame). entry_of o (stolen_or x.frame c.records kept.records)) (unframed x.frame x g there refl) ∙ by_record (stolen_or x.frame c.records kept.records)
+  recorded g x there = ap (λ (o : Option Frame). entry_of o (stolen_or x.frame c.records kept.records))
+      (unframed x.frame x g there refl) ∙ by_record (stolen_or x.frame c.records kept.records)
     where
       by_record : (s : (Stolen c.records x.frame) ⊎ (NoneStolen c.records x.frame)) → entry_of None s ≡ Recorded x
       by_record (inl s) = ap Recorded (stolen_once c s.grant g s.record_is x kept s.there there s.number)
@@ -130,7 +136,8 @@ module _ (c : Content) (kept : IsKept c) where
 
   -- and nothing under others
   nothing : (n : ℕ) → IsUnused c n → entry n ≡ Nothing
-  nothing n u = ap (λ (o : Option Frame). entry_of o (stolen_or n c.records kept.records)) u.frame ∙ by_record (stolen_or n c.records kept.records)
+  nothing n u = ap (λ (o : Option Frame). entry_of o (stolen_or n c.records kept.records)) u.frame
+      ∙ by_record (stolen_or n c.records kept.records)
     where
       by_record : (s : (Stolen c.records n) ⊎ (NoneStolen c.records n)) → entry_of None s ≡ Nothing
       by_record (inl s) = absurd (u.record_of s.grant s.record_is s.there s.number)

@@ -76,13 +76,18 @@ made_above next k g made numbered there = elim (leb_tells next k) [
 ]
 
 -- no number from the next one on is used
-pub unused_from : (c : Content) (k : ℕ) → AreBelow c.next c.frames → AllByRecursion (λ r. r.frame < c.next) c.records → c.next ≤ k → IsUnused c k
+pub unused_from : (c : Content) (k : ℕ) → AreBelow c.next c.frames → AllByRecursion (λ r. r.frame < c.next) c.records
+    → c.next ≤ k → IsUnused c k
 unused_from c k below stolen le = record {
   frame = absent k c.frames (below_none c.next k c.frames below le);
-  record_of = λ g x at same. (let less = all_found name_of_record (λ (r : Record). r.frame < c.next) (name_of_grant g) x c.records stolen at in omega arith);
+  record_of = λ g x at same. (let less =
+      all_found name_of_record (λ (r : Record). r.frame < c.next)
+      (name_of_grant g) x c.records stolen at in omega arith);
 }
 
-module _ (t : Tables) (c : Content) (made : List Frame) (next : ℕ) (shows : Shows t c) (below : AreBelow c.next c.frames) (stolen : AllByRecursion (λ r. r.frame < c.next) c.records) (numbered : AreNumbered c.next made) where
+module _ (t : Tables) (c : Content) (made : List Frame) (next : ℕ) (shows : Shows t c)
+    (below : AreBelow c.next c.frames) (stolen : AllByRecursion (λ r. r.frame < c.next) c.records)
+    (numbered : AreNumbered c.next made) where
   -- what was there stays
   frame_kept : (f : Frame) → f.number < c.next → ShowsFrame t f → ShowsFrame (with_made t made next) f
   frame_kept f less shown =
@@ -124,11 +129,13 @@ module _ (t : Tables) (c : Content) (made : List Frame) (next : ℕ) (shows : Sh
     place = ap (place_on (t.place f.number)) there;
     thread = ap (thread_on (t.thread f.number)) there;
     slots = λ j. ap (slot_on (t.slots f.number j) j) there;
-    unstolen = (shows.unused f.number (unused_from c f.number below stolen (made_above c.next f.number f made numbered there))).unstolen;
+    unstolen = (shows.unused f.number (unused_from c f.number below stolen
+        (made_above c.next f.number f made numbered there))).unstolen;
   }
 
   -- a number that no frame has in the end was none's before
-  none_before : (m : ℕ) (o : Option Frame) → frame_in m c.frames ≡ o → frame_in m (c.frames ++ made) ≡ None → frame_in m c.frames ≡ None
+  none_before : (m : ℕ) (o : Option Frame) → frame_in m c.frames ≡ o → frame_in m (c.frames ++ made) ≡ None
+      → frame_in m c.frames ≡ None
   none_before m None is none = is
   none_before m (Some y) is none = absurd (none_some none (before name_of_frame (m, 0) y c.frames made is))
 
@@ -140,15 +147,19 @@ module _ (t : Tables) (c : Content) (made : List Frame) (next : ℕ) (shows : Sh
     next = refl;
     outcome = shows.outcome;
     frames = λ m f at. by_part m f (before_or_behind name_of_frame (m, 0) f c.frames made at);
-    records = λ g x at. record_kept x (all_found name_of_record (λ (r : Record). r.frame < c.next) (name_of_grant g) x c.records stolen at) (shows.records g x at);
+    records = λ g x at. record_kept x (all_found name_of_record (λ (r : Record). r.frame < c.next)
+        (name_of_grant g) x c.records stolen at) (shows.records g x at);
     unused = λ m u. (
         let old = none_before m (frame_in m c.frames) refl u.frame in
         let new : frame_in m made ≡ None = sym (behind name_of_frame (m, 0) c.frames made old) ∙ u.frame in
         nothing_kept m new (shows.unused m (record { frame = old; record_of = u.record_of })));
   }
     where
-      by_part : (m : ℕ) (f : Frame) → (frame_in m c.frames ≡ Some f) ⊎ (frame_in m made ≡ Some f) → ShowsFrame (with_made t made next) f
-      by_part m f (inl was) = frame_kept f (all_found name_of_frame (λ (g : Frame). g.number < c.next) (m, 0) f c.frames below was) (shows.frames m f was)
+      by_part : (m : ℕ) (f : Frame) → (frame_in m c.frames ≡ Some f) ⊎ (frame_in m made ≡ Some f)
+          → ShowsFrame (with_made t made next) f
+      by_part m f (inl was) = frame_kept f
+          (all_found name_of_frame (λ (g : Frame). g.number < c.next) (m, 0) f c.frames below was)
+          (shows.frames m f was)
       by_part m f (inr new) = frame_made f (own_number m f made new)
 
 -- how many slots before slot j await a kid
@@ -160,23 +171,34 @@ kids_before (suc j) (Awaits kid ∷ slots) = suc (kids_before j slots)
 
 -- the kid of a slot, as frame m, which returns to slot j of frame n
 abbrev pub kid_frame : List ℕ → ℕ → ℕ → ℕ → Kid → Frame
-kid_frame place n j m kid = record { number = m; place = kid.hole ∷ place; thread = kid.thread; slots = map Some kid.arguments; returns = Local n j }
+kid_frame place n j m kid = record {
+  number = m;
+  place = kid.hole ∷ place;
+  thread = kid.thread;
+  slots = map Some kid.arguments;
+  returns = Local n j;
+}
 
 -- the first is found
 first_frame : (f : Frame) (frames : List Frame) → frame_in f.number (f ∷ frames) ≡ Some f
 first_frame f frames = ap (λ r. cond (is_eq r) (Some f) (frame_in f.number frames)) (equal_to_itself (f.number, 0))
 
 -- the kid of a slot is found under its number
-pub kid_found : (place : List ℕ) (n i m : ℕ) (slots : List Slot) (j a b : ℕ) (kid : Kid) → slice_get slots j ≡ Some (Awaits kid) → a ≡ i + j → b ≡ m + kids_before j slots → frame_in b (kids place n i m slots) ≡ Some (kid_frame place n a b kid)
+pub kid_found : (place : List ℕ) (n i m : ℕ) (slots : List Slot) (j a b : ℕ) (kid : Kid)
+    → slice_get slots j ≡ Some (Awaits kid) → a ≡ i + j → b ≡ m + kids_before j slots
+    → frame_in b (kids place n i m slots) ≡ Some (kid_frame place n a b kid)
 kid_found place n i m [] j a b kid at slot number = cc
 kid_found place n i m (Filled v ∷ slots) zero a b kid at slot number = cc
-kid_found place n i m (Filled v ∷ slots) (suc j) a b kid at slot number = kid_found place n (i + 1) m slots j a b kid at (omega arith) number
+kid_found place n i m (Filled v ∷ slots) (suc j) a b kid at slot number =
+    kid_found place n (i + 1) m slots j a b kid at (omega arith) number
 kid_found place n i m (Awaits k ∷ slots) zero a b kid at slot number =
     let same : k ≡ kid = cc in
     let slot_is : a ≡ i = omega arith in
     let number_is : b ≡ m = omega arith in
-    let first : frame_in m (kids place n i m (Awaits k ∷ slots)) ≡ Some (kid_frame place n i m k) = first_frame (kid_frame place n i m k) (kids place n (i + 1) (m + 1) slots) in
-    ap (λ (x : ℕ). frame_in x (kids place n i m (Awaits k ∷ slots))) number_is ∙ first ∙ rw (slot_is, number_is, same) refl
+    let first : frame_in m (kids place n i m (Awaits k ∷ slots)) ≡ Some (kid_frame place n i m k) =
+    first_frame (kid_frame place n i m k) (kids place n (i + 1) (m + 1) slots) in
+    ap (λ (x : ℕ). frame_in x (kids place n i m (Awaits k ∷ slots))) number_is ∙ first
+    ∙ rw (slot_is, number_is, same) refl
 kid_found place n i m (Awaits k ∷ slots) (suc j) a b kid at slot number =
     let other : b ≢ m = λ same. omega arith in
     passed name_of_frame (b, 0) (kid_frame place n i m k) (kids place n (i + 1) (m + 1) slots) (other_name b m other)
@@ -190,17 +212,28 @@ pub record KidThere (slots : List Slot) (m b : ℕ) : Type 0 where
   pub number : b ≡ m + kids_before slot slots
 
 -- the slot of a kid that is found
-pub found_kid : (place : List ℕ) (n i m : ℕ) (slots : List Slot) (b : ℕ) (g : Frame) → frame_in b (kids place n i m slots) ≡ Some g → KidThere slots m b
+pub found_kid : (place : List ℕ) (n i m : ℕ) (slots : List Slot) (b : ℕ) (g : Frame)
+    → frame_in b (kids place n i m slots) ≡ Some g → KidThere slots m b
 found_kid place n i m [] b g there = cc
 found_kid place n i m (Filled v ∷ slots) b g there =
     let rest = found_kid place n (i + 1) m slots b g there in
     record { slot = suc rest.slot; kid = rest.kid; at = rest.at; number = rest.number }
-found_kid place n i m (Awaits k ∷ slots) b g there = by_order (λ e. later (found_kid place n (i + 1) (m + 1) slots b g e)) (name_cmp (b, 0) (m, 0)) refl there
+found_kid place n i m (Awaits k ∷ slots) b g there =
+    by_order (λ e. later (found_kid place n (i + 1) (m + 1) slots b g e)) (name_cmp (b, 0) (m, 0)) refl there
   where
     later : KidThere slots (m + 1) b → KidThere (Awaits k ∷ slots) m b
-    later rest = record { slot = suc rest.slot; kid = rest.kid; at = rest.at; number = let number = rest.number in omega arith }
+    later rest = record {
+      slot = suc rest.slot;
+      kid = rest.kid;
+      at = rest.at;
+      number = let number =
+          rest.number in omega arith;
+    }
 
-    by_order : (frame_in b (kids place n (i + 1) (m + 1) slots) ≡ Some g → KidThere (Awaits k ∷ slots) m b) → (r : Ordering) → name_cmp (b, 0) (m, 0) ≡ r → cond (is_eq r) (Some (kid_frame place n i m k)) (frame_in b (kids place n (i + 1) (m + 1) slots)) ≡ Some g → KidThere (Awaits k ∷ slots) m b
+    by_order : (frame_in b (kids place n (i + 1) (m + 1) slots) ≡ Some g → KidThere (Awaits k ∷ slots) m b)
+        → (r : Ordering) → name_cmp (b, 0) (m, 0) ≡ r
+        → cond (is_eq r) (Some (kid_frame place n i m k)) (frame_in b (kids place n (i + 1) (m + 1) slots)) ≡ Some g
+        → KidThere (Awaits k ∷ slots) m b
     by_order rest Less is at = rest at
     by_order rest Greater is at = rest at
     by_order rest Equal is at =
@@ -216,7 +249,8 @@ record KidPart (slots : List Slot) (j hole thread : ℕ) (numbers : List ℤ) : 
   numbers_are : kid.arguments ≡ numbers
 
 -- there is a slot for it
-kid_part : (slots : List Slot) (j hole thread : ℕ) (numbers : List ℤ) → slice_get (map part_of slots) j ≡ Some (meaning.Kid hole thread numbers) → KidPart slots j hole thread numbers
+kid_part : (slots : List Slot) (j hole thread : ℕ) (numbers : List ℤ)
+    → slice_get (map part_of slots) j ≡ Some (meaning.Kid hole thread numbers) → KidPart slots j hole thread numbers
 kid_part [] j hole thread numbers at = cc
 kid_part (Filled v ∷ slots) zero hole thread numbers at = cc
 kid_part (Awaits k ∷ slots) zero hole thread numbers at =
@@ -224,16 +258,25 @@ kid_part (Awaits k ∷ slots) zero hole thread numbers at =
     record { kid = k; at = refl; hole_is = cc; thread_is = cc; numbers_are = cc }
 kid_part (slot ∷ slots) (suc j) hole thread numbers at =
     let rest = kid_part slots j hole thread numbers at in
-    record { kid = rest.kid; at = rest.at; hole_is = rest.hole_is; thread_is = rest.thread_is; numbers_are = rest.numbers_are }
+    record {
+      kid = rest.kid;
+      at = rest.at;
+      hole_is = rest.hole_is;
+      thread_is = rest.thread_is;
+      numbers_are = rest.numbers_are;
+    }
 
 -- and the other way round
-part_kid : (slots : List Slot) (j : ℕ) (kid : Kid) → slice_get slots j ≡ Some (Awaits kid) → slice_get (map part_of slots) j ≡ Some (meaning.Kid kid.hole kid.thread kid.arguments)
+part_kid : (slots : List Slot) (j : ℕ) (kid : Kid) → slice_get slots j ≡ Some (Awaits kid)
+    → slice_get (map part_of slots) j ≡ Some (meaning.Kid kid.hole kid.thread kid.arguments)
 part_kid [] j kid at = cc
 part_kid (slot ∷ slots) zero kid at = let same : slot ≡ Awaits kid = some_same at in rw same refl
 part_kid (slot ∷ slots) (suc j) kid at = part_kid slots j kid at
 
 -- the tables of a join have what a move asks of them
-module _ (t : Tables) (f : Frame) (u : ℕ) (slots : List Slot) (place : t.place f.number ≡ f.place) (less : f.number < t.next) (active : t.outcome ≡ None) (above : (k : ℕ) → t.next ≤ k → ShowsNothing t k) (bare : (k : ℕ) → t.returns k ≡ None → ShowsNothing t k) where
+module _ (t : Tables) (f : Frame) (u : ℕ) (slots : List Slot) (place : t.place f.number ≡ f.place)
+    (less : f.number < t.next) (active : t.outcome ≡ None) (above : (k : ℕ) → t.next ≤ k
+    → ShowsNothing t k) (bare : (k : ℕ) → t.returns k ≡ None → ShowsNothing t k) where
   -- the frames that it makes
   abbrev pub made : List Frame
   made = joined f u slots t.next
@@ -259,20 +302,25 @@ module _ (t : Tables) (f : Frame) (u : ℕ) (slots : List Slot) (place : t.place
   number_of_kid j = t.next + 1 + kids_before j slots
 
   -- which is found under it
-  kid_there : (j : ℕ) (kid : Kid) → slice_get slots j ≡ Some (Awaits kid) → frame_in (number_of_kid j) made ≡ Some (kid_frame f.place t.next j (number_of_kid j) kid)
+  kid_there : (j : ℕ) (kid : Kid) → slice_get slots j ≡ Some (Awaits kid)
+      → frame_in (number_of_kid j) made ≡ Some (kid_frame f.place t.next j (number_of_kid j) kid)
   kid_there j kid at =
       let other : number_of_kid j ≢ t.next = λ same. omega arith in
-      passed name_of_frame (number_of_kid j, 0) (successor f u slots t.next) (kids f.place t.next 0 (t.next + 1) slots) (other_name (number_of_kid j) t.next other)
+      passed name_of_frame (number_of_kid j, 0) (successor f u slots t.next) (kids f.place t.next 0 (t.next + 1) slots)
+      (other_name (number_of_kid j) t.next other)
       ∙ kid_found f.place t.next 0 (t.next + 1) slots j j (number_of_kid j) kid at (omega arith) refl
 
   -- and stands so in the tables
-  kid_at : (j hole thread : ℕ) (numbers : List ℤ) → slice_get (map part_of slots) j ≡ Some (meaning.Kid hole thread numbers) → KidAt t joined_tables f.number (number_of_kid j) j hole thread numbers
+  kid_at : (j hole thread : ℕ) (numbers : List ℤ)
+      → slice_get (map part_of slots) j ≡ Some (meaning.Kid hole thread numbers)
+      → KidAt t joined_tables f.number (number_of_kid j) j hole thread numbers
   kid_at j hole thread numbers part =
       let k = kid_part slots j hole thread numbers part in
       let there = kid_there j k.kid k.at in
       record {
         above = omega arith;
-        below = all_found name_of_frame (λ (g : Frame). g.number < t.next + length made) (number_of_kid j, 0) (kid_frame f.place t.next j (number_of_kid j) k.kid) made (numbered_below t.next made numbered) there;
+        below = all_found name_of_frame (λ (g : Frame). g.number < t.next + length made) (number_of_kid j, 0)
+            (kid_frame f.place t.next j (number_of_kid j) k.kid) made (numbered_below t.next made numbered) there;
         returns = ap (returns_on _) there;
         place = ap (place_on _) there ∙ rw (k.hole_is, place) refl;
         thread = ap (thread_on _) there ∙ k.thread_is;
@@ -284,14 +332,18 @@ module _ (t : Tables) (f : Frame) (u : ℕ) (slots : List Slot) (place : t.place
   other_than k le same = omega arith
 
   -- what returns under a number behind the successor's is a kid
-  kid_number : (k : ℕ) (s : tables.Return) → t.next < k → joined_tables.returns k ≡ Some s → KidNumber (map part_of slots) number_of_kid k
+  kid_number : (k : ℕ) (s : tables.Return) → t.next < k → joined_tables.returns k ≡ Some s
+      → KidNumber (map part_of slots) number_of_kid k
   kid_number k s more at = by_made (frame_in k made) refl at
     where
-      by_made : (o : Option Frame) → frame_in k made ≡ o → returns_on (put t.returns f.number None k) o ≡ Some s → KidNumber (map part_of slots) number_of_kid k
-      by_made None is e = absurd (none_some (put_other t.returns f.number k None (other_than k (omega arith)) ∙ (above k (omega arith)).returns) e)
+      by_made : (o : Option Frame) → frame_in k made ≡ o → returns_on (put t.returns f.number None k) o ≡ Some s
+          → KidNumber (map part_of slots) number_of_kid k
+      by_made None is e = absurd (none_some (put_other t.returns f.number k None (other_than k (omega arith))
+          ∙ (above k (omega arith)).returns) e)
       by_made (Some g) is e =
           let other : k ≢ t.next = λ same. omega arith in
-          let behind_it = sym (passed name_of_frame (k, 0) (successor f u slots t.next) (kids f.place t.next 0 (t.next + 1) slots) (other_name k t.next other)) ∙ is in
+          let behind_it = sym (passed name_of_frame (k, 0) (successor f u slots t.next)
+          (kids f.place t.next 0 (t.next + 1) slots) (other_name k t.next other)) ∙ is in
           let kid = found_kid f.place t.next 0 (t.next + 1) slots k g behind_it in
           record {
             slot = kid.slot;
@@ -306,11 +358,14 @@ module _ (t : Tables) (f : Frame) (u : ℕ) (slots : List Slot) (place : t.place
   nothing_bare : (k l : ℕ) → joined_tables.returns k ≡ None → joined_tables.slots k l ≡ Absent
   nothing_bare k l at = by_made (frame_in k made) refl at
     where
-      by_number : (k ≡ f.number) ⊎ (k ≢ f.number) → put t.returns f.number None k ≡ None → put_row t.slots f.number (λ j. Absent) k l ≡ Absent
+      by_number : (k ≡ f.number) ⊎ (k ≢ f.number) → put t.returns f.number None k ≡ None
+          → put_row t.slots f.number (λ j. Absent) k l ≡ Absent
       by_number (inl same) e = rw same (row_here t.slots f.number l (λ j. Absent))
-      by_number (inr other) e = row_other t.slots f.number k l (λ j. Absent) other ∙ (bare k (sym (put_other t.returns f.number k None other) ∙ e)).slots l
+      by_number (inr other) e = row_other t.slots f.number k l (λ j. Absent) other
+          ∙ (bare k (sym (put_other t.returns f.number k None other) ∙ e)).slots l
 
-      by_made : (o : Option Frame) → frame_in k made ≡ o → returns_on (put t.returns f.number None k) o ≡ None → slot_on (put_row t.slots f.number (λ j. Absent) k l) l o ≡ Absent
+      by_made : (o : Option Frame) → frame_in k made ≡ o → returns_on (put t.returns f.number None k) o ≡ None
+          → slot_on (put_row t.slots f.number (λ j. Absent) k l) l o ≡ Absent
       by_made None is e = by_number (same_or k f.number) e
       by_made (Some g) is e = absurd (none_some e refl)
 

@@ -34,35 +34,47 @@ use Rattle.content_laws.proofs.Granting.{ready_found}
 
 -- a content that ended is kept
 end_kept : (o : Outcome) (c : Content) → IsKept (ends o c).after
-end_kept o c = record { sound = ended_sound o c; frames = none_order name_of_frame; records = none_order name_of_record }
+end_kept o c = record {
+  sound = ended_sound o c;
+  frames = none_order name_of_frame;
+  records = none_order name_of_record;
+}
 
 -- a value comes to a content that lacks its debtor
-value_kept : (r : Return) (v : ℤ) (c : Content) → LacksDebtor r c → AreInOrder name_of_record c.records → IsKept (arrives r v c).after
+value_kept : (r : Return) (v : ℤ) (c : Content) → LacksDebtor r c → AreInOrder name_of_record c.records
+    → IsKept (arrives r v c).after
 value_kept Whole v c lacks records = end_kept (Value v) c
 value_kept (Local n j) v c lacks records = by_found (frame_in n c.frames) refl
   where
     by_found : (o : Option Frame) → frame_in n c.frames ≡ o → IsKept (filled_in j v c o).after
-    by_found None is = record { sound = filled_sound c n j v c.frames lacks (ap (fill_of j v c.frames) (sym is)); frames = lacks.order; records = records }
+    by_found None is = record {
+      sound = filled_sound c n j v c.frames lacks (ap (fill_of j v c.frames) (sym is));
+      frames = lacks.order;
+      records = records;
+    }
     by_found (Some h) is = record {
       sound = filled_sound c n j v (fill_of j v c.frames (Some h)) lacks (ap (fill_of j v c.frames) (sym is));
       frames = put_order name_of_frame (with_slot j v h) c.frames lacks.order;
       records = records;
     }
 
-module _ (c : Content) (f : Frame) (numbers : List ℤ) (kept : IsKept c) (there : frame_in f.number c.frames ≡ Some f) (full : numbers_in f.slots ≡ Some numbers) where
+module _ (c : Content) (f : Frame) (numbers : List ℤ) (kept : IsKept c) (there : frame_in f.number c.frames ≡ Some f)
+    (full : numbers_in f.slots ≡ Some numbers) where
   -- what is left without a ready frame
   abbrev rest : Content
   rest = record c { frames = without_frame f.number c.frames }
 
   -- lacks its debtor
   pub leaves : FrameLeaves c f (without_frame f.number c.frames)
-  leaves = frame_leaves c f kept.sound kept.frames (without_order name_of_frame (f.number, 0) c.frames kept.frames) there (numbers_full f.slots numbers full)
+  leaves = frame_leaves c f kept.sound kept.frames
+      (without_order name_of_frame (f.number, 0) c.frames kept.frames) there (numbers_full f.slots numbers full)
 
   -- until the frames of its join come
   join_kept : (u : ℕ) (slots : List Slot) → IsKept (replaced f.number (joined f u slots c.next) c).after
   join_kept u slots = record {
     sound = joined_sound rest f u slots leaves.lacks;
-    frames = join_rises c.next rest.frames (joined f u slots c.next) leaves.lacks.order leaves.lacks.below (joined_numbered f u slots c.next);
+    frames = join_rises c.next rest.frames (joined f u slots c.next) leaves.lacks.order leaves.lacks.below
+        (joined_numbered f u slots c.next);
     records = kept.records;
   }
 
@@ -86,7 +98,8 @@ module _ (c : Content) (r : Record) (kept : IsKept c) (there : record_in r.grant
 
   -- an outcome keeps a content
   pub result_kept : (o : Outcome) → IsKept (closed r o c).after
-  result_kept (Value v) = value_kept r.returns v others (record_leaves c r kept.sound kept.frames kept.records there).lacks left
+  result_kept (Value v) = value_kept r.returns v others
+      (record_leaves c r kept.sound kept.frames kept.records there).lacks left
   result_kept TooDeep = end_kept TooDeep others
 
   -- so does a redo
@@ -100,12 +113,15 @@ module _ (c : Content) (r : Record) (kept : IsKept c) (there : record_in r.grant
       }
 
 -- so does a Grant
-pub grant_kept : (c : Content) (g : Grant) (thief n : ℕ) (r : Ready) → IsKept c → ready_in n c ≡ Some r → record_in g c.records ≡ None → IsKept (granted_out g thief r c)
+pub grant_kept : (c : Content) (g : Grant) (thief n : ℕ) (r : Ready) → IsKept c → ready_in n c ≡ Some r
+    → record_in g c.records ≡ None → IsKept (granted_out g thief r c)
 grant_kept c g thief n r kept is new =
     let found = ready_found n c r is in
     let left = leaves c r.frame r.numbers kept found.there found.full in
     record {
-      sound = granted_sound (record c { frames = without_frame r.frame.number c.frames }) g thief r left.lacks left.free new;
+      sound = granted_sound (record c {
+        frames = without_frame r.frame.number c.frames;
+      }) g thief r left.lacks left.free new;
       frames = left.lacks.order;
       records = put_order name_of_record (record_of g thief r) c.records kept.records;
     }
@@ -120,7 +136,11 @@ begun_kept host task = record {
 
 -- so is one whose host is renamed
 pub parent_kept : (c : Content) (host : ℕ) → IsKept c → IsKept (with_parent host c)
-parent_kept c host kept = record { sound = parent_sound host c kept.sound; frames = kept.frames; records = kept.records }
+parent_kept c host kept = record {
+  sound = parent_sound host c kept.sound;
+  frames = kept.frames;
+  records = kept.records;
+}
 
 -- or the holder of a grant
 pub thief_kept : (c : Content) (g : Grant) (holder : ℕ) → IsKept c → IsKept (with_thief g holder c)
@@ -130,6 +150,7 @@ thief_kept c g holder kept = record {
   records = by_found (record_in g c.records);
 }
   where
-    by_found : (o : Option Record) → AreInOrder name_of_record (changed_of name_of_record (with_holder holder) c.records o)
+    by_found : (o : Option Record) → AreInOrder
+        name_of_record (changed_of name_of_record (with_holder holder) c.records o)
     by_found None = kept.records
     by_found (Some x) = put_order name_of_record (with_holder holder x) c.records kept.records

@@ -18,7 +18,11 @@ use Rattle.content_laws.proofs.Apart.{other_name, same_name, stolen_apart, recor
 
 -- nothing stands under number n any more
 abbrev pub cleared : Tables → ℕ → Tables
-cleared t n = record t { returns = put t.returns n None; granted = put t.granted n None; slots = put_row t.slots n (λ j. Absent) }
+cleared t n = record t {
+  returns = put t.returns n None;
+  granted = put t.granted n None;
+  slots = put_row t.slots n (λ j. Absent);
+}
 
 -- frames, records and numbers elsewhere stay
 frame_stays : (t : Tables) (n : ℕ) (f : Frame) → f.number ≢ n → ShowsFrame t f → ShowsFrame (cleared t n) f
@@ -59,7 +63,8 @@ nothing_stays t n m other shown = record {
 }
 
 -- so the content is shown that a frame left
-pub frame_cleared : (t : Tables) (c : Content) (f : Frame) → Shows t c → frame_in f.number c.frames ≡ Some f → Shows (cleared t f.number) (record c { frames = without_frame f.number c.frames })
+pub frame_cleared : (t : Tables) (c : Content) (f : Frame) → Shows t c → frame_in f.number c.frames ≡ Some f
+    → Shows (cleared t f.number) (record c { frames = without_frame f.number c.frames })
 frame_cleared t c f shows there = record {
   host = shows.host;
   task = shows.task;
@@ -69,11 +74,13 @@ frame_cleared t c f shows there = record {
       let was = left name_of_frame (m, 0) (f.number, 0) g c.frames at in
       let other : g.number ≢ f.number = λ same. was.0 (same_name m f.number (frame_number m g c.frames was.1 ∙ same)) in
       frame_stays t f.number g other (shows.frames m g was.1));
-  records = λ g x at. record_stays t f.number x (stolen_apart t f x (shows.frames f.number f there) (shows.records g x at)) (shows.records g x at);
+  records = λ g x at. record_stays t f.number x
+      (stolen_apart t f x (shows.frames f.number f there) (shows.records g x at)) (shows.records g x at);
   unused = unused;
 }
   where
-    unused : (m : ℕ) → IsUnused (record c { frames = without_frame f.number c.frames }) m → ShowsNothing (cleared t f.number) m
+    unused : (m : ℕ) → IsUnused (record c { frames = without_frame f.number c.frames }) m
+        → ShowsNothing (cleared t f.number) m
     unused m u = by_number (same_or m f.number)
       where
         by_number : (m ≡ f.number) ⊎ (m ≢ f.number) → ShowsNothing (cleared t f.number) m
@@ -84,7 +91,9 @@ frame_cleared t c f shows there = record {
         }))
 
 -- a number that only the record of r had isn't that of another
-pub unused_before : (c : Content) (r : Record) (m : ℕ) → m ≢ r.frame → record_in r.grant c.records ≡ Some r → ((g : Grant) (x : Record) → record_in g (without_record r.grant c.records) ≡ Some x → x.frame ≡ m → ⊥) → (g : Grant) (x : Record) → record_in g c.records ≡ Some x → x.frame ≡ m → ⊥
+pub unused_before : (c : Content) (r : Record) (m : ℕ) → m ≢ r.frame → record_in r.grant c.records ≡ Some r
+    → ((g : Grant) (x : Record) → record_in g (without_record r.grant c.records) ≡ Some x → x.frame ≡ m → ⊥)
+    → (g : Grant) (x : Record) → record_in g c.records ≡ Some x → x.frame ≡ m → ⊥
 unused_before c r m other there unused g x at same = by_name (same_or_other (name_of_grant g) (name_of_grant r.grant))
   where
     by_name : (name_of_grant g ≡ name_of_grant r.grant) ⊎ (name_of_grant g ≢ name_of_grant r.grant) → ⊥
@@ -92,23 +101,28 @@ unused_before c r m other there unused g x at same = by_name (same_or_other (nam
         let found : record_in r.grant c.records ≡ Some x = rw one at at in
         let is : x ≡ r = one_found found there in
         other (sym same ∙ ap (λ (y : Record). y.frame) is)
-    by_name (inr apart) = unused g x (stays name_of_record (name_of_grant g) (name_of_grant r.grant) c.records apart ∙ at) same
+    by_name (inr apart) = unused g x (stays name_of_record (name_of_grant g) (name_of_grant r.grant) c.records apart
+        ∙ at) same
 
 -- and the one that a record left
-pub record_cleared : (t : Tables) (c : Content) (r : Record) → Shows t c → record_in r.grant c.records ≡ Some r → Shows (cleared t r.frame) (record c { records = without_record r.grant c.records })
+pub record_cleared : (t : Tables) (c : Content) (r : Record) → Shows t c → record_in r.grant c.records ≡ Some r
+    → Shows (cleared t r.frame) (record c { records = without_record r.grant c.records })
 record_cleared t c r shows there = record {
   host = shows.host;
   task = shows.task;
   next = shows.next;
   outcome = shows.outcome;
-  frames = λ m g at. frame_stays t r.frame g (λ same. stolen_apart t g r (shows.frames m g at) (shows.records r.grant r there) (sym same)) (shows.frames m g at);
+  frames = λ m g at. frame_stays t r.frame g
+      (λ same. stolen_apart t g r (shows.frames m g at) (shows.records r.grant r there) (sym same))
+      (shows.frames m g at);
   records = λ g x at. (
       let was = left name_of_record (name_of_grant g) (name_of_grant r.grant) x c.records at in
       record_stays t r.frame x (records_apart t c g r.grant x r shows was.1 there was.0) (shows.records g x was.1));
   unused = unused;
 }
   where
-    unused : (m : ℕ) → IsUnused (record c { records = without_record r.grant c.records }) m → ShowsNothing (cleared t r.frame) m
+    unused : (m : ℕ) → IsUnused (record c { records = without_record r.grant c.records }) m
+        → ShowsNothing (cleared t r.frame) m
     unused m u = by_number (same_or m r.frame)
       where
         by_number : (m ≡ r.frame) ⊎ (m ≢ r.frame) → ShowsNothing (cleared t r.frame) m

@@ -23,7 +23,13 @@ parent_shown t c host shows = record {
   outcome = shows.outcome;
   frames = λ n f at. (
       let shown = shows.frames n f at in
-      record { returns = shown.returns; place = shown.place; thread = shown.thread; slots = shown.slots; unstolen = shown.unstolen });
+      record {
+        returns = shown.returns;
+        place = shown.place;
+        thread = shown.thread;
+        slots = shown.slots;
+        unstolen = shown.unstolen;
+      });
   records = λ g r at. (
       let shown = shows.records g r at in
       record {
@@ -40,33 +46,42 @@ parent_shown t c host shows = record {
 pub thief_shown : (t : Tables) (c : Content) (g : Grant) (holder : ℕ) → Shows t c → Shows t (with_thief g holder c)
 thief_shown t c g holder shows = by_found (record_in g c.records) refl
   where
-    renamed_shown : (x : Record) → record_in x.grant c.records ≡ Some x → Shows t (record c { records = put_record (with_holder holder x) c.records })
+    renamed_shown : (x : Record) → record_in x.grant c.records ≡ Some x
+        → Shows t (record c { records = put_record (with_holder holder x) c.records })
     renamed_shown x there = record {
       host = shows.host;
       task = shows.task;
       next = shows.next;
       outcome = shows.outcome;
       frames = shows.frames;
-      records = λ h y at. by_name h y (put_or_there name_of_record (name_of_grant h) (with_holder holder x) y c.records at);
+      records = λ h y at. by_name h y (put_or_there name_of_record (name_of_grant h)
+          (with_holder holder x) y c.records at);
       unused = λ n u. shows.unused n (record { frame = u.frame; record_of = λ h y at same. old n u h y at same });
     }
       where
-        by_name : (h : Grant) (y : Record) → (((name_of_grant h ≡ name_of_grant x.grant) × (y ≡ with_holder holder x)) ⊎ ((name_of_grant h ≢ name_of_grant x.grant) × (record_in h c.records ≡ Some y))) → ShowsRecord t y
+        by_name : (h : Grant) (y : Record)
+            → (((name_of_grant h ≡ name_of_grant x.grant) × (y ≡ with_holder holder x))
+            ⊎ ((name_of_grant h ≢ name_of_grant x.grant) × (record_in h c.records ≡ Some y))) → ShowsRecord t y
         by_name h y (inl new) =
             let shown = shows.records x.grant x there in
             rw (new.1) (record { returns = shown.returns; holds = shown.holds; stolen = shown.stolen })
         by_name h y (inr was) = shows.records h y was.1
 
-        old : (n : ℕ) → IsUnused (record c { records = put_record (with_holder holder x) c.records }) n → (h : Grant) (y : Record) → record_in h c.records ≡ Some y → y.frame ≡ n → ⊥
+        old : (n : ℕ) → IsUnused (record c { records = put_record (with_holder holder x) c.records }) n
+            → (h : Grant) (y : Record) → record_in h c.records ≡ Some y → y.frame ≡ n → ⊥
         old n u h y at same = by_grant (same_or_other (name_of_grant h) (name_of_grant x.grant))
           where
             by_grant : (name_of_grant h ≡ name_of_grant x.grant) ⊎ (name_of_grant h ≢ name_of_grant x.grant) → ⊥
             by_grant (inl one) =
                 let found : record_in x.grant c.records ≡ Some y = rw one at at in
                 let is : y ≡ x = one_found found there in
-                u.record_of x.grant (with_holder holder x) (put_is_found name_of_record (with_holder holder x) c.records) (ap (λ (z : Record). z.frame) (sym is) ∙ same)
-            by_grant (inr apart) = u.record_of h y (put_stays name_of_record (name_of_grant h) (with_holder holder x) c.records apart ∙ at) same
+                u.record_of x.grant (with_holder holder x)
+                (put_is_found name_of_record (with_holder holder x) c.records)
+                (ap (λ (z : Record). z.frame) (sym is) ∙ same)
+            by_grant (inr apart) = u.record_of h y
+                (put_stays name_of_record (name_of_grant h) (with_holder holder x) c.records apart ∙ at) same
 
-    by_found : (o : Option Record) → record_in g c.records ≡ o → Shows t (record c { records = changed_of name_of_record (with_holder holder) c.records o })
+    by_found : (o : Option Record) → record_in g c.records ≡ o
+        → Shows t (record c { records = changed_of name_of_record (with_holder holder) c.records o })
     by_found None is = shows
     by_found (Some x) is = renamed_shown x (let own = own_grant g x c.records is in rw own at is)

@@ -8,5 +8,6 @@ use Rattle.table_laws.specs.Program.{program_meaning}
 use Rattle.table_laws.proofs.ProgramMeaning.{numbers_fit}
 
 -- its numbers fit their own slots
-pub first_fits : (p : Program) (input : List ℤ) (call : Call) → root p input ≡ Some call → FitsMeaning (program_meaning p input) [] call.thread (λ j. given call.numbers j)
+pub first_fits : (p : Program) (input : List ℤ) (call : Call) → root p input ≡ Some call
+    → FitsMeaning (program_meaning p input) [] call.thread (λ j. given call.numbers j)
 first_fits p input call is = record { thread = rw is refl; slots = λ j. rw is (numbers_fit call.numbers j) }

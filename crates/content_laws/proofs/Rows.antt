@@ -19,7 +19,8 @@ given_row (v ∷ numbers) zero = refl
 given_row (v ∷ numbers) (suc j) = given_row numbers j
 
 -- slots of which none is empty
-pub full_row : (slots : List (Option ℤ)) (numbers : List ℤ) (j : ℕ) → numbers_in slots ≡ Some numbers → slot_of (slice_get slots j) ≡ given numbers j
+pub full_row : (slots : List (Option ℤ)) (numbers : List ℤ) (j : ℕ) → numbers_in slots ≡ Some numbers
+    → slot_of (slice_get slots j) ≡ given numbers j
 full_row [] numbers j full = let none : [] ≡ numbers = cc in rw (← none) refl
 full_row (None ∷ slots) numbers j full = cc
 full_row (Some v ∷ slots) numbers zero full =
@@ -40,13 +41,15 @@ begun_row (Filled v ∷ slots) (suc j) = begun_row slots j
 begun_row (Awaits kid ∷ slots) (suc j) = begun_row slots j
 
 -- a slot that was empty and is filled, and the others
-pub filled_here : (slots : List (Option ℤ)) (j : ℕ) (v : ℤ) → IsTrue (is_vacant (slice_get slots j)) → slot_of (slice_get (slice_set slots j (Some v)) j) ≡ Full v
+pub filled_here : (slots : List (Option ℤ)) (j : ℕ) (v : ℤ) → IsTrue (is_vacant (slice_get slots j))
+    → slot_of (slice_get (slice_set slots j (Some v)) j) ≡ Full v
 filled_here [] j v empty = cc
 filled_here (x ∷ xs) zero v empty = refl
 filled_here (x ∷ xs) (suc j) v empty = filled_here xs j v empty
 
 -- the others stay
-pub filled_other : (slots : List (Option ℤ)) (i j : ℕ) (v : ℤ) → i ≢ j → slot_of (slice_get (slice_set slots j (Some v)) i) ≡ slot_of (slice_get slots i)
+pub filled_other : (slots : List (Option ℤ)) (i j : ℕ) (v : ℤ) → i ≢ j
+    → slot_of (slice_get (slice_set slots j (Some v)) i) ≡ slot_of (slice_get slots i)
 filled_other [] i j v other = refl
 filled_other (x ∷ xs) zero zero v other = absurd (other refl)
 filled_other (x ∷ xs) zero (suc j) v other = refl

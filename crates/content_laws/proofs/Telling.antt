@@ -39,7 +39,10 @@ pub settles_none : (t d : Tables) → Settles t d []
 settles_none t d = record { had = λ k none. absurd none; lost = λ k none. absurd none }
 
 -- what a change from c to e, of the same task for the same host, promises of records and Results
-pub alters_told : (g : Grant) (t d : Tables) (c e : Content) (gone : List Grant) → Shows t c → Shows d e → e.parent ≡ c.parent → e.task ≡ c.task → ((n : ℕ) (k : Grant) → d.granted n ≡ Some k → (t.granted n ≡ Some k) × SameWork t d n) → Settles t d gone → Alters g t d (told g e) gone
+pub alters_told : (g : Grant) (t d : Tables) (c e : Content) (gone : List Grant) → Shows t c → Shows d e
+    → e.parent ≡ c.parent → e.task ≡ c.task
+    → ((n : ℕ) (k : Grant) → d.granted n ≡ Some k → (t.granted n ≡ Some k) × SameWork t d n) → Settles t d gone
+    → Alters g t d (told g e) gone
 alters_told g t d c e gone before after parent task stay settles = record {
   host = after.host ∙ parent ∙ sym before.host;
   task = after.task ∙ ap task_of task ∙ sym before.task;
@@ -53,10 +56,15 @@ alters_told g t d c e gone before after parent task stay settles = record {
 }
 
 -- so it is a move, where it has a cause
-pub moved : (m : Meaning) (v : View) (i : ℕ) (g : Grant) (s : Sub) (c e : Content) (fill : Option Filling) (gone : List Grant) (d : Tables) → Live v i g s → Shows s.content c → Shows d e → e.parent ≡ c.parent → e.task ≡ c.task → Cause m v i g s.content d (fill_of g fill) → Settles s.content d gone → IsMove m v i g s e fill gone
+pub moved : (m : Meaning) (v : View) (i : ℕ) (g : Grant) (s : Sub) (c e : Content) (fill : Option Filling)
+    (gone : List Grant) (d : Tables) → Live v i g s → Shows s.content c → Shows d e → e.parent ≡ c.parent
+    → e.task ≡ c.task → Cause m v i g s.content d (fill_of g fill) → Settles s.content d gone
+    → IsMove m v i g s e fill gone
 moved m v i g s c e fill gone d live before after parent task cause settles = record {
   content = d;
   shown = after;
-  move = alters i g s d (fill_of g fill) (told g e) gone live (cause_changes m v i g s.content d (fill_of g fill) cause) (alters_told g s.content d c e gone before after parent task (λ n k at. cause_records m v i g s.content d (fill_of g fill) cause n k at) settles);
+  move = alters i g s d (fill_of g fill) (told g e) gone live (cause_changes m v i g s.content d (fill_of g fill) cause)
+      (alters_told g s.content d c e gone before after parent task
+      (λ n k at. cause_records m v i g s.content d (fill_of g fill) cause n k at) settles);
   right = cause;
 }

@@ -14,10 +14,12 @@ use Rattle.departure.proofs.LinkedCounts.{both}
 use Rattle.departure.proofs.LinkedOffers.{said}
 use Rattle.departure.proofs.LinkedSound.{finished_sound, linked_sound}
 
-pub accepted_sound : (own : ℕ) (subs : List SubOf) (o : Offer) → IsTrue (table.offer.fits o) → IsTrue (progress_fits own subs (offered o).content o.progress) → IsSound (offered o).content
+pub accepted_sound : (own : ℕ) (subs : List SubOf) (o : Offer) → IsTrue (table.offer.fits o)
+    → IsTrue (progress_fits own subs (offered o).content o.progress) → IsSound (offered o).content
 accepted_sound own subs o packet fits = by_progress o.progress refl fits
   where
-    by_progress : (p : Progress) → o.progress ≡ p → IsTrue (progress_fits own subs (offered o).content p) → IsSound (offered o).content
+    by_progress : (p : Progress) → o.progress ≡ p → IsTrue (progress_fits own subs (offered o).content p)
+        → IsSound (offered o).content
     by_progress Active is linked =
         let fields = said o packet in
         let parts = both (is_linked (offered o).content) (list_all (is_foreign own subs) o.records) linked in
@@ -26,13 +28,17 @@ accepted_sound own subs o packet fits = by_progress o.progress refl fits
         let nothing = (said o packet).finished outcome is in
         finished_sound (offered o).content outcome is nothing.frames nothing.records
 
-all_pass : {A : Type 0} (test : A → Bool) (xs : List A) → IsTrue (list_all test xs) → AllByRecursion (λ x. IsTrue (test x)) xs
+all_pass : {A : Type 0} (test : A → Bool) (xs : List A) → IsTrue (list_all test xs)
+    → AllByRecursion (λ x. IsTrue (test x)) xs
 all_pass test [] pass = tt
 all_pass test (x ∷ xs) pass = let parts = both (test x) (list_all test xs) pass in (parts.0, all_pass test xs parts.1)
 
-pub accepted_fits : (p : Program) (o : Offer) → IsTrue (task_fits p o.task && list_all (frame_fits p) o.frames && list_all (record_fits p) o.records) → Fits p (offered o).content
+pub accepted_fits : (p : Program) (o : Offer)
+    → IsTrue (task_fits p o.task && list_all (frame_fits p) o.frames && list_all (record_fits p) o.records)
+    → Fits p (offered o).content
 accepted_fits p o pass =
-    let parts = both (task_fits p o.task && list_all (frame_fits p) o.frames) (list_all (record_fits p) o.records) pass in
+    let parts = both (task_fits p o.task && list_all (frame_fits p) o.frames)
+    (list_all (record_fits p) o.records) pass in
     let task = both (task_fits p o.task) (list_all (frame_fits p) o.frames) parts.0 in
     record {
       task = task.0;

@@ -48,7 +48,8 @@ swap m n = elim (eqb_tells m n) [
 -- sums over what items become, and of terms that are equal
 sum_mapped : {A B : Type 0} (g : B → ℕ) (f : A → B) (xs : List A) → sum_by g (map f xs) ≡ sum_by (λ x. g (f x)) xs
 sum_mapped g f [] = refl
-sum_mapped g f (x ∷ xs) = sum_by-cons g (f x) (map f xs) ∙ ap (λ (k : ℕ). g (f x) + k) (sum_mapped g f xs) ∙ sym (sum_by-cons (λ y. g (f y)) x xs)
+sum_mapped g f (x ∷ xs) = sum_by-cons g (f x) (map f xs) ∙ ap (λ (k : ℕ). g (f x) + k) (sum_mapped g f xs)
+    ∙ sym (sum_by-cons (λ y. g (f y)) x xs)
 
 sum_alike : {A : Type 0} (g h : A → ℕ) → ((x : A) → g x ≡ h x) → (xs : List A) → sum_by g xs ≡ sum_by h xs
 sum_alike g h alike [] = refl
@@ -58,19 +59,28 @@ sum_alike g h alike (x ∷ xs) =
     omega (arith, sum_by-cons g x xs, sum_by-cons h x xs)
 
 -- how many frames and records have a number
-pub times_number : (n : ℕ) (c : Content) → times nat_eq n (numbers_of c) ≡ sum_by (is_numbered n) c.frames + sum_by (is_stolen n) c.records
+pub times_number : (n : ℕ) (c : Content)
+    → times nat_eq n (numbers_of c) ≡ sum_by (is_numbered n) c.frames + sum_by (is_stolen n) c.records
 times_number n c =
     let test = λ (m : ℕ). one_if (nat_eq n m) in
-    let frames = sum_mapped test (λ (f : Frame). f.number) c.frames ∙ sum_alike (λ (f : Frame). one_if (nat_eq n f.number)) (is_numbered n) (λ f. ap one_if (swap n f.number)) c.frames in
-    let records = sum_mapped test (λ (r : Record). r.frame) c.records ∙ sum_alike (λ (r : Record). one_if (nat_eq n r.frame)) (is_stolen n) (λ r. ap one_if (swap n r.frame)) c.records in
-    sum_by-append test (map (λ (f : Frame). f.number) c.frames) (map (λ (r : Record). r.frame) c.records) ∙ ap (λ (k : ℕ). k + sum_by test (map (λ (r : Record). r.frame) c.records)) frames ∙ ap (λ (k : ℕ). sum_by (is_numbered n) c.frames + k) records
+    let frames = sum_mapped test (λ (f : Frame). f.number) c.frames
+    ∙ sum_alike (λ (f : Frame). one_if (nat_eq n f.number)) (is_numbered n)
+    (λ f. ap one_if (swap n f.number)) c.frames in
+    let records = sum_mapped test (λ (r : Record). r.frame) c.records
+    ∙ sum_alike (λ (r : Record). one_if (nat_eq n r.frame)) (is_stolen n)
+    (λ r. ap one_if (swap n r.frame)) c.records in
+    sum_by-append test (map (λ (f : Frame). f.number) c.frames) (map (λ (r : Record). r.frame) c.records)
+    ∙ ap (λ (k : ℕ). k + sum_by test (map (λ (r : Record). r.frame) c.records)) frames
+    ∙ ap (λ (k : ℕ). sum_by (is_numbered n) c.frames + k) records
 
 -- how many of them owe a value
-pub times_owed : (r : Return) (c : Content) → times same_return r (owed_by c) ≡ sum_by (owes r) c.frames + sum_by (record_owes r) c.records
+pub times_owed : (r : Return) (c : Content)
+    → times same_return r (owed_by c) ≡ sum_by (owes r) c.frames + sum_by (record_owes r) c.records
 times_owed r c =
     let test = λ (s : Return). one_if (same_return r s) in
     sum_by-append test (map (λ (f : Frame). f.returns) c.frames) (map (λ (x : Record). x.returns) c.records)
-    ∙ ap (λ (k : ℕ). k + sum_by test (map (λ (x : Record). x.returns) c.records)) (sum_mapped test (λ (f : Frame). f.returns) c.frames)
+    ∙ ap (λ (k : ℕ). k + sum_by test (map (λ (x : Record). x.returns) c.records))
+    (sum_mapped test (λ (f : Frame). f.returns) c.frames)
     ∙ ap (λ (k : ℕ). sum_by (owes r) c.frames + k) (sum_mapped test (λ (x : Record). x.returns) c.records)
 
 -- empty slots don't await the value of the whole, nor one in front of them
@@ -94,7 +104,8 @@ and_true true = refl
 and_true false = refl
 
 -- they await a value where a slot is empty
-at_slot : (n k m j i : ℕ) (slots : List (Option ℤ)) → k ≡ j + i → times same_return (Local n k) (empty_from m j slots) ≡ one_if (nat_eq n m && is_vacant (slice_get slots i))
+at_slot : (n k m j i : ℕ) (slots : List (Option ℤ)) → k ≡ j + i
+    → times same_return (Local n k) (empty_from m j slots) ≡ one_if (nat_eq n m && is_vacant (slice_get slots i))
 at_slot n k m j i [] is = sym (and_false (nat_eq n m))
 at_slot n k m j zero (None ∷ slots) is =
     let rest = in_front n k m (j + 1) slots (omega arith) in
@@ -113,9 +124,11 @@ empty_of f = empty_from f.number 0 f.slots
 times_empty : (r : Return) (f : Frame) → times same_return r (empty_of f) ≡ awaits_at r f
 times_empty Whole f = whole_elsewhere f.number 0 f.slots
 times_empty (Local n j) f =
-    at_slot n j f.number 0 j f.slots (omega arith) ∙ ap (λ (b : Bool). one_if (b && is_vacant (slice_get f.slots j))) (swap n f.number)
+    at_slot n j f.number 0 j f.slots (omega arith)
+    ∙ ap (λ (b : Bool). one_if (b && is_vacant (slice_get f.slots j))) (swap n f.number)
 
-times_in_frames : (r : Return) (frames : List Frame) → times same_return r (flat_map empty_of frames) ≡ sum_by (awaits_at r) frames
+times_in_frames : (r : Return) (frames : List Frame)
+    → times same_return r (flat_map empty_of frames) ≡ sum_by (awaits_at r) frames
 times_in_frames r [] = refl
 times_in_frames r (f ∷ fs) =
     let test = λ (s : Return). one_if (same_return r s) in
@@ -127,7 +140,8 @@ whole_once : (r : Return) → one_if (same_return r Whole) ≡ is_whole r
 whole_once Whole = refl
 whole_once (Local n j) = refl
 
-pub times_awaited : (r : Return) (frames : List Frame) → times same_return r (awaited_in frames) ≡ is_whole r + sum_by (awaits_at r) frames
+pub times_awaited : (r : Return) (frames : List Frame)
+    → times same_return r (awaited_in frames) ≡ is_whole r + sum_by (awaits_at r) frames
 times_awaited r frames =
     let here = whole_once r in
     let rest = times_in_frames r frames in
@@ -141,26 +155,37 @@ length_empty m j (Some v ∷ slots) = length_empty m (j + 1) slots ∙ sym (miss
 
 length_awaited : (frames : List Frame) → length (awaited_in frames) ≡ suc (sum_by (λ f. missing_in f.slots) frames)
 length_awaited frames =
-    ap suc (length-flat_map empty_of frames ∙ sum_alike (λ (f : Frame). length (empty_of f)) (λ (f : Frame). missing_in f.slots) (λ f. length_empty f.number 0 f.slots) frames)
+    ap suc (length-flat_map empty_of frames
+    ∙ sum_alike (λ (f : Frame). length (empty_of f)) (λ (f : Frame). missing_in f.slots)
+    (λ f. length_empty f.number 0 f.slots) frames)
 
 length_owed : (c : Content) → length (owed_by c) ≡ length c.frames + length c.records
 length_owed c =
-    omega (arith, length-append (map (λ (f : Frame). f.returns) c.frames) (map (λ (x : Record). x.returns) c.records), length-map c.frames (λ (f : Frame). f.returns), length-map c.records (λ (x : Record). x.returns))
+    omega (
+      arith,
+      length-append (map (λ (f : Frame). f.returns) c.frames) (map (λ (x : Record). x.returns) c.records),
+      length-map c.frames (λ (f : Frame). f.returns),
+      length-map c.records (λ (x : Record). x.returns),
+    )
 
 -- a linked content has one debtor for each value
 debtors : (c : Content) → IsTrue (is_linked c) → HasDebtors c.frames c.records
 debtors c linked =
-    let parts = both (same_once nat_eq (numbers_of c) (numbers_of c)) (same_once same_return (awaited_in c.frames) (owed_by c)) linked in
+    let parts = both (same_once nat_eq (numbers_of c) (numbers_of c))
+    (same_once same_return (awaited_in c.frames) (owed_by c)) linked in
     let counts = counts_from same_return tells_return (awaited_in c.frames) (owed_by c) parts.1 in
     record {
       each = λ r. sym (times_owed r c) ∙ sym (counts.equal r) ∙ times_awaited r c.frames;
-      all = sym (length_owed c) ∙ sym (same_length same_return tells_return (awaited_in c.frames) (owed_by c) counts.equal) ∙ length_awaited c.frames;
+      all = sym (length_owed c) ∙ sym (same_length same_return tells_return (awaited_in c.frames)
+          (owed_by c) counts.equal) ∙ length_awaited c.frames;
     }
 
 -- a linked content of which the numbers are below the next one is sound
-pub linked_sound : (c : Content) → c.progress ≡ Active → AreBelow c.next c.frames → AllByRecursion (λ r. r.frame < c.next) c.records → IsTrue (is_linked c) → IsSound c
+pub linked_sound : (c : Content) → c.progress ≡ Active → AreBelow c.next c.frames
+    → AllByRecursion (λ r. r.frame < c.next) c.records → IsTrue (is_linked c) → IsSound c
 linked_sound c is below stolen_below linked =
-    let parts = both (same_once nat_eq (numbers_of c) (numbers_of c)) (same_once same_return (awaited_in c.frames) (owed_by c)) linked in
+    let parts = both (same_once nat_eq (numbers_of c) (numbers_of c))
+    (same_once same_return (awaited_in c.frames) (owed_by c)) linked in
     let counts = counts_from nat_eq tells_number (numbers_of c) (numbers_of c) parts.0 in
     record {
       below = below;

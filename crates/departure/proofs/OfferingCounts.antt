@@ -29,12 +29,18 @@ next_number k m = elim (cases_order k m) [
   | inr other ↦ elim other [ inl less ↦ one_more k m less | inr more ↦ not_below k m more ]
 ]
 
-counted_more : {X : Type 0} (number : X → ℕ) (m : ℕ) (xs : List X) → sum_by (below number (suc m)) xs ≡ sum_by (below number m) xs + sum_by (having number m) xs
+counted_more : {X : Type 0} (number : X → ℕ) (m : ℕ) (xs : List X)
+    → sum_by (below number (suc m)) xs ≡ sum_by (below number m) xs + sum_by (having number m) xs
 counted_more number m [] = refl
 counted_more number m (x ∷ xs) =
     let rest = counted_more number m xs in
     let here = next_number (number x) m in
-    omega (arith, sum_by-cons (below number (suc m)) x xs, sum_by-cons (below number m) x xs, sum_by-cons (having number m) x xs)
+    omega (
+      arith,
+      sum_by-cons (below number (suc m)) x xs,
+      sum_by-cons (below number m) x xs,
+      sum_by-cons (having number m) x xs,
+    )
 
 none_below : {X : Type 0} (number : X → ℕ) (xs : List X) → sum_by (below number 0) xs ≡ 0
 none_below number [] = refl
@@ -44,21 +50,24 @@ none_below number (x ∷ xs) =
     omega (arith, sum_by-cons (below number 0) x xs)
 
 -- each number once: below m there are at most m
-few_below : {X : Type 0} (number : X → ℕ) (xs : List X) → ((n : ℕ) → sum_by (having number n) xs ≤ 1) → (m : ℕ) → sum_by (below number m) xs ≤ m
+few_below : {X : Type 0} (number : X → ℕ) (xs : List X) → ((n : ℕ) → sum_by (having number n) xs ≤ 1) → (m : ℕ)
+    → sum_by (below number m) xs ≤ m
 few_below number xs once zero = omega (arith, none_below number xs)
 few_below number xs once (suc m) =
     let here = once m in
     let rest = few_below number xs once m in
     omega (arith, counted_more number m xs)
 
-all_below : {X : Type 0} (number : X → ℕ) (next : ℕ) (xs : List X) → AllByRecursion (λ x. number x < next) xs → sum_by (below number next) xs ≡ length xs
+all_below : {X : Type 0} (number : X → ℕ) (next : ℕ) (xs : List X) → AllByRecursion (λ x. number x < next) xs
+    → sum_by (below number next) xs ≡ length xs
 all_below number next [] under = refl
 all_below number next (x ∷ xs) under =
     let here : one_if (nat_lt (number x) next) ≡ 1 = rw (lt-ltb (number x) next under.0) refl in
     let rest = all_below number next xs under.1 in
     omega (arith, sum_by-cons (below number next) x xs)
 
-pub no_more_than : {X : Type 0} (number : X → ℕ) (next : ℕ) (xs : List X) → ((n : ℕ) → sum_by (having number n) xs ≤ 1) → AllByRecursion (λ x. number x < next) xs → length xs ≤ next
+pub no_more_than : {X : Type 0} (number : X → ℕ) (next : ℕ) (xs : List X) → ((n : ℕ) → sum_by (having number n) xs ≤ 1)
+    → AllByRecursion (λ x. number x < next) xs → length xs ≤ next
 no_more_than number next xs once under =
     let few = few_below number xs once next in
     let all = all_below number next xs under in

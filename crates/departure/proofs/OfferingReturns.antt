@@ -26,11 +26,14 @@ vacant_within (x ∷ xs) zero is = omega arith
 vacant_within (x ∷ xs) (suc j) is = let rest = vacant_within xs j is in omega arith
 
 -- a value that is awaited is awaited there
-awaited : (next n j : ℕ) (frames : List Frame) → AreBelow next frames → AllByRecursion HasFewSlots frames → 0 < sum_by (awaits_at (Local n j)) frames → GoesTo next (Local n j)
+awaited : (next n j : ℕ) (frames : List Frame) → AreBelow next frames → AllByRecursion HasFewSlots frames
+    → 0 < sum_by (awaits_at (Local n j)) frames → GoesTo next (Local n j)
 awaited next n j [] below few some = absurd (omega arith)
-awaited next n j (f ∷ fs) below few some = by_here (awaited next n j fs below.1 few.1) (nat_eq f.number n && is_vacant (slice_get f.slots j)) refl
+awaited next n j (f ∷ fs) below few some =
+    by_here (awaited next n j fs below.1 few.1) (nat_eq f.number n && is_vacant (slice_get f.slots j)) refl
   where
-    by_here : (0 < sum_by (awaits_at (Local n j)) fs → GoesTo next (Local n j)) → (b : Bool) → (nat_eq f.number n && is_vacant (slice_get f.slots j)) ≡ b → GoesTo next (Local n j)
+    by_here : (0 < sum_by (awaits_at (Local n j)) fs → GoesTo next (Local n j)) → (b : Bool)
+        → (nat_eq f.number n && is_vacant (slice_get f.slots j)) ≡ b → GoesTo next (Local n j)
     by_here rest true is =
         let both = and_parts (nat_eq f.number n) (is_vacant (slice_get f.slots j)) is in
         let same : f.number ≡ n = eqb-true f.number n both.0 in
@@ -43,25 +46,38 @@ awaited next n j (f ∷ fs) below few some = by_here (awaited next n j fs below.
         rest (omega (arith, sum_by-cons (awaits_at (Local n j)) f fs))
 
 -- what is owed is awaited
-owed : (next : ℕ) (frames : List Frame) (records : List Record) → HasDebtors frames records → AreBelow next frames → AllByRecursion HasFewSlots frames → (r : Return) → 0 < sum_by (owes r) frames + sum_by (record_owes r) records → GoesTo next r
+owed : (next : ℕ) (frames : List Frame) (records : List Record) → HasDebtors frames records → AreBelow next frames
+    → AllByRecursion HasFewSlots frames → (r : Return) → 0 < sum_by (owes r) frames + sum_by (record_owes r) records
+    → GoesTo next r
 owed next frames records debtors below few Whole some = tt
-owed next frames records debtors below few (Local n j) some = awaited next n j frames below few (let same = debtors.each (Local n j) in omega arith)
+owed next frames records debtors below few (Local n j) some =
+    awaited next n j frames below few (let same = debtors.each (Local n j) in omega arith)
 
 -- what holds of all that is owed holds where each frame's value goes, and each record's
-frames_owe : (P : Return → Type 0) (frames : List Frame) → ((r : Return) → 0 < sum_by (owes r) frames → P r) → AllByRecursion (λ f. P f.returns) frames
+frames_owe : (P : Return → Type 0) (frames : List Frame) → ((r : Return) → 0 < sum_by (owes r) frames → P r)
+    → AllByRecursion (λ f. P f.returns) frames
 frames_owe P [] each = tt
 frames_owe P (f ∷ fs) each =
-    let here : owes f.returns f ≡ 1 = rw (same_self f.returns) refl in
-    (each f.returns (omega (arith, sum_by-cons (owes f.returns) f fs)), frames_owe P fs (λ r some. each r (omega (arith, sum_by-cons (owes r) f fs))))
+    let here : owes f.returns f ≡ 1 = rw (same_self f.returns) refl in (
+      each f.returns (omega (arith, sum_by-cons (owes f.returns) f fs)),
+      frames_owe P fs (λ r some. each r (omega (arith, sum_by-cons (owes r) f fs))),
+    )
 
-records_owe : (P : Return → Type 0) (records : List Record) → ((r : Return) → 0 < sum_by (record_owes r) records → P r) → AllByRecursion (λ x. P x.returns) records
+records_owe : (P : Return → Type 0) (records : List Record) → ((r : Return) → 0 < sum_by (record_owes r) records → P r)
+    → AllByRecursion (λ x. P x.returns) records
 records_owe P [] each = tt
 records_owe P (x ∷ xs) each =
-    let here : record_owes x.returns x ≡ 1 = rw (same_self x.returns) refl in
-    (each x.returns (omega (arith, sum_by-cons (record_owes x.returns) x xs)), records_owe P xs (λ r some. each r (omega (arith, sum_by-cons (record_owes r) x xs))))
+    let here : record_owes x.returns x ≡ 1 = rw (same_self x.returns) refl in (
+      each x.returns (omega (arith, sum_by-cons (record_owes x.returns) x xs)),
+      records_owe P xs (λ r some. each r (omega (arith, sum_by-cons (record_owes r) x xs))),
+    )
 
-pub frames_go : (next : ℕ) (frames : List Frame) (records : List Record) → HasDebtors frames records → AreBelow next frames → AllByRecursion HasFewSlots frames → AllByRecursion (λ f. GoesTo next f.returns) frames
-frames_go next frames records debtors below few = frames_owe (GoesTo next) frames (λ r some. owed next frames records debtors below few r (omega arith))
+pub frames_go : (next : ℕ) (frames : List Frame) (records : List Record) → HasDebtors frames records
+    → AreBelow next frames → AllByRecursion HasFewSlots frames → AllByRecursion (λ f. GoesTo next f.returns) frames
+frames_go next frames records debtors below few =
+    frames_owe (GoesTo next) frames (λ r some. owed next frames records debtors below few r (omega arith))
 
-pub records_go : (next : ℕ) (frames : List Frame) (records : List Record) → HasDebtors frames records → AreBelow next frames → AllByRecursion HasFewSlots frames → AllByRecursion (λ x. GoesTo next x.returns) records
-records_go next frames records debtors below few = records_owe (GoesTo next) records (λ r some. owed next frames records debtors below few r (omega arith))
+pub records_go : (next : ℕ) (frames : List Frame) (records : List Record) → HasDebtors frames records
+    → AreBelow next frames → AllByRecursion HasFewSlots frames → AllByRecursion (λ x. GoesTo next x.returns) records
+records_go next frames records debtors below few =
+    records_owe (GoesTo next) records (λ r some. owed next frames records debtors below few r (omega arith))

@@ -105,7 +105,7 @@ impl<'o, 's, O: Write> Narrator<'o, 's, O> {
 }
 
 impl<'o, 's, O: Write> Watch for Narrator<'o, 's, O> {
-    fn sees(&mut self, alloc: Global, event: &Event, told: EventAnswer, world: &World<'_>) {
+    fn see(&mut self, alloc: Global, event: &Event, told: EventAnswer, world: &World<'_>) {
         if self.fault.is_none() {
             self.fault = self.tell(alloc, event, told, world).err();
         }

@@ -10,7 +10,8 @@ use Rattle.table_laws.proofs.RostersKept.{verdict}
 use Rattle.table_laws.proofs.RostersReached.{rosters_reached}
 use Rattle.move_laws.specs.Listed.{MarkedLost}
 
-pub marked_lost : (v : View) (i dead : ℕ) (r : Roster) → ReachedInTables v → Works (v.mode i) → (v.mode i ≡ House → ⊥) → v.roster i ≡ Some r → r.status dead ≡ Dead → MarkedLost v i dead
+pub marked_lost : (v : View) (i dead : ℕ) (r : Roster) → ReachedInTables v → Works (v.mode i) → (v.mode i ≡ House → ⊥)
+    → v.roster i ≡ Some r → r.status dead ≡ Dead → MarkedLost v i dead
 marked_lost v i dead r reached works worker keeps is = by_house v.house refl
   where
     listed : (dead ∈ v.used) × (v.mode dead ≡ House → ⊥)
@@ -19,10 +20,20 @@ marked_lost v i dead r reached works worker keeps is = by_house v.house refl
         (k.0, λ house. (let name = (homes_reached reached).house_name dead house in let other = k.1 in cc))
 
     lost_dead : ((house : Roster) → v.house ≡ Some house → Lost v house dead) → MarkedLost v i dead
-    lost_dead why = record { who = dead; act = marks_lost dead listed.0 listed.1 why; right = λ m. tt; told = inl (inl refl) }
+    lost_dead why = record {
+      who = dead;
+      act = marks_lost dead listed.0 listed.1 why;
+      right = λ m. tt;
+      told = inl (inl refl);
+    }
 
     lost_self : ((house : Roster) → v.house ≡ Some house → Lost v house i) → MarkedLost v i dead
-    lost_self why = record { who = i; act = marks_lost i ((names_reached reached).up_used i works) worker why; right = λ m. tt; told = inr (inl refl) }
+    lost_self why = record {
+      who = i;
+      act = marks_lost i ((names_reached reached).up_used i works) worker why;
+      right = λ m. tt;
+      told = inr (inl refl);
+    }
 
     by_house : (o : Option Roster) → v.house ≡ o → MarkedLost v i dead
     by_house None none = lost_dead (λ house here. cc)

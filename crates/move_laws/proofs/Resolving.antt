@@ -17,7 +17,8 @@ module _ (r : Roster) (members : List Member) (shows : ShowsMembers r members) w
   followed zero i h e = cc
   followed (suc n) i h e = by_status (followed n) (status_in i members) (shows.status i) e
     where
-      by_status : ((j k : ℕ) → follow n members j ≡ Some k → Resolves r j k) → (o : Option Status) → r.status i ≡ status_of o → bearer (follow n members) i o ≡ Some h → Resolves r i h
+      by_status : ((j k : ℕ) → follow n members j ≡ Some k → Resolves r j k) → (o : Option Status)
+          → r.status i ≡ status_of o → bearer (follow n members) i o ≡ Some h → Resolves r i h
       by_status ih None s e = let is : i ≡ h = cc in rw (← is) (stays i)
       by_status ih (Some member.Live) s e = let is : i ≡ h = cc in rw (← is) (stays i)
       by_status ih (Some member.Dead) s e = cc
@@ -38,9 +39,11 @@ module _ (r : Roster) (members : List Member) (shows : ShowsMembers r members) w
       by_status (Some (member.Left heir)) s e = cc
   unfollowed most i k (died _ _ s) le e = record { dead = i; way = stays i; is = s }
   unfollowed _ i zero (passes most _ heir s rest) le e = absurd (omega (arith, le))
-  unfollowed _ i (suc k) (passes most _ heir s rest) le e = by_status (unfollowed most heir k rest (omega (arith, le))) (status_in i members) (sym s ∙ shows.status i) e
+  unfollowed _ i (suc k) (passes most _ heir s rest) le e =
+      by_status (unfollowed most heir k rest (omega (arith, le))) (status_in i members) (sym s ∙ shows.status i) e
     where
-      by_status : (follow (suc k) members heir ≡ None → DeadEnd r heir) → (o : Option Status) → tables.Left heir ≡ status_of o → bearer (follow (suc k) members) i o ≡ None → DeadEnd r i
+      by_status : (follow (suc k) members heir ≡ None → DeadEnd r heir) → (o : Option Status)
+          → tables.Left heir ≡ status_of o → bearer (follow (suc k) members) i o ≡ None → DeadEnd r i
       by_status ih None t e = cc
       by_status ih (Some member.Live) t e = cc
       by_status ih (Some member.Dead) t e = cc
@@ -59,6 +62,7 @@ module _ (r : Roster) (members : List Member) (shows : ShowsMembers r members) w
       listed (Some member.Dead) s other u = cc
       listed (Some (member.Left x)) s other u = cc
 
-      by_status : (o : Option Status) → r.status i ≡ status_of o → bearer (follow (length members) members) i o ≡ None → DeadEnd r i
+      by_status : (o : Option Status) → r.status i ≡ status_of o → bearer (follow (length members) members) i o ≡ None
+          → DeadEnd r i
       by_status None s f = cc
       by_status (Some x) s f = unfollowed r.left i (length members) (all i (listed (Some x) s (λ z. cc))) shows.few e

@@ -41,7 +41,9 @@ went a s w o is = record {
   net = ap (λ (z : StepResult). z.world.net) is;
 }
 
-pub node_goes : (job : JobOf) (a : ℕ) (e : NodeEvent) (n : NodeOf) (s : StepOf) (w : WorldOf) → node_in a w.nodes ≡ Some n → ((choice : Option Candidate) → at_node job choice a e n w ≡ stepped a s w) → (o : StepResult) → CarriedOut job (AtNode a e) w o → NodeGoes a s w o.world
+pub node_goes : (job : JobOf) (a : ℕ) (e : NodeEvent) (n : NodeOf) (s : StepOf) (w : WorldOf)
+    → node_in a w.nodes ≡ Some n → ((choice : Option Candidate) → at_node job choice a e n w ≡ stepped a s w)
+    → (o : StepResult) → CarriedOut job (AtNode a e) w o → NodeGoes a s w o.world
 unfolding with_some
 node_goes job a e n s w up does o over =
     let first : comes job over.0 a e w ≡ at_node job over.0 a e n w = rw up refl in
@@ -53,7 +55,9 @@ pub record HouseGoes (s : house.HouseStepOf) (w u : WorldOf) : Type 0 where
   pub nodes : u.nodes ≡ w.nodes
   pub net : u.net ≡ w.net ++ s.sent
 
-pub house_goes : (job : JobOf) (i : ℕ) (p : PacketOf) (h : HouseOf) (s : house.HouseStepOf) (w : WorldOf) → slice_get w.net i ≡ Some p → open_house w.house ≡ Some h → house_cases.on_packet job p h ≡ house.Does s → (o : StepResult) → CarriedOut job (AtHouse (at_house.Deliver i)) w o → HouseGoes s w o.world
+pub house_goes : (job : JobOf) (i : ℕ) (p : PacketOf) (h : HouseOf) (s : house.HouseStepOf) (w : WorldOf)
+    → slice_get w.net i ≡ Some p → open_house w.house ≡ Some h → house_cases.on_packet job p h ≡ house.Does s
+    → (o : StepResult) → CarriedOut job (AtHouse (at_house.Deliver i)) w o → HouseGoes s w o.world
 house_goes job i p h s w sent open_now answer o over =
     let end : Ends job h (house.Does s) w o = by_house w.house open_now over in
     record {
@@ -62,11 +66,13 @@ house_goes job i p h s w sent open_now answer o over =
       net = ap (λ (z : StepResult). z.world.net) end.2;
     }
   where
-    by_house : (y : HouseAt) → open_house y ≡ Some h → HouseEnds job (at_house.Deliver i) y w o → Ends job h (house.Does s) w o
+    by_house : (y : HouseAt) → open_house y ≡ Some h → HouseEnds job (at_house.Deliver i) y w o
+        → Ends job h (house.Does s) w o
     by_house Down e ends = cc
     by_house (IsUp (Stopped why)) e ends = cc
     by_house (IsUp (Open k)) e ends =
         let one : k ≡ h = some_same e in
         let first : Ends job k (house_cases.on_packet job p k) w o = rw sent at ends in
-        let done : Ends job h (house_cases.on_packet job p h) w o = subst (λ (z : HouseOf). Ends job z (house_cases.on_packet job p z) w o) one first in
+        let done : Ends job h (house_cases.on_packet job p h) w o =
+        subst (λ (z : HouseOf). Ends job z (house_cases.on_packet job p z) w o) one first in
         subst (λ (z : house.HouseAnswer). Ends job h z w o) answer done

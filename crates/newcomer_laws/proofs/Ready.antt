@@ -30,13 +30,17 @@ use Rattle.run_laws.proofs.NextRoot.{root_freed}
 use Rattle.newcomer_laws.specs.Newcomers.{CanCome, IsReady}
 
 -- who isn't listed isn't where some are declared dead
-still_unlisted : (i limit now : ℕ) (ws : List Enlisted) → item_in name_of_enlisted (i, 0) ws ≡ None → item_in name_of_enlisted (i, 0) (map (moves.declared_dead limit now) ws) ≡ None
+still_unlisted : (i limit now : ℕ) (ws : List Enlisted) → item_in name_of_enlisted (i, 0) ws ≡ None
+    → item_in name_of_enlisted (i, 0) (map (moves.declared_dead limit now) ws) ≡ None
 still_unlisted i limit now [] none = refl
-still_unlisted i limit now (w ∷ ws) none = by_test (λ at. still_unlisted i limit now ws at) (has_key name_of_enlisted name_cmp (i, 0) w) none
+still_unlisted i limit now (w ∷ ws) none =
+    by_test (λ at. still_unlisted i limit now ws at) (has_key name_of_enlisted name_cmp (i, 0) w) none
   where
-    by_test : (item_in name_of_enlisted (i, 0) ws ≡ None → item_in name_of_enlisted (i, 0) (map (moves.declared_dead limit now) ws) ≡ None)
+    by_test : (item_in name_of_enlisted (i, 0) ws ≡ None
+        → item_in name_of_enlisted (i, 0) (map (moves.declared_dead limit now) ws) ≡ None)
         → (b : Bool) → cond b (Some w) (item_in name_of_enlisted (i, 0) ws) ≡ None
-        → cond b (Some (moves.declared_dead limit now w)) (item_in name_of_enlisted (i, 0) (map (moves.declared_dead limit now) ws)) ≡ None
+        → cond b (Some (moves.declared_dead limit now w))
+        (item_in name_of_enlisted (i, 0) (map (moves.declared_dead limit now) ws)) ≡ None
     by_test rest true at = cc
     by_test rest false at = rest at
 
@@ -50,15 +54,36 @@ record IsLeft (i : ℕ) (h k : HouseOf) : Type 0 where
   unlisted : item_in name_of_enlisted (i, 0) h.workers ≡ None → item_in name_of_enlisted (i, 0) k.workers ≡ None
 
 left_so : (i : ℕ) (h : HouseOf) → IsLeft i h h
-left_so i h = record { minted = refl; sequence = refl; outcome = refl; replies = refl; size = refl; unlisted = λ none. none }
+left_so i h = record {
+  minted = refl;
+  sequence = refl;
+  outcome = refl;
+  replies = refl;
+  size = refl;
+  unlisted = λ none. none;
+}
 
 module _ (job : JobOf) where
   settled_so : (i : ℕ) (h k : HouseOf) → IsLeft i h k → IsLeft i h (moves.settles job k).after
   settled_so i h k left = by_root k.root
     where
       by_bearer : (r : RootGrant) (o : Option ℕ) → IsLeft i h (moves.settles_to job r o k).after
-      by_bearer r None = record { minted = left.minted; sequence = left.sequence; outcome = left.outcome; replies = left.replies; size = left.size; unlisted = left.unlisted }
-      by_bearer r (Some holder) = record { minted = left.minted; sequence = left.sequence; outcome = left.outcome; replies = left.replies; size = left.size; unlisted = left.unlisted }
+      by_bearer r None = record {
+        minted = left.minted;
+        sequence = left.sequence;
+        outcome = left.outcome;
+        replies = left.replies;
+        size = left.size;
+        unlisted = left.unlisted;
+      }
+      by_bearer r (Some holder) = record {
+        minted = left.minted;
+        sequence = left.sequence;
+        outcome = left.outcome;
+        replies = left.replies;
+        size = left.size;
+        unlisted = left.unlisted;
+      }
 
       by_root : (o : Option RootGrant) → IsLeft i h (moves.settles_root job o k).after
       by_root None = left
@@ -74,12 +99,27 @@ module _ (job : JobOf) where
       after = moves.with_workers (map (moves.declared_dead h.limit now) h.workers) new
 
       changed : IsLeft i h after
-      changed = record { minted = refl; sequence = refl; outcome = refl; replies = refl; size = length-map h.workers (moves.declared_dead h.limit now); unlisted = still_unlisted i h.limit now h.workers }
+      changed = record {
+        minted = refl;
+        sequence = refl;
+        outcome = refl;
+        replies = refl;
+        size = length-map h.workers (moves.declared_dead h.limit now);
+        unlisted = still_unlisted i h.limit now h.workers;
+      }
 
       same : IsLeft i h new
-      same = record { minted = refl; sequence = refl; outcome = refl; replies = refl; size = refl; unlisted = λ none. none }
+      same = record {
+        minted = refl;
+        sequence = refl;
+        outcome = refl;
+        replies = refl;
+        size = refl;
+        unlisted = λ none. none;
+      }
 
-      by_test : (b : Bool) → IsLeft i h (cond b (moves.settles job after) (record { after = new; commits = None; sent = [] })).after
+      by_test : (b : Bool) → IsLeft i h (cond b (moves.settles job after)
+          (record { after = new; commits = None; sent = [] })).after
       by_test true = settled_so i h after changed
       by_test false = same
 
@@ -87,12 +127,16 @@ module _ (job : JobOf) where
   unfolding passes
   passed_so i now h later = rw (lt-ltb h.moment now later) (dead_so i now h)
 
-  pub moment_readies : (w : WorldOf) (h : HouseOf) (a word now : ℕ) (root : RootGrant) → WorldStands w → open_house w.house ≡ Some h → h.root ≡ Some root → IsSilent h root.holder now → h.moment < now → h.outcome ≡ None → h.minted + 1 < 2 ^ 64 → h.sequence + 1 < 2 ^ 64 → CanCome w h a word → (o : StepResult) → CarriedOut job (AtHouse (at_house.Tick now)) w o → IsReady o.world a word
+  pub moment_readies : (w : WorldOf) (h : HouseOf) (a word now : ℕ) (root : RootGrant) → WorldStands w
+      → open_house w.house ≡ Some h → h.root ≡ Some root → IsSilent h root.holder now → h.moment < now
+      → h.outcome ≡ None → h.minted + 1 < 2 ^ 64 → h.sequence + 1 < 2 ^ 64 → CanCome w h a word → (o : StepResult)
+      → CarriedOut job (AtHouse (at_house.Tick now)) w o → IsReady o.world a word
   moment_readies w h a word now root stands open_now out silent later none grant commit comes o over =
       let k : HouseOf = (passes job now h).after in
       let end = moment_does job w now h open_now o over in
       let there : open_house o.world.house ≡ Some k = ap (λ (z : StepResult). open_house z.world.house) end.2 in
-      let free : IsRootFree h.outcome o.world = root_freed job w stands.root h root now open_now out silent later o over in
+      let free : IsRootFree h.outcome o.world =
+      root_freed job w stands.root h root now open_now out silent later o over in
       let one : free.house ≡ k = some_same (sym free.open_now ∙ there) in
       let left : IsLeft word h k = passed_so word now h later in
       record {
@@ -113,7 +157,9 @@ module _ (job : JobOf) where
       }
 
   -- an opening
-  newly_open : (w : WorldOf) (a word : ℕ) (way : Opens job w.disk) (h : HouseOf) (o : StepResult) → o ≡ opened_by way w → open_house o.world.house ≡ Some h → h.outcome ≡ None → h.sequence + 1 < 2 ^ 64 → can_start a word w ≡ true → IsReady o.world a word
+  newly_open : (w : WorldOf) (a word : ℕ) (way : Opens job w.disk) (h : HouseOf) (o : StepResult) → o ≡ opened_by way w
+      → open_house o.world.house ≡ Some h → h.outcome ≡ None → h.sequence + 1 < 2 ^ 64 → can_start a word w ≡ true
+      → IsReady o.world a word
   newly_open w a word way h o is open_then none commit can =
       let new : HouseOf = opened silence (begun_of way.way) in
       let one : h ≡ new = some_same (sym open_then ∙ ap (λ (z : StepResult). open_house z.world.house) is) in
@@ -136,16 +182,20 @@ module _ (job : JobOf) where
         };
       }
 
-  pub opening_readies : (w : WorldOf) (h : HouseOf) (a word : ℕ) → open_house w.house ≡ None → can_start a word w ≡ true → (o : StepResult) → CarriedOut job (AtHouse at_house.Restart) w o → open_house o.world.house ≡ Some h → h.outcome ≡ None → h.sequence + 1 < 2 ^ 64 → IsReady o.world a word
+  pub opening_readies : (w : WorldOf) (h : HouseOf) (a word : ℕ) → open_house w.house ≡ None → can_start a word w ≡ true
+      → (o : StepResult) → CarriedOut job (AtHouse at_house.Restart) w o → open_house o.world.house ≡ Some h
+      → h.outcome ≡ None → h.sequence + 1 < 2 ^ 64 → IsReady o.world a word
   opening_readies w h a word closed can o over open_then none commit = by_house w.house refl closed over
     where
       restarted : Restarts job w o → IsReady o.world a word
       restarted ends = ⊎_elim
           (λ opens. newly_open w a word opens.0 h o opens.1 open_then none commit can)
-          (λ refused. let none_open : None ≡ Some h = sym (ap (λ (z : StepResult). open_house z.world.house) refused.2 ∙ closed) ∙ open_then in cc)
+          (λ refused. let none_open : None ≡ Some h =
+          sym (ap (λ (z : StepResult). open_house z.world.house) refused.2 ∙ closed) ∙ open_then in cc)
           ends
 
-      by_house : (y : HouseAt) → w.house ≡ y → open_house y ≡ None → HouseEnds job at_house.Restart y w o → IsReady o.world a word
+      by_house : (y : HouseAt) → w.house ≡ y → open_house y ≡ None → HouseEnds job at_house.Restart y w o
+          → IsReady o.world a word
       by_house Down same e ends = restarted ends
       by_house (IsUp (Stopped why)) same e ends = restarted ends
       by_house (IsUp (Open k)) same e ends = cc

@@ -39,11 +39,13 @@ chosen_stands q (p ∷ ps) first none = by_rest (chosen_stands q ps) (shallowest
     behind : times_posted q ps ≡ 0
     behind = omega (arith, sum_by-cons (is_same_post q) p ps)
 
-    by_test : (r : Post) (b : Bool) → (shallowest ps ≡ Some q → times_posted q ps ≡ 0 → ⊥) → shallowest ps ≡ Some r → cond b (Some p) (Some r) ≡ Some q → ⊥
+    by_test : (r : Post) (b : Bool) → (shallowest ps ≡ Some q → times_posted q ps ≡ 0 → ⊥) → shallowest ps ≡ Some r
+        → cond b (Some p) (Some r) ≡ Some q → ⊥
     by_test r true rest is at = here cc
     by_test r false rest is at = rest (is ∙ at) behind
 
-    by_rest : (shallowest ps ≡ Some q → times_posted q ps ≡ 0 → ⊥) → (o : Option Post) → shallowest ps ≡ o → newest_of goes_above p o ≡ Some q → ⊥
+    by_rest : (shallowest ps ≡ Some q → times_posted q ps ≡ 0 → ⊥) → (o : Option Post) → shallowest ps ≡ o
+        → newest_of goes_above p o ≡ Some q → ⊥
     by_rest rest None is at = here cc
     by_rest rest (Some r) is at = by_test r (goes_above p r) rest is at
 
@@ -57,11 +59,13 @@ not_zero : (b : Bool) → b ≡ true → one_if b ≡ 0 → ⊥
 not_zero true is zero = cc
 not_zero false is zero = cc
 
-unready_by : (g : Grant) (f : ℕ) (o : Option ReadyFrame) → ((p : Post) → p.grant ≡ g → p.frame ≡ f → is_post_at p o ≡ 0) → o ≡ None
+unready_by : (g : Grant) (f : ℕ) (o : Option ReadyFrame) → ((p : Post) → p.grant ≡ g → p.frame ≡ f → is_post_at p o ≡ 0)
+    → o ≡ None
 unready_by g f None none = refl
 unready_by g f (Some r) none =
     let level = level_of r.ready.frame.place in
-    absurd (not_zero (nat_eq level level) (eq-eqb level level refl) (none (record { level = level; grant = g; frame = f }) refl refl))
+    absurd (not_zero (nat_eq level level) (eq-eqb level level refl)
+    (none (record { level = level; grant = g; frame = f }) refl refl))
 
 pub own_may_be_chosen : (n : NodeOf) (posts : List Post) → ArePosts n posts → IsCandidate n (own_candidate posts)
 own_may_be_chosen n posts are = by_post (shallowest posts) refl
@@ -70,5 +74,6 @@ own_may_be_chosen n posts are = by_post (shallowest posts) refl
     unposted none p = sym (are.each p) ∙ ap (times_posted p) (none_posted posts none)
 
     by_post : (o : Option Post) → shallowest posts ≡ o → IsCandidate n (candidate_of o)
-    by_post None is = λ g f. unready_by g f (ready_at n g f) (λ p grant frame. rw grant at (rw frame at (unposted is p)))
+    by_post None is = λ g f. unready_by g f (ready_at n g f)
+        (λ p grant frame. rw grant at (rw frame at (unposted is p)))
     by_post (Some p) is = ready_by p (ready_at n p.grant p.frame) (λ zero. chosen_stands p posts is (are.each p ∙ zero))

@@ -60,10 +60,12 @@ none_above n next frames below above = by_frame (frame_in n frames) refl
         absurd (omega arith)
 
 -- a word that is no worker's is not shown live
-pub live_by : (word : ℕ) (members : List Listed) → item_in name_of_member (word, 0) members ≡ None → is_live word members ≡ false
+pub live_by : (word : ℕ) (members : List Listed) → item_in name_of_member (word, 0) members ≡ None
+    → is_live word members ≡ false
 live_by word members none = ap (λ (o : Option Listed). says_live (o >>= λ m. Some m.status)) none
 
-pub no_worker : (word : ℕ) (m : Listed) (members : List Listed) → item_in name_of_member (word, 0) members ≡ Some m → is_worker word ≡ false → IsTrue (is_worker m.incarnation) → ⊥
+pub no_worker : (word : ℕ) (m : Listed) (members : List Listed) → item_in name_of_member (word, 0) members ≡ Some m
+    → is_worker word ≡ false → IsTrue (is_worker m.incarnation) → ⊥
 no_worker word m members there other worker =
     let same : word ≡ m.incarnation = ap (λ k. k.0) (found_name name_of_member (word, 0) m members there) in
     let is : is_worker word ≡ true = rw same worker in
@@ -75,9 +77,12 @@ abbrev pub unnamed : State → NodeError
 unnamed st = by_state st error.NotJoined (λ _. error.Stale) (λ _ _. error.Stale) error.NotJoined
 
 abbrev pub heirless : State → Bool → NodeError
-heirless st pending = by_state st error.NotJoined (λ _. cond pending error.Pending error.NoHeir) (λ _ _. error.Busy) error.NotJoined
+heirless st pending = by_state st error.NotJoined (λ _. cond pending error.Pending error.NoHeir)
+    (λ _ _. error.Busy) error.NotJoined
 
-stale_by : (st : State) (member : Roster → Answer) (leaving : Roster → ℕ → Answer) → ((r : Roster) → member r ≡ Refused error.Stale) → ((r : Roster) (heir : ℕ) → leaving r heir ≡ Refused error.Stale) → by_state st (Refused error.NotJoined) member leaving (Refused error.NotJoined) ≡ Refused (unnamed st)
+stale_by : (st : State) (member : Roster → Answer) (leaving : Roster → ℕ → Answer)
+    → ((r : Roster) → member r ≡ Refused error.Stale) → ((r : Roster) (heir : ℕ) → leaving r heir ≡ Refused error.Stale)
+    → by_state st (Refused error.NotJoined) member leaving (Refused error.NotJoined) ≡ Refused (unnamed st)
 unfolding by_state
 stale_by Joining member leaving a b = refl
 stale_by (Member r) member leaving a b = a r
@@ -93,9 +98,11 @@ none_held g f subs none = by_sub (sub_in g subs) refl
   where
     by_sub : (o : Option SubOf) → sub_in g subs ≡ o → ready_of_sub f o ≡ None
     by_sub None is = refl
-    by_sub (Some s) is = ap (λ (o : Option Frame). (o >>= ready) >>= λ r. Some (record { sub = s; ready = r })) (none s is)
+    by_sub (Some s) is = ap (λ (o : Option Frame). (o >>= ready) >>= λ r. Some (record { sub = s; ready = r }))
+        (none s is)
 
-none_live : (g : Grant) (f : ℕ) (subs : List SubOf) (st : State) → HasNoFrame g f subs → ready_of_sub f (sub_in g (by_state st [] (λ r. subs) (λ r heir. []) [])) ≡ None
+none_live : (g : Grant) (f : ℕ) (subs : List SubOf) (st : State) → HasNoFrame g f subs
+    → ready_of_sub f (sub_in g (by_state st [] (λ r. subs) (λ r heir. []) [])) ≡ None
 unfolding by_state
 none_live g f subs Joining none = refl
 none_live g f subs (Member r) none = none_held g f subs none
@@ -106,11 +113,15 @@ none_there : {A C : Type 0} (a : Option A) (none : C) (some : A → C) → a ≡
 unfolding by_option
 none_there a none some is = rw is refl
 
-pub ready_unnamed : (job : JobOf) (g : Grant) (f : ℕ) (n : NodeOf) → HasNoFrame g f n.subs → calls.exec_ready job g f n ≡ Refused (unnamed n.state)
-ready_unnamed job g f n none = stale_by n.state _ _ (λ r. none_there (ready_at n g f) (Refused error.Stale) _ (none_live g f n.subs n.state none)) (λ r heir. refl)
+pub ready_unnamed : (job : JobOf) (g : Grant) (f : ℕ) (n : NodeOf) → HasNoFrame g f n.subs
+    → calls.exec_ready job g f n ≡ Refused (unnamed n.state)
+ready_unnamed job g f n none = stale_by n.state _ _
+    (λ r. none_there (ready_at n g f) (Refused error.Stale) _ (none_live g f n.subs n.state none)) (λ r heir. refl)
 
-pub whole_unnamed : (job : JobOf) (most : ℕ) (g : Grant) (f : ℕ) (n : NodeOf) → HasNoFrame g f n.subs → calls.whole_ready job most g f n ≡ Refused (unnamed n.state)
-whole_unnamed job most g f n none = stale_by n.state _ _ (λ r. none_there (ready_at n g f) (Refused error.Stale) _ (none_live g f n.subs n.state none)) (λ r heir. refl)
+pub whole_unnamed : (job : JobOf) (most : ℕ) (g : Grant) (f : ℕ) (n : NodeOf) → HasNoFrame g f n.subs
+    → calls.whole_ready job most g f n ≡ Refused (unnamed n.state)
+whole_unnamed job most g f n none = stale_by n.state _ _
+    (λ r. none_there (ready_at n g f) (Refused error.Stale) _ (none_live g f n.subs n.state none)) (λ r heir. refl)
 
 -- a victim, or an heir, that no roster shows live
 not_asked : (b live : Bool) → live ≡ false → (b && live) ≡ false
@@ -121,37 +132,52 @@ lacking : (b live : Bool) → live ≡ false → (b || not live) ≡ true
 lacking true live is = refl
 lacking false live is = rw is refl
 
-pub ask_unshown : (job : JobOf) (word : ℕ) (n : NodeOf) → ((r : Roster) → n.state ≡ Member r → is_live word r.members ≡ false) → ((r : Roster) (heir : ℕ) → n.state ≡ Leaving r heir → is_live word r.members ≡ false) → calls.ask job (Worker word) n ≡ Refused error.NotJoined
+pub ask_unshown : (job : JobOf) (word : ℕ) (n : NodeOf)
+    → ((r : Roster) → n.state ≡ Member r → is_live word r.members ≡ false)
+    → ((r : Roster) (heir : ℕ) → n.state ≡ Leaving r heir → is_live word r.members ≡ false)
+    → calls.ask job (Worker word) n ≡ Refused error.NotJoined
 unfolding calls.ask by_state
 ask_unshown job word n member leaving = by_states n.state refl
   where
     may_not : (r : Roster) → is_live word r.members ≡ false → calls.may_ask r n (Worker word) ≡ false
     may_not r unshown = not_asked (not (nat_eq word n.incarnation)) (is_live word r.members) unshown
 
-    by_states : (st : State) → n.state ≡ st → by_state st (Refused error.NotJoined) (calls.member_ask job (Worker word) n) (calls.leaving_ask job (Worker word) n) (Refused error.NotJoined) ≡ Refused error.NotJoined
+    by_states : (st : State) → n.state ≡ st
+        → by_state st (Refused error.NotJoined) (calls.member_ask job (Worker word) n)
+        (calls.leaving_ask job (Worker word) n) (Refused error.NotJoined) ≡ Refused error.NotJoined
     by_states Joining is = refl
     by_states (Member r) is = rw (may_not r (member r is)) refl
     by_states (Leaving r heir) is = rw (may_not r (leaving r heir is)) refl
     by_states Ended is = refl
 
-pub depart_unshown : (job : JobOf) (word : ℕ) (n : NodeOf) → ((r : Roster) → n.state ≡ Member r → is_live word r.members ≡ false) → calls.depart job word n ≡ Refused (heirless n.state (is_some n.asker.pending))
+pub depart_unshown : (job : JobOf) (word : ℕ) (n : NodeOf)
+    → ((r : Roster) → n.state ≡ Member r → is_live word r.members ≡ false)
+    → calls.depart job word n ≡ Refused (heirless n.state (is_some n.asker.pending))
 unfolding calls.depart by_state
 depart_unshown job word n member = by_states n.state refl
   where
-    no_heir : (r : Roster) (pending : Bool) → is_live word r.members ≡ false → refusal (move_to job word n) pending r.members n.subs ≡ Some (cond pending freeze.Pending freeze.NoHeir)
+    no_heir : (r : Roster) (pending : Bool) → is_live word r.members ≡ false
+        → refusal (move_to job word n) pending r.members n.subs ≡ Some (cond pending freeze.Pending freeze.NoHeir)
     no_heir r true unshown = refl
     no_heir r false unshown =
-        let lacks : lacks_heir (move_to job word n) r.members ≡ true = lacking (nat_eq word n.incarnation) (is_live word r.members) unshown in
+        let lacks : lacks_heir (move_to job word n) r.members ≡ true =
+        lacking (nat_eq word n.incarnation) (is_live word r.members) unshown in
         rw lacks refl
 
-    at_member : (r : Roster) (pending : Bool) → is_live word r.members ≡ false → calls.frozen job (refusal (move_to job word n) pending r.members n.subs) (calls.departs job r word n) ≡ Refused (cond pending error.Pending error.NoHeir)
-    at_member r pending unshown = ap (λ (o : Option FreezeError). calls.frozen job o (calls.departs job r word n)) (no_heir r pending unshown) ∙ by_pending pending
+    at_member : (r : Roster) (pending : Bool) → is_live word r.members ≡ false
+        → calls.frozen job (refusal (move_to job word n) pending r.members n.subs) (calls.departs job r word n)
+        ≡ Refused (cond pending error.Pending error.NoHeir)
+    at_member r pending unshown = ap (λ (o : Option FreezeError). calls.frozen job o (calls.departs job r word n))
+        (no_heir r pending unshown) ∙ by_pending pending
       where
-        by_pending : (b : Bool) → calls.frozen job (Some (cond b freeze.Pending freeze.NoHeir)) (calls.departs job r word n) ≡ Refused (cond b error.Pending error.NoHeir)
+        by_pending : (b : Bool) → calls.frozen job (Some (cond b freeze.Pending freeze.NoHeir))
+            (calls.departs job r word n) ≡ Refused (cond b error.Pending error.NoHeir)
         by_pending true = refl
         by_pending false = refl
 
-    by_states : (st : State) → n.state ≡ st → by_state st (Refused error.NotJoined) (calls.member_depart job word n) (λ r _. Refused error.Busy) (Refused error.NotJoined) ≡ Refused (heirless st (is_some n.asker.pending))
+    by_states : (st : State) → n.state ≡ st
+        → by_state st (Refused error.NotJoined) (calls.member_depart job word n) (λ r _. Refused error.Busy)
+        (Refused error.NotJoined) ≡ Refused (heirless st (is_some n.asker.pending))
     by_states Joining is = refl
     by_states (Member r) is = at_member r (is_some n.asker.pending) (member r is)
     by_states (Leaving r heir) is = refl

@@ -28,7 +28,8 @@ job_of p = record { program = fib p; input = pos 2 ∷ []; number = 1 }
 
 module _ (job : JobOf) where
   abbrev pub answer : Call → List Post → NodeOf → Answer
-  answer (Comes b) posts n = on_packet job (own_candidate posts) (record { job = job.number; to = n.incarnation; body = b }) n
+  answer (Comes b) posts n = on_packet job (own_candidate posts)
+      (record { job = job.number; to = n.incarnation; body = b }) n
   answer (Asks v) posts n = ask job v n
   answer (Runs g f) posts n = exec_ready job g f n
   answer (Departs heir) posts n = depart job heir n

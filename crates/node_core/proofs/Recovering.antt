@@ -26,21 +26,37 @@ own n = record { minter = 3; number = n }
 
 -- a record under an own grant, of frame n
 abbrev stolen : ℕ → ℕ → ℕ → Record
-stolen g holder n = record { grant = own g; holder = holder; frame = n; task = record { place = 1 ∷ []; thread = 0; numbers = pos 0 ∷ [] }; returns = Whole }
+stolen g holder n = record {
+  grant = own g;
+  holder = holder;
+  frame = n;
+  task = record { place = 1 ∷ []; thread = 0; numbers = pos 0 ∷ [] };
+  returns = Whole;
+}
 
 abbrev sub : Grant → ℕ → List Record → SubOf
 sub g host records = record {
   grant = g;
   hop = 0;
   saved = [];
-  content = record { parent = host; progress = Active; task = record { place = []; thread = 0; numbers = [] }; next = 9; frames = []; records = records };
+  content = record {
+    parent = host;
+    progress = Active;
+    task = record { place = []; thread = 0; numbers = [] };
+    next = 9;
+    frames = [];
+    records = records;
+  };
 }
 
 abbrev roster : ℕ → Status → Status → Status → Roster
 roster version of_11 of_12 of_14 = record {
   epoch = 1;
   version = version;
-  members = record { incarnation = 3; status = Live } ∷ record { incarnation = 11; status = of_11 } ∷ record { incarnation = 12; status = of_12 } ∷
+  members = record { incarnation = 3; status = Live } ∷ record {
+    incarnation = 11;
+    status = of_11;
+  } ∷ record { incarnation = 12; status = of_12 } ∷
       record { incarnation = 13; status = Live } ∷ record { incarnation = 14; status = of_14 } ∷ [];
 }
 
@@ -78,7 +94,8 @@ unfolding step on_body follow by_state by_option by_status by_order for_some rec
 again p = refl
 
 -- what 12 held, 13 holds
-holders : (p : Pointer) → map (λ (s : SubOf). map (λ (r : Record). r.holder) s.content.records) (step p).after.subs ≡ [] ∷ (13 ∷ []) ∷ []
+holders : (p : Pointer) → map (λ (s : SubOf). map (λ (r : Record). r.holder) s.content.records) (step p).after.subs
+    ≡ [] ∷ (13 ∷ []) ∷ []
 unfolding step on_body follow by_state by_option by_status by_order for_some recovering.for_some
 holders p = refl
 

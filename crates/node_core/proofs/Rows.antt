@@ -35,10 +35,19 @@ abbrev listed : Body
 listed = body.Roster (record { epoch = 1; version = 2; members = record { incarnation = 3; status = Live } ∷ [] })
 
 abbrev both_listed : Body
-both_listed = body.Roster (record { epoch = 1; version = 3; members = record { incarnation = 3; status = Live } ∷ record { incarnation = 5; status = Live } ∷ [] })
+both_listed = body.Roster (record {
+  epoch = 1;
+  version = 3;
+  members = record { incarnation = 3; status = Live } ∷ record { incarnation = 5; status = Live } ∷ [];
+})
 
 abbrev root_granted : Body
-root_granted = body.Grant (record { seq = 1; grant = root; task = record { place = []; thread = 0; numbers = pos 2 ∷ [] }; saved = [] })
+root_granted = body.Grant (record {
+  seq = 1;
+  grant = root;
+  task = record { place = []; thread = 0; numbers = pos 2 ∷ [] };
+  saved = [];
+})
 
 -- worker 3 joins, gets the root, and runs it alone: the second kid first
 abbrev alone : List Call
@@ -62,12 +71,15 @@ unfolding run_alone by_state by_option by_status by_order for_some on_body on_pa
 fills_alone p = refl
 
 -- the clearinghouse's Grant comes again: ignored
-again : (p : Pointer) → answer_after (job_of p) (Comes listed ∷ Asks House ∷ Comes root_granted ∷ []) (Comes root_granted) [] (starting 3) ≡ Ignored
+again : (p : Pointer) → answer_after (job_of p) (Comes listed ∷ Asks House ∷ Comes root_granted ∷ [])
+    (Comes root_granted) [] (starting 3) ≡ Ignored
 unfolding on_body on_packet by_state by_option by_status by_order for_some ask exec depart resend follow
 again p = refl
 
 -- a frame is carried out twice: E40
-twice : (p : Pointer) → answer_after (job_of p) (Comes listed ∷ Asks House ∷ Comes root_granted ∷ Runs root 0 ∷ Runs root 3 ∷ []) (Runs root 3) [] (starting 3) ≡ Refused error.Stale
+twice : (p : Pointer) → answer_after (job_of p)
+    (Comes listed ∷ Asks House ∷ Comes root_granted ∷ Runs root 0 ∷ Runs root 3 ∷ []) (Runs root 3) [] (starting 3)
+    ≡ Refused error.Stale
 unfolding on_body on_packet by_state by_option by_status by_order for_some ask exec depart resend follow
 twice p = refl
 
@@ -75,7 +87,8 @@ twice p = refl
 -- of frame 3, and one record
 abbrev asked_twice : List Call
 asked_twice =
-    Comes both_listed ∷ Asks House ∷ Comes root_granted ∷ Runs root 0 ∷ Comes (body.Steal (record { from = 5; seq = 1 })) ∷
+    Comes both_listed ∷ Asks House ∷ Comes root_granted ∷ Runs root 0 ∷ Comes
+    (body.Steal (record { from = 5; seq = 1 })) ∷
     Comes (body.Steal (record { from = 5; seq = 1 })) ∷ []
 
 run_asked_twice : Pointer → StepOf
@@ -92,11 +105,13 @@ kid_granted =
     }))
 
 sent_asked_twice : (p : Pointer) → (run_asked_twice p).sent ≡
-    to (2 ^ 63) (body.Join (record { from = 3 })) ∷ to house (body.Steal (record { from = 3; seq = 1 })) ∷ kid_granted ∷ kid_granted ∷ []
+    to (2 ^ 63) (body.Join (record { from = 3 })) ∷ to house (body.Steal
+    (record { from = 3; seq = 1 })) ∷ kid_granted ∷ kid_granted ∷ []
 unfolding run_asked_twice by_state by_option by_status by_order for_some on_body on_packet ask exec depart resend follow
 sent_asked_twice p = refl
 
-one_record : (p : Pointer) → map (λ (s : SubOf). map (λ (r : Record). r.frame) s.content.records) (run_asked_twice p).after.subs ≡ (3 ∷ []) ∷ []
+one_record : (p : Pointer) → map (λ (s : SubOf). map (λ (r : Record). r.frame) s.content.records)
+    (run_asked_twice p).after.subs ≡ (3 ∷ []) ∷ []
 unfolding run_asked_twice by_state by_option by_status by_order for_some on_body on_packet ask exec depart resend follow
 one_record p = refl
 
@@ -106,7 +121,8 @@ returned = body.Result (record { from = 5; grant = record { minter = 3; number =
 
 run_stolen : Pointer → StepOf
 unfolding on_body on_packet by_state by_option by_status by_order for_some ask exec depart resend follow
-run_stolen p = play (job_of p) (asked_twice ++ Comes returned ∷ Comes returned ∷ Runs root 2 ∷ Runs root 1 ∷ []) [] (start (job_of p) 3)
+run_stolen p = play (job_of p) (asked_twice ++ Comes returned ∷ Comes returned ∷ Runs root 2 ∷ Runs root 1 ∷ []) []
+    (start (job_of p) 3)
 
 fills_stolen : (p : Pointer) → (run_stolen p).fills ≡
     record { grant = root; frame = 1; slot = 1; place = 0 ∷ []; value = pos 0 } ∷
@@ -118,7 +134,9 @@ abbrev acknowledged : PacketOf
 acknowledged = to 5 (body.ResultAck (record { grant = record { minter = 3; number = 1 } }))
 
 sent_stolen : (p : Pointer) → (run_stolen p).sent ≡
-    to (2 ^ 63) (body.Join (record { from = 3 })) ∷ to house (body.Steal (record { from = 3; seq = 1 })) ∷ kid_granted ∷ kid_granted ∷
-    acknowledged ∷ to house (body.Save (record { from = 3; place = 2 ∷ []; value = pos 0 })) ∷ acknowledged ∷ to house (body.Result (record { from = 3; grant = root; outcome = Value (pos 1) })) ∷ []
+    to (2 ^ 63) (body.Join (record { from = 3 })) ∷ to house (body.Steal
+    (record { from = 3; seq = 1 })) ∷ kid_granted ∷ kid_granted ∷
+    acknowledged ∷ to house (body.Save (record { from = 3; place = 2 ∷ []; value = pos 0 })) ∷ acknowledged ∷ to
+    house (body.Result (record { from = 3; grant = root; outcome = Value (pos 1) })) ∷ []
 unfolding run_stolen by_state by_option by_status by_order for_some on_body on_packet ask exec depart resend follow
 sent_stolen p = refl

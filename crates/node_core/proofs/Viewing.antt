@@ -23,7 +23,8 @@ module _ (n : NodeOf) (posts : List Post) (i : ℕ) where
   at_none : slice_get (by_depth posts) i ≡ None → work_at n posts i ≡ None
   at_none is = rw is refl
 
-  at_post : (p : Post) → slice_get (by_depth posts) i ≡ Some p → work_at n posts i ≡ work_in_sub p (sub_in p.grant (live_subs n))
+  at_post : (p : Post) → slice_get (by_depth posts) i ≡ Some p
+      → work_at n posts i ≡ work_in_sub p (sub_in p.grant (live_subs n))
   at_post p is = rw is refl
 
   -- where nothing is held that isn't frozen
@@ -34,31 +35,37 @@ module _ (n : NodeOf) (posts : List Post) (i : ℕ) where
       by_post None is = at_none is
       by_post (Some p) is = at_post p is ∙ ap (λ subs. work_in_sub p (sub_in p.grant subs)) none
 
-  held : (p : Post) (o : Option SubOf) → IsMember n.state → slice_get (by_depth posts) i ≡ Some p → sub_in p.grant n.subs ≡ o → work_at n posts i ≡ work_in_sub p o
+  held : (p : Post) (o : Option SubOf) → IsMember n.state → slice_get (by_depth posts) i ≡ Some p
+      → sub_in p.grant n.subs ≡ o → work_at n posts i ≡ work_in_sub p o
   held p o member is there =
       at_post p is
       ∙ ap (λ subs. work_in_sub p (sub_in p.grant subs)) (member_holds n member)
       ∙ ap (work_in_sub p) there
 
-  pub not_held : (p : Post) → IsMember n.state → slice_get (by_depth posts) i ≡ Some p → sub_in p.grant n.subs ≡ None → work_at n posts i ≡ None
+  pub not_held : (p : Post) → IsMember n.state → slice_get (by_depth posts) i ≡ Some p → sub_in p.grant n.subs ≡ None
+      → work_at n posts i ≡ None
   not_held p member is there = held p None member is there
 
-  pub held_by : (p : Post) (s : SubOf) → IsMember n.state → slice_get (by_depth posts) i ≡ Some p → sub_in p.grant n.subs ≡ Some s → work_at n posts i ≡ work_in p.grant p.frame s.content
+  pub held_by : (p : Post) (s : SubOf) → IsMember n.state → slice_get (by_depth posts) i ≡ Some p
+      → sub_in p.grant n.subs ≡ Some s → work_at n posts i ≡ work_in p.grant p.frame s.content
   held_by p s member is there = held p (Some s) member is there ∙ by_ready (ready_in p.frame s.content) refl
     where
-      by_ready : (o : Option Ready) → ready_in p.frame s.content ≡ o → work_in_sub p (Some s) ≡ work_in p.grant p.frame s.content
+      by_ready : (o : Option Ready) → ready_in p.frame s.content ≡ o
+          → work_in_sub p (Some s) ≡ work_in p.grant p.frame s.content
       by_ready None ready = rw ready refl
       by_ready (Some r) ready = rw ready refl
 
 -- nothing is live at a node that is no member
-live_by : (st : State) (subs : List SubOf) → ((r : Roster) → st ≡ Member r → ⊥) → by_state st [] (λ r. subs) (λ r heir. []) [] ≡ []
+live_by : (st : State) (subs : List SubOf) → ((r : Roster) → st ≡ Member r → ⊥)
+    → by_state st [] (λ r. subs) (λ r heir. []) [] ≡ []
 unfolding by_state
 live_by Joining subs other = refl
 live_by (Member r) subs other = absurd (other r refl)
 live_by (Leaving r heir) subs other = refl
 live_by Ended subs other = refl
 
-pub nothing_outside : (n : NodeOf) (posts : List Post) (i : ℕ) → ((r : Roster) → n.state ≡ Member r → ⊥) → work_at n posts i ≡ None
+pub nothing_outside : (n : NodeOf) (posts : List Post) (i : ℕ) → ((r : Roster) → n.state ≡ Member r → ⊥)
+    → work_at n posts i ≡ None
 nothing_outside n posts i other = nothing_live n posts i (live_by n.state n.subs other)
 
 pub is_member : (st : State) (r : Roster) → st ≡ Member r → IsMember st

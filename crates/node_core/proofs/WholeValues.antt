@@ -24,16 +24,19 @@ with_numbers y ns = Some (record { frame = y; numbers = ns })
 abbrev in_sub : SubOf → Ready → Option ReadyFrame
 in_sub s r = Some (record { sub = s; ready = r })
 
-pub ready_there : (subs : List SubOf) (g : Grant) (f : ℕ) (x : ReadyFrame) → ready_of_sub f (sub_in g subs) ≡ Some x → ReadyThere subs g f x
+pub ready_there : (subs : List SubOf) (g : Grant) (f : ℕ) (x : ReadyFrame) → ready_of_sub f (sub_in g subs) ≡ Some x
+    → ReadyThere subs g f x
 ready_there subs g f x is = by_sub (sub_in g subs) refl is
   where
-    by_numbers : (s : SubOf) (y : Frame) (o : Option (List ℤ)) → sub_in g subs ≡ Some s → frame_in f s.content.frames ≡ Some y → ((o >>= with_numbers y) >>= in_sub s) ≡ Some x → ReadyThere subs g f x
+    by_numbers : (s : SubOf) (y : Frame) (o : Option (List ℤ)) → sub_in g subs ≡ Some s
+        → frame_in f s.content.frames ≡ Some y → ((o >>= with_numbers y) >>= in_sub s) ≡ Some x → ReadyThere subs g f x
     by_numbers s y None at there e = cc
     by_numbers s y (Some ns) at there e =
         let same : record { sub = s; ready = record { frame = y; numbers = ns } } ≡ x = cc in
         rw (← same) (record { sub = at; frame = there })
 
-    by_frame : (s : SubOf) (o : Option Frame) → sub_in g subs ≡ Some s → frame_in f s.content.frames ≡ o → ((o >>= ready) >>= in_sub s) ≡ Some x → ReadyThere subs g f x
+    by_frame : (s : SubOf) (o : Option Frame) → sub_in g subs ≡ Some s → frame_in f s.content.frames ≡ o
+        → ((o >>= ready) >>= in_sub s) ≡ Some x → ReadyThere subs g f x
     by_frame s None at there e = cc
     by_frame s (Some y) at there e = by_numbers s y (numbers_in y.slots) at there e
 

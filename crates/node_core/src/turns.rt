@@ -24,7 +24,7 @@ impl<'a> Node<'a> {
     /// E62 where no frame numbers are left; E63 where there is no memory. A refusal changes
     /// nothing.
     #[tactic(auto, unfolding(crate::specs::Calls::exec, crate::specs::Cases::by_option, node_state::specs::Node::by_state))]
-    pub(crate) fn ends(
+    pub(crate) fn carry_out(
         &mut self,
         alloc: Global,
         grant: GrantId,
@@ -72,7 +72,7 @@ impl<'a> Node<'a> {
             (calls.exec self.old.job done.now grant frame self.old.node) }
     {
         law_turn_is_few(done);
-        self.ends(
+        self.carry_out(
             alloc,
             grant,
             frame,

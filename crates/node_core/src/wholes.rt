@@ -66,7 +66,7 @@ impl<'a> Node<'a> {
             work.numbers,
             most_turns,
         ) {
-            Ok(whole) => self.sends_whole(alloc, grant, frame, &whole),
+            Ok(whole) => self.send_whole(alloc, grant, frame, &whole),
             Err((_, Unfinished::Memory)) => Err(NodeError::Memory),
             Err((_, Unfinished::TooDeep | Unfinished::TurnsSpent)) => Err(NodeError::NoValue),
         }
@@ -93,7 +93,7 @@ impl<'a> Node<'a> {
             (calls.whole_ready self.old.job most_turns grant frame self.old.node) }
     {
         if self.is_own_whole(grant, frame, most_turns, whole) {
-            self.sends_whole(alloc, grant, frame, whole)
+            self.send_whole(alloc, grant, frame, whole)
         } else {
             self.whole_ready(alloc, flat, grant, frame, most_turns)
         }
@@ -106,7 +106,7 @@ impl<'a> Node<'a> {
     }
 
     /// Carries out a ready frame of that thread with these numbers by what its task gives.
-    fn sends_whole(
+    fn send_whole(
         &mut self,
         alloc: Global,
         grant: GrantId,
@@ -121,7 +121,7 @@ impl<'a> Node<'a> {
             grant frame self.old.node) }
     {
         self.whole_turns = whole.turns();
-        self.ends(
+        self.carry_out(
             alloc,
             grant,
             frame,

@@ -42,11 +42,13 @@ abbrev pub IsListedIn : Option SubOf → Type 0
 IsListedIn None = Unit {0}
 IsListedIn (Some s) = IsListed s.content
 
-at_stands : (p : Post) (s : SubOf) (o : Option Ready) → ready_in p.frame s.content ≡ o → is_post_at p (ready_of_sub p.frame (Some s)) ≡ stands (readied_of p) o
+at_stands : (p : Post) (s : SubOf) (o : Option Ready) → ready_in p.frame s.content ≡ o
+    → is_post_at p (ready_of_sub p.frame (Some s)) ≡ stands (readied_of p) o
 at_stands p s None is = rw is refl
 at_stands p s (Some x) is = rw is refl
 
-pub at_times : (p : Post) (o : Option SubOf) → IsListedIn o → is_post_at p (ready_of_sub p.frame o) ≡ times_in (readied_of p) o
+pub at_times : (p : Post) (o : Option SubOf) → IsListedIn o
+    → is_post_at p (ready_of_sub p.frame o) ≡ times_in (readied_of p) o
 at_times p None listed = refl
 at_times p (Some s) listed = at_stands p s (ready_in p.frame s.content) refl ∙ sym (listed (readied_of p))
 
@@ -59,7 +61,9 @@ is_ready_there f s = by_ready (ready_in f s.content) refl
     by_ready (Some x) is = rw is refl
 
 -- how often a post stands after a step
-pub counted : (m : NodeOf) (became : List ReadiedOf) (posts : List Post) (p : Post) → times_posted p (posts_after m became posts) ≡ cond (is_some (ready_at m p.grant p.frame)) (count_ready p became + times_posted p posts) 0
+pub counted : (m : NodeOf) (became : List ReadiedOf) (posts : List Post) (p : Post)
+    → times_posted p (posts_after m became posts)
+    ≡ cond (is_some (ready_at m p.grant p.frame)) (count_ready p became + times_posted p posts) 0
 counted m became posts p =
     count_kept p (λ g f. is_some (ready_at m g f)) (posted_all became posts)
     ∙ ap (λ k. cond (is_some (ready_at m p.grant p.frame)) k 0) (count_all_posted p became posts)
@@ -76,74 +80,98 @@ no_sub p n = refl
 pub record Comes (n m : NodeOf) (s : SubOf) (before : Option SubOf) (told : List Readied) : Type 0 where
   pub subs : live_subs m ≡ put_sub s (live_subs n)
   pub was : sub_in s.grant (live_subs n) ≡ before
-  pub ready : (r : Readied) → times_listed r (readied_in s.content.frames) ≡ cond (is_some (ready_in r.frame s.content)) (times_listed r told + times_in r before) 0
+  pub ready : (r : Readied) → times_listed r (readied_in s.content.frames)
+      ≡ cond (is_some (ready_in r.frame s.content)) (times_listed r told + times_in r before) 0
   pub listed : IsListed s.content
   pub listed_before : IsListedIn before
 
-pub after_coming : (n m : NodeOf) (s : SubOf) (before : Option SubOf) (told : List Readied) (posts : List Post) → Comes n m s before told → ArePosts n posts → ArePosts m (posts_after m (ready_of s.grant told) posts)
+pub after_coming : (n m : NodeOf) (s : SubOf) (before : Option SubOf) (told : List Readied) (posts : List Post)
+    → Comes n m s before told → ArePosts n posts → ArePosts m (posts_after m (ready_of s.grant told) posts)
 after_coming n m s before told posts comes are = record { each = λ p. by_grant p (same_grant p.grant s.grant) refl }
   where
     there : sub_in s.grant (live_subs m) ≡ Some s
     there = ap (sub_in s.grant) comes.subs ∙ put_is_found name_of_sub s (live_subs n)
 
-    same : (p : Post) → p.grant ≡ s.grant → times_posted p (posts_after m (ready_of s.grant told) posts) ≡ is_post_at p (ready_at m p.grant p.frame)
+    same : (p : Post) → p.grant ≡ s.grant
+        → times_posted p (posts_after m (ready_of s.grant told) posts) ≡ is_post_at p (ready_at m p.grant p.frame)
     same p is =
         let now : sub_in p.grant (live_subs m) ≡ Some s = ap (λ g. sub_in g (live_subs m)) is ∙ there in
         let old : sub_in p.grant (live_subs n) ≡ before = ap (λ g. sub_in g (live_subs n)) is ∙ comes.was in
-        let listed_told : count_ready p (ready_of s.grant told) ≡ times_listed (readied_of p) told = ap (λ g. count_ready p (ready_of g told)) (sym is) ∙ count_told p told in
-        let posted : times_posted p posts ≡ times_in (readied_of p) before = are.each p ∙ ap (λ o. is_post_at p (ready_of_sub p.frame o)) old ∙ at_times p before comes.listed_before in
-        let sum : count_ready p (ready_of s.grant told) + times_posted p posts ≡ times_listed (readied_of p) told + times_in (readied_of p) before = omega arith in
+        let listed_told : count_ready p (ready_of s.grant told) ≡ times_listed (readied_of p) told =
+        ap (λ g. count_ready p (ready_of g told)) (sym is) ∙ count_told p told in
+        let posted : times_posted p posts ≡ times_in (readied_of p) before =
+        are.each p ∙ ap (λ o. is_post_at p (ready_of_sub p.frame o)) old ∙ at_times p before comes.listed_before in
+        let sum : count_ready p (ready_of s.grant told) + times_posted p posts
+        ≡ times_listed (readied_of p) told + times_in (readied_of p) before = omega arith in
         counted m (ready_of s.grant told) posts p
         ∙ ap (λ k. cond (is_some (ready_at m p.grant p.frame)) k 0) sum
-        ∙ ap (λ o. cond (is_some (ready_of_sub p.frame o)) (times_listed (readied_of p) told + times_in (readied_of p) before) 0) now
-        ∙ ap (λ b. cond b (times_listed (readied_of p) told + times_in (readied_of p) before) 0) (is_ready_there p.frame s)
+        ∙ ap (λ o. cond (is_some (ready_of_sub p.frame o))
+        (times_listed (readied_of p) told + times_in (readied_of p) before) 0) now
+        ∙ ap (λ b. cond b (times_listed (readied_of p) told + times_in (readied_of p) before) 0)
+        (is_ready_there p.frame s)
         ∙ sym (comes.ready (readied_of p))
         ∙ sym (at_times p (Some s) comes.listed)
         ∙ sym (ap (λ o. is_post_at p (ready_of_sub p.frame o)) now)
 
-    other : (p : Post) → (p.grant ≡ s.grant → ⊥) → times_posted p (posts_after m (ready_of s.grant told) posts) ≡ is_post_at p (ready_at m p.grant p.frame)
+    other : (p : Post) → (p.grant ≡ s.grant → ⊥)
+        → times_posted p (posts_after m (ready_of s.grant told) posts) ≡ is_post_at p (ready_at m p.grant p.frame)
     other p apart =
-        let now : sub_in p.grant (live_subs m) ≡ sub_in p.grant (live_subs n) = ap (sub_in p.grant) comes.subs ∙ put_other name_of_sub (name_of_grant p.grant) s (live_subs n) (λ is. apart (same_names p.grant s.grant is)) in
+        let now : sub_in p.grant (live_subs m) ≡ sub_in p.grant (live_subs n) =
+        ap (sub_in p.grant) comes.subs ∙ put_other name_of_sub (name_of_grant p.grant) s (live_subs n)
+        (λ is. apart (same_names p.grant s.grant is)) in
         let none = count_other p s.grant told apart in
-        let sum : count_ready p (ready_of s.grant told) + times_posted p posts ≡ 0 + is_post_at p (ready_at n p.grant p.frame) = let here = are.each p in omega arith in
+        let sum : count_ready p (ready_of s.grant told) + times_posted p posts
+        ≡ 0 + is_post_at p (ready_at n p.grant p.frame) = let here = are.each p in omega arith in
         counted m (ready_of s.grant told) posts p
         ∙ ap (λ k. cond (is_some (ready_at m p.grant p.frame)) k 0) sum
         ∙ ap (λ o. cond (is_some (ready_of_sub p.frame o)) (0 + is_post_at p (ready_at n p.grant p.frame)) 0) now
         ∙ as_before p (ready_at n p.grant p.frame)
         ∙ sym (ap (λ o. is_post_at p (ready_of_sub p.frame o)) now)
 
-    by_grant : (p : Post) (b : Bool) → same_grant p.grant s.grant ≡ b → times_posted p (posts_after m (ready_of s.grant told) posts) ≡ is_post_at p (ready_at m p.grant p.frame)
+    by_grant : (p : Post) (b : Bool) → same_grant p.grant s.grant ≡ b
+        → times_posted p (posts_after m (ready_of s.grant told) posts) ≡ is_post_at p (ready_at m p.grant p.frame)
     by_grant p true is = same p (same_name p.grant s.grant is)
     by_grant p false is = other p (λ at. differs p.grant s.grant is at)
 
 -- a subcomputation goes
-pub after_going : (n m : NodeOf) (g : Grant) (posts : List Post) → live_subs m ≡ without_sub g (live_subs n) → ArePosts n posts → ArePosts m (posts_after m [] posts)
+pub after_going : (n m : NodeOf) (g : Grant) (posts : List Post) → live_subs m ≡ without_sub g (live_subs n)
+    → ArePosts n posts → ArePosts m (posts_after m [] posts)
 after_going n m g posts subs are = record { each = λ p. by_grant p (same_grant p.grant g) refl }
   where
-    same : (p : Post) → p.grant ≡ g → times_posted p (posts_after m [] posts) ≡ is_post_at p (ready_at m p.grant p.frame)
+    same : (p : Post) → p.grant ≡ g → times_posted p (posts_after m [] posts)
+        ≡ is_post_at p (ready_at m p.grant p.frame)
     same p is =
-        let now : sub_in p.grant (live_subs m) ≡ None = ap (λ k. sub_in k (live_subs m)) is ∙ ap (sub_in g) subs ∙ without_itself name_of_sub (name_of_grant g) (live_subs n) in
+        let now : sub_in p.grant (live_subs m) ≡ None =
+        ap (λ k. sub_in k (live_subs m)) is ∙ ap (sub_in g) subs
+        ∙ without_itself name_of_sub (name_of_grant g) (live_subs n) in
         counted m [] posts p
         ∙ ap (λ o. cond (is_some (ready_of_sub p.frame o)) (count_ready p [] + times_posted p posts) 0) now
         ∙ sym (ap (λ o. is_post_at p (ready_of_sub p.frame o)) now)
 
-    other : (p : Post) → (p.grant ≡ g → ⊥) → times_posted p (posts_after m [] posts) ≡ is_post_at p (ready_at m p.grant p.frame)
+    other : (p : Post) → (p.grant ≡ g → ⊥)
+        → times_posted p (posts_after m [] posts) ≡ is_post_at p (ready_at m p.grant p.frame)
     other p apart =
-        let now : sub_in p.grant (live_subs m) ≡ sub_in p.grant (live_subs n) = ap (sub_in p.grant) subs ∙ without_other name_of_sub (name_of_grant p.grant) (name_of_grant g) (live_subs n) (λ is. apart (same_names p.grant g is)) in
-        let sum : count_ready p [] + times_posted p posts ≡ 0 + is_post_at p (ready_at n p.grant p.frame) = let here = are.each p in omega arith in
+        let now : sub_in p.grant (live_subs m) ≡ sub_in p.grant (live_subs n) =
+        ap (sub_in p.grant) subs ∙ without_other name_of_sub (name_of_grant p.grant) (name_of_grant g) (live_subs n)
+        (λ is. apart (same_names p.grant g is)) in
+        let sum : count_ready p [] + times_posted p posts ≡ 0 + is_post_at p (ready_at n p.grant p.frame) = let here =
+        are.each p in omega arith in
         counted m [] posts p
         ∙ ap (λ k. cond (is_some (ready_at m p.grant p.frame)) k 0) sum
         ∙ ap (λ o. cond (is_some (ready_of_sub p.frame o)) (0 + is_post_at p (ready_at n p.grant p.frame)) 0) now
         ∙ as_before p (ready_at n p.grant p.frame)
         ∙ sym (ap (λ o. is_post_at p (ready_of_sub p.frame o)) now)
 
-    by_grant : (p : Post) (b : Bool) → same_grant p.grant g ≡ b → times_posted p (posts_after m [] posts) ≡ is_post_at p (ready_at m p.grant p.frame)
+    by_grant : (p : Post) (b : Bool) → same_grant p.grant g ≡ b
+        → times_posted p (posts_after m [] posts) ≡ is_post_at p (ready_at m p.grant p.frame)
     by_grant p true is = same p (same_name p.grant g is)
     by_grant p false is = other p (λ at. differs p.grant g is at)
 
 -- nothing is held, or is frozen
 pub with_nothing : (m : NodeOf) → live_subs m ≡ [] → ArePosts m []
-with_nothing m none = record { each = λ p. sym (ap (λ subs. is_post_at p (ready_of_sub p.frame (sub_in p.grant subs))) none) }
+with_nothing m none = record {
+  each = λ p. sym (ap (λ subs. is_post_at p (ready_of_sub p.frame (sub_in p.grant subs))) none);
+}
 
 -- posts that are those of ready frames all stay
 pub same_post : (q : Post) → is_same_post q q ≡ 1
@@ -152,11 +180,14 @@ same_post q = rw (itself q.grant) (rw (eq-eqb q.frame q.frame refl) (rw (eq-eqb 
     itself : (g : Grant) → same_grant g g ≡ true
     itself g = grant_itself g
 
-pub all_stay : (test : Post → Bool) (posts : List Post) → ((p : Post) → (times_posted p posts ≡ 0 → ⊥) → test p ≡ true) → filter test posts ≡ posts
+pub all_stay : (test : Post → Bool) (posts : List Post) → ((p : Post) → (times_posted p posts ≡ 0 → ⊥) → test p ≡ true)
+    → filter test posts ≡ posts
 all_stay test [] h = refl
 all_stay test (q ∷ qs) h =
-    let here : test q ≡ true = h q (λ none. let one = same_post q in let sum = sum_by-cons (is_same_post q) q qs in omega arith) in
-    let rest = all_stay test qs (λ p some. h p (λ none. some (let sum = sum_by-cons (is_same_post p) q qs in omega arith))) in
+    let here : test q ≡ true = h q (λ none. let one = same_post q in let sum =
+    sum_by-cons (is_same_post q) q qs in omega arith) in
+    let rest = all_stay test qs (λ p some.
+    h p (λ none. some (let sum = sum_by-cons (is_same_post p) q qs in omega arith))) in
     ap (λ b. cond b (q ∷ filter test qs) (filter test qs)) here ∙ ap (λ xs. q ∷ xs) rest
 
 pub is_there : (p : Post) (o : Option ReadyFrame) → (is_post_at p o ≡ 0 → ⊥) → is_some o ≡ true
@@ -164,11 +195,14 @@ is_there p None some = absurd (some refl)
 is_there p (Some f) some = refl
 
 pub none_goes : (m : NodeOf) (posts : List Post) → ArePosts m posts → posts_after m [] posts ≡ posts
-none_goes m posts are = all_stay (is_ready_post m) posts (λ p some. is_there p (ready_at m p.grant p.frame) (λ none. some (are.each p ∙ none)))
+none_goes m posts are = all_stay (is_ready_post m) posts
+    (λ p some. is_there p (ready_at m p.grant p.frame) (λ none. some (are.each p ∙ none)))
 
 -- the same subcomputations
 pub with_the_same : (n m : NodeOf) (posts : List Post) → live_subs m ≡ live_subs n → ArePosts n posts → ArePosts m posts
-with_the_same n m posts same are = record { each = λ p. are.each p ∙ sym (ap (λ subs. is_post_at p (ready_of_sub p.frame (sub_in p.grant subs))) same) }
+with_the_same n m posts same are = record {
+  each = λ p. are.each p ∙ sym (ap (λ subs. is_post_at p (ready_of_sub p.frame (sub_in p.grant subs))) same);
+}
 
 -- what isn't frozen at a member is all that it holds
 live_by : (st : State) (subs : List SubOf) → IsMember st → by_state st [] (λ r. subs) (λ r heir. []) [] ≡ subs

@@ -44,14 +44,17 @@ joined_may (Leaving r heir) subs is = tt
 joined_may Ended subs is = absurd is
 
 -- where a subcomputation goes from, it goes from what isn't frozen, or all is
-goes_by : (st : State) (g : Grant) (subs : List SubOf) → by_state st [] (λ r. without_sub g subs) (λ r heir. []) [] ≡ without_sub g (by_state st [] (λ r. subs) (λ r heir. []) [])
+goes_by : (st : State) (g : Grant) (subs : List SubOf)
+    → by_state st [] (λ r. without_sub g subs) (λ r heir. []) []
+    ≡ without_sub g (by_state st [] (λ r. subs) (λ r heir. []) [])
 unfolding by_state
 goes_by Joining g subs = refl
 goes_by (Member r) g subs = refl
 goes_by (Leaving r heir) g subs = refl
 goes_by Ended g subs = refl
 
-pub live_goes : (n : NodeOf) (g : Grant) → live_subs (record n { subs = without_sub g n.subs }) ≡ without_sub g (live_subs n)
+pub live_goes : (n : NodeOf) (g : Grant)
+    → live_subs (record n { subs = without_sub g n.subs }) ≡ without_sub g (live_subs n)
 live_goes n g = goes_by n.state g n.subs
 
 -- nothing isn't frozen
@@ -73,14 +76,16 @@ left_frozen n r heir = refl
 pub none_of : (m : NodeOf) (posts : List Post) → live_subs m ≡ [] → filter (is_ready_post m) posts ≡ []
 none_of m [] none = refl
 none_of m (p ∷ ps) none =
-    let not_ready : is_ready_post m p ≡ false = ap (λ subs. is_some (ready_of_sub p.frame (sub_in p.grant subs))) none in
+    let not_ready : is_ready_post m p ≡ false =
+    ap (λ subs. is_some (ready_of_sub p.frame (sub_in p.grant subs))) none in
     ap (λ b. cond b (p ∷ filter (is_ready_post m) ps) (filter (is_ready_post m) ps)) not_ready ∙ none_of m ps none
 
 -- and there is none
 pub no_posts : (n : NodeOf) (posts : List Post) → live_subs n ≡ [] → ArePosts n posts → posts ≡ []
 no_posts n [] none are = refl
 no_posts n (q ∷ qs) none are =
-    let nothing : times_posted q (q ∷ qs) ≡ 0 = are.each q ∙ ap (λ subs. is_post_at q (ready_of_sub q.frame (sub_in q.grant subs))) none in
+    let nothing : times_posted q (q ∷ qs) ≡ 0 =
+    are.each q ∙ ap (λ subs. is_post_at q (ready_of_sub q.frame (sub_in q.grant subs))) none in
     let one = same_post q in
     let sum = sum_by-cons (is_same_post q) q qs in
     absurd (let wrong : 1 + times_posted q qs ≡ 0 = omega arith in omega arith)

@@ -25,13 +25,20 @@ alone_ordered : (f : Frame) → AreInOrder name_of_frame (f ∷ [])
 unfolding IsStrictlySortedBy
 alone_ordered f = (tt, tt)
 
-first_posted : (task : Task) (n : ℕ) → sum_by (names n) (post_of (readied (first_frame task)) ∷ []) ≡ sum_by (is_ready_at n) (first_frame task ∷ [])
+first_posted : (task : Task) (n : ℕ)
+    → sum_by (names n) (post_of (readied (first_frame task)) ∷ []) ≡ sum_by (is_ready_at n) (first_frame task ∷ [])
 first_posted task n =
-    let ready : is_ready_at n (first_frame task) ≡ names n (post_of (readied (first_frame task))) = rw (ready_test (first_frame task) (none_missing task.numbers)) (ap one_if (and_true (nat_eq 0 n))) in
-    omega (arith, sum_by-cons (names n) (post_of (readied (first_frame task))) [], sum_by-cons (is_ready_at n) (first_frame task) [])
+    let ready : is_ready_at n (first_frame task) ≡ names n (post_of (readied (first_frame task))) =
+    rw (ready_test (first_frame task) (none_missing task.numbers)) (ap one_if (and_true (nat_eq 0 n))) in
+    omega (
+      arith,
+      sum_by-cons (names n) (post_of (readied (first_frame task))) [],
+      sum_by-cons (is_ready_at n) (first_frame task) [],
+    )
 
 -- it goes on
-pub begun_holds : (job : JobOf) (task : Task) → IsJob job → ContentAgrees job (granted_content (house_of 1) task) → task.place ≡ [] → Holds job (begun task)
+pub begun_holds : (job : JobOf) (task : Task) → IsJob job → ContentAgrees job (granted_content (house_of 1) task)
+    → task.place ≡ [] → Holds job (begun task)
 begun_holds job task known agrees rooted = record {
   known = known;
   active = refl;
@@ -43,5 +50,9 @@ begun_holds job task known agrees rooted = record {
   posted = record { own = (refl, tt); each = first_posted task };
 }
 
-pub so_holds : (job : JobOf) (task : Task) (content : Content) (posts : List Post) → IsJob job → ContentAgrees job (granted_content (house_of 1) task) → task.place ≡ [] → content ≡ granted_content (house_of 1) task → posts ≡ post_of (readied (first_frame task)) ∷ [] → Holds job (record { content = content; posts = posts })
-so_holds job task content posts known agrees rooted new posted = rw (new, posted) (begun_holds job task known agrees rooted)
+pub so_holds : (job : JobOf) (task : Task) (content : Content) (posts : List Post) → IsJob job
+    → ContentAgrees job (granted_content (house_of 1) task) → task.place ≡ []
+    → content ≡ granted_content (house_of 1) task → posts ≡ post_of (readied (first_frame task)) ∷ []
+    → Holds job (record { content = content; posts = posts })
+so_holds job task content posts known agrees rooted new posted =
+    rw (new, posted) (begun_holds job task known agrees rooted)

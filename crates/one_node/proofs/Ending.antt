@@ -56,20 +56,24 @@ none_chosen run empty = by_post (deepest run.posts)
     by_post (Some p) = ap (λ (frames : List Frame). frame_in p.frame frames >>= ready) empty
 
 no_turn : (p : Program) (run : RunOf) → run.content.frames ≡ [] → one_turn p run ≡ None
-no_turn p run empty = ap (λ (o : Option Ready). o >>= λ (r : Ready). turn_of p r.frame.thread r.numbers >>= λ (t : Turn). Some (next_of run r t)) (none_chosen run empty)
+no_turn p run empty = ap (λ (o : Option Ready). o >>= λ (r : Ready). turn_of p r.frame.thread
+    r.numbers >>= λ (t : Turn). Some (next_of run r t)) (none_chosen run empty)
 
 -- a turn leads to a run that goes on or has no frames
-step_so : (p : Program) (run next : RunOf) → GoesOrIsEmpty run.content → one_turn p run ≡ Some next → GoesOrIsEmpty next.content
+step_so : (p : Program) (run next : RunOf) → GoesOrIsEmpty run.content → one_turn p run ≡ Some next
+    → GoesOrIsEmpty next.content
 step_so p run next (inr empty) turn = let none = no_turn p run empty in absurd cc
 step_so p run next (inl active) turn = by_ready (runs.frame_to_run run) turn
   where
-    by_turn : (r : Ready) (o : Option Turn) → (o >>= λ (t : Turn). Some (next_of run r t)) ≡ Some next → GoesOrIsEmpty next.content
+    by_turn : (r : Ready) (o : Option Turn) → (o >>= λ (t : Turn). Some (next_of run r t)) ≡ Some next
+        → GoesOrIsEmpty next.content
     by_turn r None at = absurd cc
     by_turn r (Some t) at =
         let same : next_of run r t ≡ next = cc in
         subst (λ (x : RunOf). GoesOrIsEmpty x.content) same (turned_so r.frame t run.content active)
 
-    by_ready : (o : Option Ready) → (o >>= λ (r : Ready). turn_of p r.frame.thread r.numbers >>= λ (t : Turn). Some (next_of run r t)) ≡ Some next → GoesOrIsEmpty next.content
+    by_ready : (o : Option Ready) → (o >>= λ (r : Ready). turn_of p r.frame.thread r.numbers >>= λ (t : Turn). Some
+        (next_of run r t)) ≡ Some next → GoesOrIsEmpty next.content
     by_ready None at = absurd cc
     by_ready (Some r) at = by_turn r (turn_of p r.frame.thread r.numbers) at
 
@@ -86,26 +90,31 @@ reached_so : (job : JobOf) (n : ℕ) (run : RunOf) → after job n ≡ Some run 
 reached_so job zero run reached = start_so job run reached
 reached_so job (suc n) run reached = by_before (λ before is. reached_so job n before is) (after job n) refl reached
   where
-    by_before : ((before : RunOf) → after job n ≡ Some before → GoesOrIsEmpty before.content) → (o : Option RunOf) → after job n ≡ o → (o >>= one_turn job.program) ≡ Some run → GoesOrIsEmpty run.content
+    by_before : ((before : RunOf) → after job n ≡ Some before → GoesOrIsEmpty before.content) → (o : Option RunOf)
+        → after job n ≡ o → (o >>= one_turn job.program) ≡ Some run → GoesOrIsEmpty run.content
     by_before rest None is at = absurd cc
     by_before rest (Some before) is at = step_so job.program before run (rest before is) at
 
 -- behind a run that has ended there is none
-ended_last : (job : JobOf) (n : ℕ) (run : RunOf) (o : Outcome) → after job n ≡ Some run → run.content.progress ≡ Finished o → one_turn job.program run ≡ None
+ended_last : (job : JobOf) (n : ℕ) (run : RunOf) (o : Outcome) → after job n ≡ Some run
+    → run.content.progress ≡ Finished o → one_turn job.program run ≡ None
 ended_last job n run o reached ended = by_case (reached_so job n run reached)
   where
     by_case : GoesOrIsEmpty run.content → one_turn job.program run ≡ None
     by_case (inl active) = absurd cc
     by_case (inr empty) = no_turn job.program run empty
 
-none_later : (job : JobOf) (n k : ℕ) (run : RunOf) → after job n ≡ Some run → one_turn job.program run ≡ None → n < k → after job k ≡ None
+none_later : (job : JobOf) (n k : ℕ) (run : RunOf) → after job n ≡ Some run → one_turn job.program run ≡ None → n < k
+    → after job k ≡ None
 none_later job n zero run reached last more = absurd (omega arith)
 none_later job n (suc k) run reached last more = elim (eqb_tells n k) [
   | inl both ↦ ap (λ (o : Option RunOf). o >>= one_turn job.program) (ap (after job) (sym both.1) ∙ reached) ∙ last
-  | inr both ↦ ap (λ (o : Option RunOf). o >>= one_turn job.program) (none_later job n k run reached last (let other = both.1 in omega arith))
+  | inr both ↦ ap (λ (o : Option RunOf). o >>= one_turn job.program)
+      (none_later job n k run reached last (let other = both.1 in omega arith))
 ]
 
-none_behind : (job : JobOf) (turns k : ℕ) (o : Outcome) (run : RunOf) (a : IsRunEnd job turns o) → after job k ≡ Some run → k ≤ a.n
+none_behind : (job : JobOf) (turns k : ℕ) (o : Outcome) (run : RunOf) (a : IsRunEnd job turns o)
+    → after job k ≡ Some run → k ≤ a.n
 none_behind job turns k o run a reached = elim (leb_tells k a.n) [
   | inl both ↦ both.1
   | inr both ↦

@@ -44,15 +44,19 @@ use Rattle.one_node.proofs.Posting.{come_posted, filled_posted, left_posted}
 use Rattle.one_node.proofs.Turning.{carried_is, next_frame, spent_is, turn_is, within_is}
 
 -- frames stay in order where one goes
-filtered_names : (p : Name → Bool) (frames : List Frame) → filter p (map name_of_frame frames) ≡ map name_of_frame (filter (λ f. p (name_of_frame f)) frames)
+filtered_names : (p : Name → Bool) (frames : List Frame)
+    → filter p (map name_of_frame frames) ≡ map name_of_frame (filter (λ f. p (name_of_frame f)) frames)
 filtered_names p [] = refl
 filtered_names p (f ∷ fs) = by_test (filtered_names p fs) (p (name_of_frame f))
   where
-    by_test : filter p (map name_of_frame fs) ≡ map name_of_frame (filter (λ g. p (name_of_frame g)) fs) → (b : Bool) → cond b (name_of_frame f ∷ filter p (map name_of_frame fs)) (filter p (map name_of_frame fs)) ≡ map name_of_frame (cond b (f ∷ filter (λ g. p (name_of_frame g)) fs) (filter (λ g. p (name_of_frame g)) fs))
+    by_test : filter p (map name_of_frame fs) ≡ map name_of_frame (filter (λ g. p (name_of_frame g)) fs) → (b : Bool)
+        → cond b (name_of_frame f ∷ filter p (map name_of_frame fs)) (filter p (map name_of_frame fs))
+        ≡ map name_of_frame (cond b (f ∷ filter (λ g. p (name_of_frame g)) fs) (filter (λ g. p (name_of_frame g)) fs))
     by_test rest true = ap (λ ns. name_of_frame f ∷ ns) rest
     by_test rest false = rest
 
-left_order : (n : ℕ) (frames : List Frame) → AreInOrder name_of_frame frames → AreInOrder name_of_frame (without_frame n frames)
+left_order : (n : ℕ) (frames : List Frame) → AreInOrder name_of_frame frames
+    → AreInOrder name_of_frame (without_frame n frames)
 left_order n frames order =
     let other : Name → Bool = λ name. not (eq_by_cmp name_cmp (n, 0) name) in
     rw (filtered_names other frames) at (IsStrictlySortedBy-filter name_cmp other (map name_of_frame frames) order)
@@ -82,7 +86,10 @@ stays f (Joins s slots) c = by_test (nat_lt (length f.place) 1024)
     by_test false = record { task = refl; none = λ e. refl }
 
 -- the ready frames are posted
-still_posted : (f : Frame) (t : Turn) (c : Content) (posts : List Post) → IsSound c → AreInOrder name_of_frame c.frames → frame_in f.number c.frames ≡ Some f → missing_in f.slots ≡ 0 → (turned f t c).after.progress ≡ Active → ArePosted c.frames posts → ArePosted (turned f t c).after.frames (posted_readied (turned f t c).ready (withdrawn own_grant f.number posts))
+still_posted : (f : Frame) (t : Turn) (c : Content) (posts : List Post) → IsSound c → AreInOrder name_of_frame c.frames
+    → frame_in f.number c.frames ≡ Some f → missing_in f.slots ≡ 0 → (turned f t c).after.progress ≡ Active
+    → ArePosted c.frames posts → ArePosted (turned f t c).after.frames
+    (posted_readied (turned f t c).ready (withdrawn own_grant f.number posts))
 still_posted f (Sends v) c posts sound order there full active are = by_return f.returns refl active
   where
     frames : List Frame
@@ -94,38 +101,60 @@ still_posted f (Sends v) c posts sound order there full active are = by_return f
     left : ArePosted frames rest
     left = left_posted f c.frames posts order there are
 
-    by_found : (n j : ℕ) (o : Option Frame) → frame_in n frames ≡ o → LacksDebtor (Local n j) (record c { frames = frames }) → ArePosted (filled_in j v (record c { frames = frames }) o).after.frames (posted_readied (filled_in j v (record c { frames = frames }) o).ready rest)
+    by_found : (n j : ℕ) (o : Option Frame) → frame_in n frames ≡ o
+        → LacksDebtor (Local n j) (record c { frames = frames })
+        → ArePosted (filled_in j v (record c { frames = frames }) o).after.frames
+        (posted_readied (filled_in j v (record c { frames = frames }) o).ready rest)
     by_found n j None found lacks = left
     by_found n j (Some g) found lacks =
         let number : n ≡ g.number = frame_number n g frames found in
         let empty = awaited (record c { frames = frames }) n j lacks in
-        filled_posted g j v frames rest (left_order f.number c.frames order) (rw number at found) (rw found at empty) left
+        filled_posted g j v frames rest (left_order f.number c.frames order) (rw number at found)
+        (rw found at empty) left
 
-    by_return : (r : Return) → f.returns ≡ r → (arrives r v (record c { frames = frames })).after.progress ≡ Active → ArePosted (arrives r v (record c { frames = frames })).after.frames (posted_readied (arrives r v (record c { frames = frames })).ready rest)
+    by_return : (r : Return) → f.returns ≡ r → (arrives r v (record c { frames = frames })).after.progress ≡ Active
+        → ArePosted (arrives r v (record c { frames = frames })).after.frames
+        (posted_readied (arrives r v (record c { frames = frames })).ready rest)
     by_return Whole is goes = absurd cc
     by_return (Local n j) is goes =
         let leaves = frame_leaves c f sound order (left_order f.number c.frames order) there full in
         by_found n j (frame_in n frames) refl (rw is at leaves.lacks)
 still_posted f (Joins s slots) c posts sound order there full active are = by_test (nat_lt (length f.place) 1024) active
   where
-    by_test : (b : Bool) → (cond b (replaced f.number (joined f s slots c.next) c) (ends TooDeep c)).after.progress ≡ Active → ArePosted (cond b (replaced f.number (joined f s slots c.next) c) (ends TooDeep c)).after.frames (posted_readied (cond b (replaced f.number (joined f s slots c.next) c) (ends TooDeep c)).ready (withdrawn own_grant f.number posts))
-    by_test true goes = come_posted (joined f s slots c.next) (without_frame f.number c.frames) (withdrawn own_grant f.number posts) (left_posted f c.frames posts order there are)
+    by_test : (b : Bool) → (cond b (replaced f.number (joined f s slots c.next) c) (ends TooDeep c)).after.progress
+        ≡ Active → ArePosted (cond b (replaced f.number (joined f s slots c.next) c) (ends TooDeep c)).after.frames
+        (posted_readied (cond b (replaced f.number (joined f s slots c.next) c) (ends TooDeep c)).ready
+        (withdrawn own_grant f.number posts))
+    by_test true goes = come_posted (joined f s slots c.next) (without_frame f.number c.frames)
+        (withdrawn own_grant f.number posts) (left_posted f c.frames posts order there are)
     by_test false goes = absurd cc
 
 -- what is said of turns: they keep agreement
 abbrev pub KeepsAgreement : JobOf → Type 0
-KeepsAgreement job = (c : Content) (f : Frame) (numbers : List ℤ) (turn : Turn) → IsAccepted job.program → IsSound c → AreInOrder name_of_frame c.frames → ContentAgrees job c → frame_in f.number c.frames ≡ Some f → numbers_in f.slots ≡ Some numbers → turn_of job.program f.thread numbers ≡ Some turn → ContentAgrees job (turned f turn c).after
+KeepsAgreement job = (c : Content) (f : Frame) (numbers : List ℤ) (turn : Turn) → IsAccepted job.program → IsSound c
+    → AreInOrder name_of_frame c.frames → ContentAgrees job c → frame_in f.number c.frames ≡ Some f
+    → numbers_in f.slots ≡ Some numbers → turn_of job.program f.thread numbers ≡ Some turn
+    → ContentAgrees job (turned f turn c).after
 
 abbrev pub KnownKeeps : JobOf → Type 0
-KnownKeeps job = (known : Known) (c : Content) (f : Frame) (numbers : List ℤ) (turn : Turn) → IsAccepted job.program → KnownAgrees job known → IsSound c → AreInOrder name_of_frame c.frames → ContentAgrees job c → frame_in f.number c.frames ≡ Some f → numbers_in f.slots ≡ Some numbers → turn_of job.program f.thread numbers ≡ Some turn → ContentAgrees job (turned f (resumed known f.place turn) c).after
+KnownKeeps job = (known : Known) (c : Content) (f : Frame) (numbers : List ℤ) (turn : Turn) → IsAccepted job.program
+    → KnownAgrees job known → IsSound c → AreInOrder name_of_frame c.frames → ContentAgrees job c
+    → frame_in f.number c.frames ≡ Some f → numbers_in f.slots ≡ Some numbers
+    → turn_of job.program f.thread numbers ≡ Some turn
+    → ContentAgrees job (turned f (resumed known f.place turn) c).after
 
 -- also where nothing is known
 pub by_nothing : (job : JobOf) → KnownKeeps job → KeepsAgreement job
 by_nothing job law c f numbers turn accepted sound order agrees there full reached =
-    subst (λ t. ContentAgrees job (turned f t c).after) (nothing_changes f.place turn) (law nothing_known c f numbers turn accepted (λ place v is. absurd cc) sound order agrees there full reached)
+    subst (λ t. ContentAgrees job (turned f t c).after) (nothing_changes f.place turn)
+    (law nothing_known c f numbers turn accepted (λ place v is. absurd cc) sound order agrees there full reached)
 
 -- the run after the turn of a frame
-follows : (job : JobOf) (run : RunOf) (n : ℕ) (f : Frame) (numbers : List ℤ) (t : Turn) → KeepsAgreement job → Holds job run → frame_in n run.content.frames ≡ Some f → numbers_in f.slots ≡ Some numbers → turn_of job.program f.thread numbers ≡ Some t → IsSound (turned f t run.content).after → AreInOrder name_of_frame (turned f t run.content).after.frames → Follows job (with_change n (turned f t run.content) run)
+follows : (job : JobOf) (run : RunOf) (n : ℕ) (f : Frame) (numbers : List ℤ) (t : Turn) → KeepsAgreement job
+    → Holds job run → frame_in n run.content.frames ≡ Some f → numbers_in f.slots ≡ Some numbers
+    → turn_of job.program f.thread numbers ≡ Some t → IsSound (turned f t run.content).after
+    → AreInOrder name_of_frame (turned f t run.content).after.frames
+    → Follows job (with_change n (turned f t run.content) run)
 follows job run n f numbers t law holds there full reached sound order = record {
   agrees = agrees;
   rooted = rooted;
@@ -137,7 +166,8 @@ follows job run n f numbers t law holds there full reached sound order = record 
     order = order;
     agrees = agrees;
     rooted = rooted;
-    posted = rw number (still_posted f t run.content run.posts holds.sound holds.order here (numbers_full f.slots numbers full) active holds.posted);
+    posted = rw number (still_posted f t run.content run.posts holds.sound holds.order here
+        (numbers_full f.slots numbers full) active holds.posted);
   });
 }
   where
@@ -154,26 +184,40 @@ follows job run n f numbers t law holds there full reached sound order = record 
     rooted = ap (λ (task : Task). task.place) (stays f t run.content).task ∙ holds.rooted
 
 -- a frame that was carried out is a turn of the run
-pub turn_taken : (job : JobOf) (run : RunOf) (post : Post) (d : DoneOf) (t : IsTurnOf run.content post.frame d) (change : ContentChange) → deepest run.posts ≡ Some post → d.program ≡ job.program → exec_content nothing_known d post.frame run.content ≡ Ok change → one_turn job.program run ≡ Some (with_change post.frame change run)
+pub turn_taken : (job : JobOf) (run : RunOf) (post : Post) (d : DoneOf) (t : IsTurnOf run.content post.frame d)
+    (change : ContentChange) → deepest run.posts ≡ Some post → d.program ≡ job.program
+    → exec_content nothing_known d post.frame run.content ≡ Ok change
+    → one_turn job.program run ≡ Some (with_change post.frame change run)
 turn_taken job run post d t change first program done =
-    let same : turned t.frame d.turn run.content ≡ change = within_is (turned t.frame d.turn run.content) change (sym (carried_is run.content post.frame d t) ∙ done) in
+    let same : turned t.frame d.turn run.content ≡ change =
+    within_is (turned t.frame d.turn run.content) change (sym (carried_is run.content post.frame d t) ∙ done) in
     turn_is job run post t.frame d.numbers d.turn first t.there t.full (rw (program, t.thread) at t.evaluated.reached)
     ∙ ap (λ (x : ContentChange). Some (with_change post.frame x run)) same
 
-pub turn_follows : (job : JobOf) (run : RunOf) (post : Post) (d : DoneOf) (t : IsTurnOf run.content post.frame d) (change : ContentChange) → KeepsAgreement job → Holds job run → d.program ≡ job.program → exec_content nothing_known d post.frame run.content ≡ Ok change → IsSound change.after → AreInOrder name_of_frame change.after.frames → Follows job (with_change post.frame change run)
+pub turn_follows : (job : JobOf) (run : RunOf) (post : Post) (d : DoneOf) (t : IsTurnOf run.content post.frame d)
+    (change : ContentChange) → KeepsAgreement job → Holds job run → d.program ≡ job.program
+    → exec_content nothing_known d post.frame run.content ≡ Ok change → IsSound change.after
+    → AreInOrder name_of_frame change.after.frames → Follows job (with_change post.frame change run)
 turn_follows job run post d t change law holds program done sound order =
-    let same : turned t.frame d.turn run.content ≡ change = within_is (turned t.frame d.turn run.content) change (sym (carried_is run.content post.frame d t) ∙ done) in
-    rw same at (follows job run post.frame t.frame d.numbers d.turn law holds t.there t.full (rw (program, t.thread) at t.evaluated.reached) (rw same sound) (rw same order))
+    let same : turned t.frame d.turn run.content ≡ change =
+    within_is (turned t.frame d.turn run.content) change (sym (carried_is run.content post.frame d t) ∙ done) in
+    rw same at (follows job run post.frame t.frame d.numbers d.turn law holds t.there t.full
+    (rw (program, t.thread) at t.evaluated.reached) (rw same sound) (rw same order))
 
 -- a frame that isn't carried out since numbers run out
-pub turn_spent : (job : JobOf) (run : RunOf) (post : Post) (d : DoneOf) (t : IsTurnOf run.content post.frame d) → deepest run.posts ≡ Some post → d.program ≡ job.program → exec_content nothing_known d post.frame run.content ≡ Err Spent → IsSpent job run
+pub turn_spent : (job : JobOf) (run : RunOf) (post : Post) (d : DoneOf) (t : IsTurnOf run.content post.frame d)
+    → deepest run.posts ≡ Some post → d.program ≡ job.program
+    → exec_content nothing_known d post.frame run.content ≡ Err Spent → IsSpent job run
 turn_spent job run post d t first program refused = record {
   next = with_change post.frame (turned t.frame d.turn run.content) run;
-  turn = turn_is job run post t.frame d.numbers d.turn first t.there t.full (rw (program, t.thread) at t.evaluated.reached);
+  turn = turn_is job run post t.frame d.numbers d.turn first t.there t.full
+      (rw (program, t.thread) at t.evaluated.reached);
   spent = spent_is (turned t.frame d.turn run.content) (sym (carried_is run.content post.frame d t) ∙ refused);
 }
 
-pub turn_fails : (job : JobOf) (run : RunOf) (post : Post) (d : DoneOf) (t : IsTurnOf run.content post.frame d) (e : RunFault) → deepest run.posts ≡ Some post → d.program ≡ job.program → (after : Content) → IsCarried (exec_content nothing_known d post.frame run.content) after (Err e) → TurnFails job run e
+pub turn_fails : (job : JobOf) (run : RunOf) (post : Post) (d : DoneOf) (t : IsTurnOf run.content post.frame d)
+    (e : RunFault) → deepest run.posts ≡ Some post → d.program ≡ job.program → (after : Content)
+    → IsCarried (exec_content nothing_known d post.frame run.content) after (Err e) → TurnFails job run e
 turn_fails job run post d t TurnsSpent first program after refused = refused
 turn_fails job run post d t NumbersSpent first program after refused = turn_spent job run post d t first program refused
 turn_fails job run post d t Memory first program after refused = tt
@@ -187,6 +231,7 @@ has_turn job run holds =
     rw (turn_is job run n.post f.frame f.numbers r.turn n.first f.there f.full r.reached) refl
 
 -- a run that was reached takes one more turn
-pub reached_next : (job : JobOf) (n : ℕ) (run next : RunOf) → after job n ≡ Some run → one_turn job.program run ≡ Some next → after job (n + 1) ≡ Some next
+pub reached_next : (job : JobOf) (n : ℕ) (run next : RunOf) → after job n ≡ Some run
+    → one_turn job.program run ≡ Some next → after job (n + 1) ≡ Some next
 reached_next job n run next reached turn =
     ap (after job) (add-one n) ∙ ap (λ (o : Option RunOf). o >>= one_turn job.program) reached ∙ turn

@@ -35,23 +35,30 @@ use Rattle.one_node.specs.Holding.{Holds, IsFrame, IsTurnOf, is_ready_at, names}
 use Rattle.one_node.proofs.Posting.{counted, ready_itself}
 
 -- full slots hold their numbers
-holds_same : (slots : List (Option ℤ)) (numbers : List ℤ) → numbers_in slots ≡ Some numbers → holds_numbers slots numbers ≡ true
+holds_same : (slots : List (Option ℤ)) (numbers : List ℤ) → numbers_in slots ≡ Some numbers
+    → holds_numbers slots numbers ≡ true
 holds_same [] [] full = refl
 holds_same [] (n ∷ ns) full = absurd cc
 holds_same (None ∷ slots) numbers full = absurd cc
 holds_same (Some v ∷ slots) numbers full = by_rest (λ vs is. holds_same slots vs is) (numbers_in slots) refl full
   where
-    by_rest : ((vs : List ℤ) → numbers_in slots ≡ Some vs → holds_numbers slots vs ≡ true) → (o : Option (List ℤ)) → numbers_in slots ≡ o → (o >>= λ (vs : List ℤ). Some (v ∷ vs)) ≡ Some numbers → holds_numbers (Some v ∷ slots) numbers ≡ true
+    by_rest : ((vs : List ℤ) → numbers_in slots ≡ Some vs → holds_numbers slots vs ≡ true) → (o : Option (List ℤ))
+        → numbers_in slots ≡ o → (o >>= λ (vs : List ℤ). Some (v ∷ vs)) ≡ Some numbers
+        → holds_numbers (Some v ∷ slots) numbers ≡ true
     by_rest rest None is at = absurd cc
     by_rest rest (Some vs) is at =
         let same : v ∷ vs ≡ numbers = cc in
         ap (holds_numbers (Some v ∷ slots)) (sym same) ∙ rw ((Decides-int_eq v v).1 refl, rest vs is) refl
 
 -- a turn of a frame carries it out
-pub carried_is : (c : Content) (n : ℕ) (d : DoneOf) (t : IsTurnOf c n d) → exec_content nothing_known d n c ≡ within_numbers (turned t.frame d.turn c)
+pub carried_is : (c : Content) (n : ℕ) (d : DoneOf) (t : IsTurnOf c n d)
+    → exec_content nothing_known d n c ≡ within_numbers (turned t.frame d.turn c)
 carried_is c n d t =
-    let is : is_turn_of d t.frame ≡ true = rw (eq-eqb t.frame.thread d.thread (sym t.thread), holds_same t.frame.slots d.numbers t.full) refl in
-    ap (executed nothing_known d c) t.there ∙ ap (λ b. cond b (within_numbers (turned t.frame (resumed nothing_known t.frame.place d.turn) c)) (Err Stale)) is
+    let is : is_turn_of d t.frame ≡ true =
+    rw (eq-eqb t.frame.thread d.thread (sym t.thread), holds_same t.frame.slots d.numbers t.full) refl in
+    ap (executed nothing_known d c) t.there
+    ∙ ap (λ b. cond b (within_numbers (turned t.frame (resumed nothing_known t.frame.place d.turn) c)) (Err Stale))
+    is
     ∙ ap (λ u. within_numbers (turned t.frame u c)) (nothing_changes t.frame.place d.turn)
 
 -- so it isn't refused as stale
@@ -73,7 +80,8 @@ within_is expected change is = by_test (nat_lt expected.after.next (2 ^ 32)) is
 pub spent_is : (expected : ContentChange) → within_numbers expected ≡ Err Spent → 2 ^ 32 ≤ expected.after.next
 spent_is expected is = by_test (nat_lt expected.after.next (2 ^ 32)) refl is
   where
-    by_test : (b : Bool) → nat_lt expected.after.next (2 ^ 32) ≡ b → cond b (Ok expected) (Err Spent) ≡ Err Spent → 2 ^ 32 ≤ expected.after.next
+    by_test : (b : Bool) → nat_lt expected.after.next (2 ^ 32) ≡ b → cond b (Ok expected) (Err Spent) ≡ Err Spent
+        → 2 ^ 32 ≤ expected.after.next
     by_test true less at = absurd cc
     by_test false less at = ltb-false expected.after.next (2 ^ 32) less
 
@@ -94,7 +102,12 @@ named p = rw (eq-eqb p.frame p.frame refl) refl
 
 one_deepest : (posts : List Post) → 0 < length posts → Deepest posts
 one_deepest [] more = absurd (omega arith)
-one_deepest (p ∷ []) more = record { post = p; first = refl; posted = let here = named p in omega (arith, sum_by-cons (names p.frame) p []) }
+one_deepest (p ∷ []) more = record {
+  post = p;
+  first = refl;
+  posted = let here =
+      named p in omega (arith, sum_by-cons (names p.frame) p []);
+}
 one_deepest (p ∷ q ∷ qs) more =
     let rest = one_deepest (q ∷ qs) (omega arith) in
     by_choice rest (goes_below p rest.post) refl
@@ -116,19 +129,23 @@ some_posts n [] more = more
 some_posts n (p ∷ ps) more = omega arith
 
 -- numbers are as many as the slots that they fill
-numbers_many : (slots : List (Option ℤ)) (numbers : List ℤ) → numbers_in slots ≡ Some numbers → length slots ≡ length numbers
+numbers_many : (slots : List (Option ℤ)) (numbers : List ℤ) → numbers_in slots ≡ Some numbers
+    → length slots ≡ length numbers
 numbers_many [] numbers full = let same : [] ≡ numbers = cc in ap length same
 numbers_many (None ∷ slots) numbers full = absurd cc
 numbers_many (Some v ∷ slots) numbers full = by_rest (λ vs is. numbers_many slots vs is) (numbers_in slots) refl full
   where
-    by_rest : ((vs : List ℤ) → numbers_in slots ≡ Some vs → length slots ≡ length vs) → (o : Option (List ℤ)) → numbers_in slots ≡ o → (o >>= λ (vs : List ℤ). Some (v ∷ vs)) ≡ Some numbers → length (Some v ∷ slots) ≡ length numbers
+    by_rest : ((vs : List ℤ) → numbers_in slots ≡ Some vs → length slots ≡ length vs) → (o : Option (List ℤ))
+        → numbers_in slots ≡ o → (o >>= λ (vs : List ℤ). Some (v ∷ vs)) ≡ Some numbers
+        → length (Some v ∷ slots) ≡ length numbers
     by_rest rest None is at = absurd cc
     by_rest rest (Some vs) is at =
         let same : v ∷ vs ≡ numbers = cc in
         ap suc (rest vs is) ∙ ap length same
 
 -- a ready frame of a number that is counted
-ready_there : (job : JobOf) (c : Content) (n : ℕ) → ContentAgrees job c → 0 < part name_of_frame (is_ready_at n) (frame_in n c.frames) → IsFrame job c n
+ready_there : (job : JobOf) (c : Content) (n : ℕ) → ContentAgrees job c
+    → 0 < part name_of_frame (is_ready_at n) (frame_in n c.frames) → IsFrame job c n
 ready_there job c n agrees more = by_found (frame_in n c.frames) refl more
   where
     is_full : (a b : Bool) → 0 < one_if (a && b) → b ≡ true
@@ -168,11 +185,19 @@ next_frame job run holds =
     }
 
 -- a turn of the next frame is a turn of the run
-pub turn_is : (job : JobOf) (run : RunOf) (post : Post) (frame : Frame) (numbers : List ℤ) (turn : Turn) → deepest run.posts ≡ Some post → frame_in post.frame run.content.frames ≡ Some frame → numbers_in frame.slots ≡ Some numbers → turn_of job.program frame.thread numbers ≡ Some turn → one_turn job.program run ≡ Some (with_change post.frame (turned frame turn run.content) run)
+pub turn_is : (job : JobOf) (run : RunOf) (post : Post) (frame : Frame) (numbers : List ℤ) (turn : Turn)
+    → deepest run.posts ≡ Some post → frame_in post.frame run.content.frames ≡ Some frame
+    → numbers_in frame.slots ≡ Some numbers → turn_of job.program frame.thread numbers ≡ Some turn
+    → one_turn job.program run ≡ Some (with_change post.frame (turned frame turn run.content) run)
 turn_is job run post frame numbers turn first there full reached =
     let r : Ready = record { frame = frame; numbers = numbers } in
-    let found : ready_in post.frame run.content ≡ Some r = ap (λ (o : Option Frame). o >>= ready) there ∙ ap (λ (o : Option (List ℤ)). o >>= λ (ns : List ℤ). Some (record { frame = frame; numbers = ns })) full in
-    let is : runs.frame_to_run run ≡ Some r = ap (λ (o : Option Post). o >>= λ (p : Post). ready_in p.frame run.content) first ∙ found in
-    ap (λ (o : Option Ready). o >>= λ (r : Ready). turn_of job.program r.frame.thread r.numbers >>= λ (t : Turn). Some (next_of run r t)) is
+    let found : ready_in post.frame run.content ≡ Some r =
+    ap (λ (o : Option Frame). o >>= ready) there
+    ∙ ap (λ (o : Option (List ℤ)). o >>= λ (ns : List ℤ). Some (record { frame = frame; numbers = ns })) full in
+    let is : runs.frame_to_run run ≡ Some r =
+    ap (λ (o : Option Post). o >>= λ (p : Post). ready_in p.frame run.content) first ∙ found in
+    ap (λ (o : Option Ready). o >>= λ (r : Ready). turn_of job.program r.frame.thread r.numbers >>= λ (t : Turn). Some
+    (next_of run r t)) is
     ∙ ap (λ (o : Option Turn). o >>= λ (t : Turn). Some (next_of run r t)) reached
-    ∙ ap (λ (k : ℕ). Some (with_change k (turned frame turn run.content) run)) (sym (frame_number post.frame frame run.content.frames there))
+    ∙ ap (λ (k : ℕ). Some (with_change k (turned frame turn run.content) run))
+    (sym (frame_number post.frame frame run.content.frames there))

@@ -49,7 +49,7 @@ impl<D: Disk + Drop> Bench<D> {
     }
 
     /// The disk is let go.
-    pub fn empties(self) {
+    pub fn empty(self) {
         match self.held {
             Some(Held::Bare(disk)) => {
                 let _disk = disk;

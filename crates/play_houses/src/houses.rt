@@ -170,10 +170,10 @@ impl Houses {
     fn move_to(&mut self, place: Place) {
         match mem::replace(&mut self.place, place) {
             Place::Empty => {}
-            Place::Memory(bench) => bench.empties(),
-            Place::Once(bench) => bench.empties(),
-            Place::File(bench) => bench.empties(),
-            Place::Failing(bench) => bench.empties(),
+            Place::Memory(bench) => bench.empty(),
+            Place::Once(bench) => bench.empty(),
+            Place::File(bench) => bench.empty(),
+            Place::Failing(bench) => bench.empty(),
         }
     }
 
@@ -190,14 +190,14 @@ impl Houses {
             return None;
         };
         match bench.held.take() {
-            Some(held) => self.chooses(held, calls, bytes),
+            Some(held) => self.choose(held, calls, bytes),
             None => None,
         }
     }
 
     /// The disk in memory, or what has it, stands in its place again, chosen to fail where it is
     /// bare.
-    fn chooses(&mut self, held: Held<MemDisk>, calls: u64, bytes: Vec<u8>) -> Option<()> {
+    fn choose(&mut self, held: Held<MemDisk>, calls: u64, bytes: Vec<u8>) -> Option<()> {
         match chosen(held, calls, bytes) {
             Ok(disk) => {
                 self.move_to(Place::Once(Bench::of(disk, true)));

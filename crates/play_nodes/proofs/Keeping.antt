@@ -12,7 +12,8 @@ carried (Refused e) step before after is = absurd is
 carried (Does s) step before after is = ap (λ n. n.job) is.1
 carried (Forgets m) step before after is = ap (λ n. n.job) is.1
 
-pub keeps_job : (a : Answer) (r : Result Step NodeError) (before after : NodeOn) → Meets a r before after → after.job ≡ before.job
+pub keeps_job : (a : Answer) (r : Result Step NodeError) (before after : NodeOn) → Meets a r before after
+    → after.job ≡ before.job
 keeps_job a (Ok step) before after is = carried a step before after is
 keeps_job a (Err error.Memory) before after is = ap (λ n. n.job) is
 keeps_job a (Err (error.Bytes fault)) before after is = ap (λ n. n.job) is.1

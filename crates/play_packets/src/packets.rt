@@ -116,7 +116,7 @@ fn write_often(alloc: Global, packet: &Packet, times: u64, out: &mut Answers) {
     out.line("ok");
 }
 
-fn decodes(alloc: Global, line: &CommandLine<'_>, out: &mut Answers) -> Option<()> {
+fn read_packets(alloc: Global, line: &CommandLine<'_>, out: &mut Answers) -> Option<()> {
     let times = line.number(1)?;
     let bytes = bytes_of_hex(alloc, line.rest(2), out)?;
     read_often(alloc, &bytes, times, out);
@@ -124,7 +124,7 @@ fn decodes(alloc: Global, line: &CommandLine<'_>, out: &mut Answers) -> Option<(
 }
 
 /// The packet of bytes is written so often.
-fn encodes(alloc: Global, line: &CommandLine<'_>, out: &mut Answers) -> Option<()> {
+fn write_packets(alloc: Global, line: &CommandLine<'_>, out: &mut Answers) -> Option<()> {
     let times = line.number(1)?;
     let bytes = bytes_of_hex(alloc, line.rest(2), out)?;
     if let Some(packet) = read(alloc, &bytes, out) {
@@ -192,8 +192,8 @@ impl Packets {
         Played::of(match line.word(0).unwrap_or("") {
             "encode" => self.encode(alloc, line, out),
             "decode" => self.decode(alloc, line, out),
-            "decodes" => decodes(alloc, line, out),
-            "encodes" => encodes(alloc, line, out),
+            "decodes" => read_packets(alloc, line, out),
+            "encodes" => write_packets(alloc, line, out),
             "with" => self.with(alloc, line, out),
             "front" => self.front(alloc, line, out),
             "part" => self.part(line, out),

@@ -36,10 +36,12 @@ found_beside s subs = put_found name_of_sub name_cmp names_total s subs
 
 -- it has another content, alone
 put_alone : (s : SubOf) (c : Content) → put_sub (with_content s c) (s ∷ []) ≡ with_content s c ∷ []
-put_alone s c = ap (λ r. match_ordering r (with_content s c ∷ s ∷ []) (with_content s c ∷ []) (s ∷ with_content s c ∷ [])) (equal_to_itself (name_of_sub s))
+put_alone s c = ap (λ r. match_ordering r (with_content s c ∷ s ∷ []) (with_content s c ∷ [])
+    (s ∷ with_content s c ∷ [])) (equal_to_itself (name_of_sub s))
 
 -- and among others
-put_beside : (s : SubOf) (c : Content) (subs : List SubOf) → put_sub (with_content s c) (put_sub s subs) ≡ put_sub (with_content s c) subs
+put_beside : (s : SubOf) (c : Content) (subs : List SubOf)
+    → put_sub (with_content s c) (put_sub s subs) ≡ put_sub (with_content s c) subs
 put_beside s c subs = put_again name_of_sub (with_content s c) s subs (equal_to_itself (name_of_sub s))
 
 -- it goes, alone
@@ -55,7 +57,8 @@ record Agrees (subs : List SubOf) (one others : Recovery) : Type 0 where
   pub among : others ≡ part (put_sub left subs) stopped again
 
 -- a record of it is closed, or has another holder
-record_agrees : (s : SubOf) (subs : List SubOf) (r : Record) (holder : Option ℕ) → Agrees subs (record_settled s r holder (s ∷ [])) (record_settled s r holder (put_sub s subs))
+record_agrees : (s : SubOf) (subs : List SubOf) (r : Record) (holder : Option ℕ)
+    → Agrees subs (record_settled s r holder (s ∷ [])) (record_settled s r holder (put_sub s subs))
 record_agrees s subs r None =
     let told : List ReadiedOf = record { grant = s.grant; frame = readied (frame_of r) } ∷ [] in
     record {
@@ -83,19 +86,23 @@ module _ (members : List Member) (subs : List SubOf) where
   settle_in g s = for_some (record_in g s.content.records) (settle s)
 
   -- the record that is found, if any
-  found_agrees : (s : SubOf) (o : Option Record) → Agrees subs (for_some o (settle s) (s ∷ [])) (for_some o (settle s) (put_sub s subs))
+  found_agrees : (s : SubOf) (o : Option Record)
+      → Agrees subs (for_some o (settle s) (s ∷ [])) (for_some o (settle s) (put_sub s subs))
   unfolding for_some
   found_agrees s None = record { left = s; stopped = []; again = []; alone = refl; among = refl }
   found_agrees s (Some r) = record_agrees s subs r (resolve members r.holder)
 
   -- the record of a grant, where it has one
-  host_agrees : (g : Grant) (s : SubOf) (b : Bool) → Agrees subs (for_some (cond b (Some s) None) (settle_in g) (s ∷ [])) (for_some (cond b (Some s) None) (settle_in g) (put_sub s subs))
+  host_agrees : (g : Grant) (s : SubOf) (b : Bool)
+      → Agrees subs (for_some (cond b (Some s) None) (settle_in g) (s ∷ []))
+      (for_some (cond b (Some s) None) (settle_in g) (put_sub s subs))
   unfolding for_some
   host_agrees g s true = found_agrees s (record_in g s.content.records)
   host_agrees g s false = record { left = s; stopped = []; again = []; alone = refl; among = refl }
 
   -- a record that none of the others has
-  settle_agrees : (g : Grant) (s : SubOf) → host_in g subs ≡ None → Agrees subs (settle_record members g (s ∷ [])) (settle_record members g (put_sub s subs))
+  settle_agrees : (g : Grant) (s : SubOf) → host_in g subs ≡ None
+      → Agrees subs (settle_record members g (s ∷ [])) (settle_record members g (put_sub s subs))
   settle_agrees g s none =
       let agrees = host_agrees g s (has_record g s) in
       record {
@@ -103,11 +110,14 @@ module _ (members : List Member) (subs : List SubOf) where
         stopped = agrees.stopped;
         again = agrees.again;
         alone = agrees.alone;
-        among = ap (λ o. for_some o (settle_in g) (put_sub s subs)) (find_put name_of_sub (has_record g) s subs none) ∙ agrees.among;
+        among = ap (λ o. for_some o (settle_in g) (put_sub s subs)) (find_put name_of_sub (has_record g) s subs none)
+            ∙ agrees.among;
       }
 
   -- such records in turn
-  records_beside : (grants : List Grant) (s : SubOf) → AllByRecursion (λ g. host_in g subs ≡ None) grants → for_each (settle_record members) grants (put_sub s subs) ≡ beside (for_each (settle_record members) grants (s ∷ [])) subs
+  records_beside : (grants : List Grant) (s : SubOf) → AllByRecursion (λ g. host_in g subs ≡ None) grants
+      → for_each (settle_record members) grants (put_sub s subs)
+      ≡ beside (for_each (settle_record members) grants (s ∷ [])) subs
   records_beside [] s none = refl
   records_beside (g ∷ grants) s none =
       let one = settle_agrees g s none.0 in
@@ -117,16 +127,19 @@ module _ (members : List Member) (subs : List SubOf) where
       ∙ sym (ap (λ r. beside (r then for_each (settle_record members) grants) subs) one.alone)
 
 -- the grants of records that none of the others has
-foreign_ordered : (P : Grant → Type 0) (grants : List Grant) → AllByRecursion P grants → AllByRecursion P (ordered grants)
+foreign_ordered : (P : Grant → Type 0) (grants : List Grant) → AllByRecursion P grants
+    → AllByRecursion P (ordered grants)
 foreign_ordered P [] all = tt
 foreign_ordered P (g ∷ grants) all = all_put name_of_grant P g (ordered grants) all.0 (foreign_ordered P grants all.1)
 
 -- the grants of records
-foreign_grants : (P : Grant → Type 0) (records : List Record) → AllByRecursion (λ r. P r.grant) records → AllByRecursion P (map (λ r. r.grant) records ++ [])
+foreign_grants : (P : Grant → Type 0) (records : List Record) → AllByRecursion (λ r. P r.grant) records
+    → AllByRecursion P (map (λ r. r.grant) records ++ [])
 foreign_grants P [] all = tt
 foreign_grants P (r ∷ records) all = (all.0, foreign_grants P records all.1)
 
-module _ (members : List Member) (s : SubOf) (subs : List SubOf) (new : sub_in s.grant subs ≡ None) (foreign : AreForeign s.content.records subs) where
+module _ (members : List Member) (s : SubOf) (subs : List SubOf) (new : sub_in s.grant subs ≡ None)
+    (foreign : AreForeign s.content.records subs) where
   -- the records of those that are left, once the first part is done
   abbrev records_of : List SubOf → Recovery
   records_of left = for_each (settle_record members) (their_records (s.grant ∷ []) left) left
@@ -144,14 +157,18 @@ module _ (members : List Member) (s : SubOf) (subs : List SubOf) (new : sub_in s
   of_grants left o = for_each (settle_record members) (ordered (record_grants o ++ [])) left
 
   -- it is dropped
-  dropped : then_records (sub_settled s None (put_sub s subs)) ≡ beside (then_records (sub_settled s None (s ∷ []))) subs
+  dropped : then_records (sub_settled s None (put_sub s subs))
+      ≡ beside (then_records (sub_settled s None (s ∷ []))) subs
   dropped =
       ap (λ left. then_records (part left s.content.records [])) (put_goes name_of_sub s subs new)
-      ∙ ap (λ o. part subs s.content.records [] then (λ left. for_each (settle_sub members) [] left) then (λ left. of_grants left o)) new
+      ∙ ap (λ o. part subs s.content.records [] then (λ left. for_each (settle_sub members) [] left) then (λ left.
+      of_grants left o)) new
       ∙ sym (ap (λ left. beside (then_records (part left s.content.records [])) subs) (without_alone s))
 
   -- or it has another host, and its records follow
-  renamed : (c : Content) → c.records ≡ s.content.records → then_records (part (put_sub (with_content s c) (put_sub s subs)) [] []) ≡ beside (then_records (part (put_sub (with_content s c) (s ∷ [])) [] [])) subs
+  renamed : (c : Content) → c.records ≡ s.content.records
+      → then_records (part (put_sub (with_content s c) (put_sub s subs)) [] [])
+      ≡ beside (then_records (part (put_sub (with_content s c) (s ∷ [])) [] [])) subs
   renamed c same =
       ap (λ left. then_records (part left [] [])) (put_beside s c subs)
       ∙ ap (of_grants (put_sub t subs)) (found_beside t subs)
@@ -163,10 +180,12 @@ module _ (members : List Member) (s : SubOf) (subs : List SubOf) (new : sub_in s
       t = with_content s c
 
       all : AllByRecursion (λ g. host_in g subs ≡ None) (ordered (map (λ r. r.grant) c.records ++ []))
-      all = foreign_ordered (λ g. host_in g subs ≡ None) (map (λ r. r.grant) c.records ++ []) (foreign_grants (λ g. host_in g subs ≡ None) c.records (rw same foreign))
+      all = foreign_ordered (λ g. host_in g subs ≡ None) (map (λ r. r.grant) c.records ++ [])
+          (foreign_grants (λ g. host_in g subs ≡ None) c.records (rw same foreign))
 
   -- it is dropped, or has another host
-  by_host : (host : Option ℕ) → then_records (sub_settled s host (put_sub s subs)) ≡ beside (then_records (sub_settled s host (s ∷ []))) subs
+  by_host : (host : Option ℕ) → then_records (sub_settled s host (put_sub s subs))
+      ≡ beside (then_records (sub_settled s host (s ∷ []))) subs
   by_host None = dropped
   by_host (Some host) = renamed (with_parent host s.content) refl
 
@@ -176,7 +195,8 @@ module _ (members : List Member) (s : SubOf) (subs : List SubOf) (new : sub_in s
   itself left = refl
 
   -- all of it
-  alone_beside : recovered members (s.grant ∷ []) (put_sub s subs) ≡ beside (recovered members (s.grant ∷ []) (s ∷ [])) subs
+  alone_beside : recovered members (s.grant ∷ []) (put_sub s subs)
+      ≡ beside (recovered members (s.grant ∷ []) (s ∷ [])) subs
   alone_beside =
       ap (λ o. then_records (of_sub o (put_sub s subs))) (found_beside s subs)
       ∙ ap then_records (itself (put_sub s subs))
@@ -185,5 +205,7 @@ module _ (members : List Member) (s : SubOf) (subs : List SubOf) (new : sub_in s
       ∙ sym (ap (λ o. beside (then_records (of_sub o (s ∷ []))) subs) (found_alone s))
 
 -- the law, over all rosters and subcomputations
-pub recovered_beside : (members : List Member) (s : SubOf) (subs : List SubOf) → sub_in s.grant subs ≡ None → AreForeign s.content.records subs → recovered members (s.grant ∷ []) (put_sub s subs) ≡ beside (recovered members (s.grant ∷ []) (s ∷ [])) subs
+pub recovered_beside : (members : List Member) (s : SubOf) (subs : List SubOf) → sub_in s.grant subs ≡ None
+    → AreForeign s.content.records subs
+    → recovered members (s.grant ∷ []) (put_sub s subs) ≡ beside (recovered members (s.grant ∷ []) (s ∷ [])) subs
 recovered_beside = alone_beside

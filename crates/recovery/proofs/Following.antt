@@ -36,19 +36,25 @@ pub record Follows (before after : List SubOf) (again : List ReadiedOf) : Type 0
 
 -- where nothing happens
 nothing_follows : (subs : List SubOf) → AreWhole subs → Follows subs subs []
-nothing_follows subs whole = record { whole = whole; each = λ g s there. record { was = s; there = there; grows = stays s.content } }
+nothing_follows subs whole = record {
+  whole = whole;
+  each = λ g s there. record { was = s; there = there; grows = stays s.content };
+}
 
 -- what is told by one and then by another
 told_on : (g : Grant) (told again : List ReadiedOf) → told_of g (told ++ again) ≡ told_of g told ++ told_of g again
 told_on g [] again = refl
 told_on g (r ∷ rs) again = by_test (told_on g rs again) (same_grant r.grant g)
   where
-    by_test : told_of g (rs ++ again) ≡ told_of g rs ++ told_of g again → (b : Bool) → cond b (r.frame ∷ told_of g (rs ++ again)) (told_of g (rs ++ again)) ≡ cond b (r.frame ∷ told_of g rs) (told_of g rs) ++ told_of g again
+    by_test : told_of g (rs ++ again) ≡ told_of g rs ++ told_of g again → (b : Bool)
+        → cond b (r.frame ∷ told_of g (rs ++ again)) (told_of g (rs ++ again))
+        ≡ cond b (r.frame ∷ told_of g rs) (told_of g rs) ++ told_of g again
     by_test rest true = ap (λ rs. r.frame ∷ rs) rest
     by_test rest false = rest
 
 -- a part after another
-follows_on : (a b c : List SubOf) (told again : List ReadiedOf) → Follows a b told → Follows b c again → Follows a c (told ++ again)
+follows_on : (a b c : List SubOf) (told again : List ReadiedOf) → Follows a b told
+    → Follows b c again → Follows a c (told ++ again)
 follows_on a b c told again first second = record {
   whole = second.whole;
   each = λ g s there. (
@@ -57,7 +63,9 @@ follows_on a b c told again first second = record {
       record {
         was = one.was;
         there = one.there;
-        grows = subst (Grows one.was.content s.content) (sym (told_on g told again)) (grows_on one.was.content last.was.content s.content (told_of g told) (told_of g again) one.grows last.grows);
+        grows = subst (Grows one.was.content s.content) (sym (told_on g told again))
+            (grows_on one.was.content last.was.content s.content (told_of g told)
+            (told_of g again) one.grows last.grows);
       });
 }
 
@@ -66,15 +74,19 @@ abbrev Keeps : (List SubOf → Recovery) → Type 0
 Keeps f = (subs : List SubOf) → AreWhole subs → Follows subs (f subs).subs (f subs).again
 
 -- parts in turn
-each_keeps : {A : Type 0} (f : A → List SubOf → Recovery) → ((a : A) → Keeps (f a)) → (xs : List A) (subs : List SubOf) → AreWhole subs → Follows subs (for_each f xs subs).subs (for_each f xs subs).again
+each_keeps : {A : Type 0} (f : A → List SubOf → Recovery) → ((a : A) → Keeps (f a)) → (xs : List A) (subs : List SubOf)
+    → AreWhole subs → Follows subs (for_each f xs subs).subs (for_each f xs subs).again
 each_keeps f keeps [] subs whole = nothing_follows subs whole
 each_keeps f keeps (x ∷ xs) subs whole =
     let first = keeps x subs whole in
     let rest = each_keeps f keeps xs (f x subs).subs first.whole in
-    follows_on subs (f x subs).subs (for_each f xs (f x subs).subs).subs (f x subs).again (for_each f xs (f x subs).subs).again first rest
+    follows_on subs (f x subs).subs (for_each f xs (f x subs).subs).subs
+    (f x subs).again (for_each f xs (f x subs).subs).again first rest
 
 -- a part with what may be there
-some_follows : {A : Type 0} (o : Option A) (f : A → List SubOf → Recovery) (subs : List SubOf) → AreWhole subs → ((a : A) → o ≡ Some a → Follows subs (f a subs).subs (f a subs).again) → Follows subs (for_some o f subs).subs (for_some o f subs).again
+some_follows : {A : Type 0} (o : Option A) (f : A → List SubOf → Recovery) (subs : List SubOf) → AreWhole subs
+    → ((a : A) → o ≡ Some a → Follows subs (f a subs).subs (f a subs).again)
+    → Follows subs (for_some o f subs).subs (for_some o f subs).again
 unfolding for_some
 some_follows None f subs whole follows = nothing_follows subs whole
 some_follows (Some a) f subs whole follows = follows a refl
@@ -85,7 +97,8 @@ found_whole g s subs whole there = all_found name_of_sub IsWhole (name_of_grant 
 
 -- it is found under its own grant
 found_itself : (g : Grant) (s : SubOf) (subs : List SubOf) → sub_in g subs ≡ Some s → sub_in s.grant subs ≡ Some s
-found_itself g s subs there = subst (λ n. item_in name_of_sub n subs ≡ Some s) (found_name name_of_sub (name_of_grant g) s subs there) there
+found_itself g s subs there = subst (λ n. item_in name_of_sub n subs ≡ Some s)
+    (found_name name_of_sub (name_of_grant g) s subs there) there
 
 -- one goes
 without_follows : (g : Grant) (subs : List SubOf) → AreWhole subs → Follows subs (without_sub g subs) []
@@ -102,7 +115,9 @@ without_follows g subs whole = record {
 }
 
 -- one has another content
-module _ (s : SubOf) (c : Content) (subs : List SubOf) (again : List ReadiedOf) (there : sub_in s.grant subs ≡ Some s) (grows : Grows s.content c (told_of s.grant again)) (others : (g : Grant) → (g ≡ s.grant → ⊥) → told_of g again ≡ []) where
+module _ (s : SubOf) (c : Content) (subs : List SubOf) (again : List ReadiedOf) (there : sub_in s.grant subs ≡ Some s)
+    (grows : Grows s.content c (told_of s.grant again)) (others : (g : Grant) → (g ≡ s.grant → ⊥)
+    → told_of g again ≡ []) where
   -- what is found afterwards was there
   put_was : (g : Grant) (t : SubOf) → sub_in g (put_sub (with_content s c) subs) ≡ Some t → Was g subs t again
   put_was g t found = elim (told_apart (name_of_grant g) (name_of_grant s.grant)) [
@@ -116,8 +131,10 @@ module _ (s : SubOf) (c : Content) (subs : List SubOf) (again : List ReadiedOf) 
     where
       itself : name_of_grant g ≡ name_of_grant s.grant → Was s.grant subs t again
       itself same =
-          let here : sub_in s.grant (put_sub (with_content s c) subs) ≡ Some t = subst (λ n. item_in name_of_sub n (put_sub (with_content s c) subs) ≡ Some t) same found in
-          let put : sub_in s.grant (put_sub (with_content s c) subs) ≡ Some (with_content s c) = put_found name_of_sub name_cmp names_total (with_content s c) subs in
+          let here : sub_in s.grant (put_sub (with_content s c) subs) ≡ Some t =
+          subst (λ n. item_in name_of_sub n (put_sub (with_content s c) subs) ≡ Some t) same found in
+          let put : sub_in s.grant (put_sub (with_content s c) subs) ≡ Some (with_content s c) =
+          put_found name_of_sub name_cmp names_total (with_content s c) subs in
           let is : with_content s c ≡ t = cc in
           let last : Was s.grant subs (with_content s c) again = record { was = s; there = there; grows = grows } in
           subst (λ u. Was s.grant subs u again) is last
@@ -133,14 +150,20 @@ module _ (s : SubOf) (c : Content) (subs : List SubOf) (again : List ReadiedOf) 
   }
 
 -- a subcomputation is dropped, or has another host
-settled_follows : (s : SubOf) (subs : List SubOf) → AreWhole subs → IsWhole s → sub_in s.grant subs ≡ Some s → (host : Option ℕ) → Follows subs (sub_settled s host subs).subs (sub_settled s host subs).again
+settled_follows : (s : SubOf) (subs : List SubOf) → AreWhole subs → IsWhole s → sub_in s.grant subs ≡ Some s
+    → (host : Option ℕ) → Follows subs (sub_settled s host subs).subs (sub_settled s host subs).again
 settled_follows s subs whole here there None = without_follows s.grant subs whole
-settled_follows s subs whole here there (Some host) = put_follows s (with_parent host s.content) subs [] there (parent_grows host s.content) (λ g other. refl) whole (parent_whole host s here)
+settled_follows s subs whole here there (Some host) =
+    put_follows s (with_parent host s.content) subs [] there (parent_grows host s.content) (λ g other. refl) whole
+    (parent_whole host s here)
 
 -- the same of the one that is held under a grant, if any
-settle_keeps : (members : List Member) (g : Grant) (subs : List SubOf) → AreWhole subs → Follows subs (settle_sub members g subs).subs (settle_sub members g subs).again
-settle_keeps members g subs whole = some_follows (sub_in g subs) (λ s. sub_settled s (resolve members s.content.parent)) subs whole (λ s there.
-    settled_follows s subs whole (found_whole g s subs whole there) (found_itself g s subs there) (resolve members s.content.parent))
+settle_keeps : (members : List Member) (g : Grant) (subs : List SubOf) → AreWhole subs
+    → Follows subs (settle_sub members g subs).subs (settle_sub members g subs).again
+settle_keeps members g subs whole = some_follows (sub_in g subs)
+    (λ s. sub_settled s (resolve members s.content.parent)) subs whole (λ s there.
+    settled_follows s subs whole (found_whole g s subs whole there) (found_itself g s subs there)
+    (resolve members s.content.parent))
 
 -- a grant is the same as itself
 pub same_itself : (g : Grant) → same_grant g g ≡ true
@@ -154,7 +177,8 @@ told_itself g r = ap (λ b. cond b (r ∷ []) []) (same_itself g)
 told_other : (g h : Grant) (r : Readied) → (h ≡ g → ⊥) → told_of h (record { grant = g; frame = r } ∷ []) ≡ []
 told_other g h r other = by_first (nat_eq g.minter h.minter) refl (nat_eq g.number h.number) refl
   where
-    by_first : (a : Bool) → nat_eq g.minter h.minter ≡ a → (b : Bool) → nat_eq g.number h.number ≡ b → cond (a && b) (r ∷ []) [] ≡ []
+    by_first : (a : Bool) → nat_eq g.minter h.minter ≡ a → (b : Bool) → nat_eq g.number h.number ≡ b
+        → cond (a && b) (r ∷ []) [] ≡ []
     by_first true first true second =
         let minter = eqb-true g.minter h.minter first in
         let number = eqb-true g.number h.number second in
@@ -164,7 +188,9 @@ told_other g h r other = by_first (nat_eq g.minter h.minter) refl (nat_eq g.numb
     by_first false first b second = refl
 
 -- a record is closed and its frame ready again, or it has another holder
-record_follows : (s : SubOf) (r : Record) (subs : List SubOf) → AreWhole subs → IsWhole s → sub_in s.grant subs ≡ Some s → record_in r.grant s.content.records ≡ Some r → (holder : Option ℕ) → Follows subs (record_settled s r holder subs).subs (record_settled s r holder subs).again
+record_follows : (s : SubOf) (r : Record) (subs : List SubOf) → AreWhole subs → IsWhole s → sub_in s.grant subs ≡ Some s
+    → record_in r.grant s.content.records ≡ Some r → (holder : Option ℕ)
+    → Follows subs (record_settled s r holder subs).subs (record_settled s r holder subs).again
 record_follows s r subs whole here there found None =
     let told = told_itself s.grant (readied (frame_of r)) in
     put_follows s (redone r s.content) subs (record { grant = s.grant; frame = readied (frame_of r) } ∷ []) there
@@ -172,30 +198,41 @@ record_follows s r subs whole here there found None =
     (λ g other. told_other s.grant g (readied (frame_of r)) other)
     whole
     (redone_whole r s here found)
-record_follows s r subs whole here there found (Some holder) = put_follows s (with_thief r.grant holder s.content) subs [] there (thief_grows r.grant holder s.content) (λ g other. refl) whole (thief_whole r.grant holder s here)
+record_follows s r subs whole here there found (Some holder) =
+    put_follows s (with_thief r.grant holder s.content) subs [] there (thief_grows r.grant holder s.content)
+    (λ g other. refl) whole (thief_whole r.grant holder s here)
 
 -- a record, by who has the work of its holder
 abbrev settle : List Member → SubOf → Record → List SubOf → Recovery
 settle members s r = record_settled s r (resolve members r.holder)
 
 -- the same of the record that is held under a grant, if any
-settle_record_keeps : (members : List Member) (g : Grant) (subs : List SubOf) → AreWhole subs → Follows subs (settle_record members g subs).subs (settle_record members g subs).again
-settle_record_keeps members g subs whole = some_follows (host_in g subs) (λ s. for_some (record_in g s.content.records) (settle members s)) subs whole (λ s host.
+settle_record_keeps : (members : List Member) (g : Grant) (subs : List SubOf) → AreWhole subs
+    → Follows subs (settle_record members g subs).subs (settle_record members g subs).again
+settle_record_keeps members g subs whole =
+    some_follows (host_in g subs) (λ s. for_some (record_in g s.content.records) (settle members s)) subs whole
+    (λ s host.
     let there : sub_in s.grant subs ≡ Some s = found_by name_of_sub (has_record g) s subs whole.order host in
     some_follows (record_in g s.content.records) (settle members s) subs whole (λ r found.
-    let itself : record_in r.grant s.content.records ≡ Some r = subst (λ n. item_in name_of_record n s.content.records ≡ Some r) (found_name name_of_record (name_of_grant g) r s.content.records found) found in
+    let itself : record_in r.grant s.content.records ≡ Some r =
+    subst (λ n. item_in name_of_record n s.content.records ≡ Some r)
+    (found_name name_of_record (name_of_grant g) r s.content.records found) found in
     record_follows s r subs whole (found_whole s.grant s subs whole there) there itself (resolve members r.holder)))
 
 -- recovery is such parts in turn
-pub recovered_follows : (members : List Member) (grants : List Grant) (subs : List SubOf) → AreWhole subs → Follows subs (recovered members grants subs).subs (recovered members grants subs).again
+pub recovered_follows : (members : List Member) (grants : List Grant) (subs : List SubOf) → AreWhole subs
+    → Follows subs (recovered members grants subs).subs (recovered members grants subs).again
 recovered_follows members grants subs whole =
     let first = each_keeps (settle_sub members) (settle_keeps members) grants subs whole in
     let left = (for_each (settle_sub members) grants subs).subs in
     let last = for_each (settle_record members) (their_records grants left) left in
-    follows_on subs left last.subs (for_each (settle_sub members) grants subs).again last.again first (each_keeps (settle_record members) (settle_record_keeps members) (their_records grants left) left first.whole)
+    follows_on subs left last.subs (for_each (settle_sub members) grants subs).again last.again first
+    (each_keeps (settle_record members) (settle_record_keeps members) (their_records grants left) left first.whole)
 
 -- of what is left is told what became ready in it
-pub recovered_left : (members : List Member) (subs : List SubOf) → AreWhole subs → (g : Grant) (s : SubOf) → sub_in g (recovered members (grants_of_subs subs) subs).subs ≡ Some s → IsLeft g subs s (recovered members (grants_of_subs subs) subs).again
+pub recovered_left : (members : List Member) (subs : List SubOf) → AreWhole subs → (g : Grant) (s : SubOf)
+    → sub_in g (recovered members (grants_of_subs subs) subs).subs ≡ Some s
+    → IsLeft g subs s (recovered members (grants_of_subs subs) subs).again
 recovered_left members subs whole g s there =
     let follows = recovered_follows members (grants_of_subs subs) subs whole in
     let was = follows.each g s there in
@@ -203,7 +240,8 @@ recovered_left members subs whole g s there =
     record {
       was = was.was;
       there = was.there;
-      ready = tells was.was.content s.content (told_of g (recovered members (grants_of_subs subs) subs).again) here.frames was.grows;
+      ready = tells was.was.content s.content
+          (told_of g (recovered members (grants_of_subs subs) subs).again) here.frames was.grows;
       records = was.grows.records;
       fits = was.grows.fits;
     }

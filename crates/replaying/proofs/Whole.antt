@@ -15,7 +15,15 @@ pub whole : (job : JobOf) (events : List Event) (done : ℕ) (stopped : Option N
 whole job events done stopped v none replay =
     let r : IsReplay job events done None v = subst (λ s. IsReplay job events done s v) none replay in
     record {
-      run = record { disk = r.run.disk; formatted = r.run.formatted; entries = r.run.entries; worlds = r.run.worlds; runs = r.run.runs; carried = r.run.carried; ends = r.run.ends };
+      run = record {
+        disk = r.run.disk;
+        formatted = r.run.formatted;
+        entries = r.run.entries;
+        worlds = r.run.worlds;
+        runs = r.run.runs;
+        carried = r.run.carried;
+        ends = r.run.ends;
+      };
       safe = r.safe;
       last = r.last;
       openings = r.openings;

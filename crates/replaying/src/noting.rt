@@ -24,7 +24,7 @@ struct Noting<'p> {
 }
 
 impl<'p> Watch for Noting<'p> {
-    fn sees(&mut self, _alloc: Global, _event: &Event, _told: EventAnswer, world: &World<'_>) {
+    fn see(&mut self, _alloc: Global, _event: &Event, _told: EventAnswer, world: &World<'_>) {
         self.events = self.events.saturating_add(1);
         self.progress.notes(self.events, world.packets() as u64);
     }

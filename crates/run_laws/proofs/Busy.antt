@@ -33,18 +33,22 @@ is_over Active o e = cc
 is_over (Finished x) o e = tt
 
 -- a sub that has work shows one that has
-has_work : (t : Sub) (x : SubOf) → IsShown t x → ((o : Option ℤ) × (t.content.outcome ≡ Some o)) ⊎ tables.ReadyInTables t.content → HasWork x
+has_work : (t : Sub) (x : SubOf) → IsShown t x
+    → ((o : Option ℤ) × (t.content.outcome ≡ Some o)) ⊎ tables.ReadyInTables t.content → HasWork x
 has_work t x is (inl over) = inl (is_over x.content.progress over.0 (sym is.content.outcome ∙ over.1))
 has_work t x is (inr ready) = inr (ready.frame, ready_there t.content x.content is.kept is.content ready)
 
-module _ (job : JobOf) (v : View) (w : WorldOf) (shown : Shown job v w) (reached : ReachedInTables v) (h : HouseOf) (s : OpenShown v h) (root : RootGrant) (out : h.root ≡ Some root) where
+module _ (job : JobOf) (v : View) (w : WorldOf) (shown : Shown job v w) (reached : ReachedInTables v) (h : HouseOf)
+    (s : OpenShown v h) (root : RootGrant) (out : h.root ≡ Some root) where
   -- a grant of a record that tables have is wanted if its host is
-  record_wanted : (host g : Grant) (i n : ℕ) (t : Sub) → Wanted w h host → Live v i host t → t.content.granted n ≡ Some g → Wanted w h g
+  record_wanted : (host g : Grant) (i n : ℕ) (t : Sub) → Wanted w h host → Live v i host t
+      → t.content.granted n ≡ Some g → Wanted w h g
   record_wanted host g i n t wanted there is =
       let held : HeldLive w host t = held_live job v w shown i host t there in
       let found = granted_there t.content held.holder.sub.content n g held.shown.kept held.shown.content is in
       let own : g ≡ found.0.grant = own_grant g found.0 held.holder.sub.content.records found.1 in
-      let at : record_in found.0.grant held.holder.sub.content.records ≡ Some found.0 = ap (λ (k : Grant). record_in k held.holder.sub.content.records) (sym own) ∙ found.1 in
+      let at : record_in found.0.grant held.holder.sub.content.records ≡ Some found.0 =
+      ap (λ (k : Grant). record_in k held.holder.sub.content.records) (sym own) ∙ found.1 in
       rw own (of_record wanted held.holder at)
 
   -- what is wanted in the tables is so in the world
@@ -53,7 +57,8 @@ module _ (job : JobOf) (v : View) (w : WorldOf) (shown : Shown job v w) (reached
       let same : root.grant ≡ k = some_same (sym (root_there v h s root out) ∙ is) in
       let first : Wanted w h root.grant = of_root out in
       rw same at first
-  wanted_there g (tables.as_record host k i t n wanted there is) = record_wanted host k i n t (wanted_there host wanted) there is
+  wanted_there g (tables.as_record host k i t n wanted there is) =
+      record_wanted host k i n t (wanted_there host wanted) there is
 
   -- who holds a grant live does so in the tables
   holds_there : (g : Grant) → IsLive w g → tables.HasHolder v g
@@ -64,6 +69,14 @@ module _ (job : JobOf) (v : View) (w : WorldOf) (shown : Shown job v w) (reached
 
   pub some_work : ((g : Grant) → Wanted w h g → IsLive w g) → SomeWork w h
   some_work all =
-      let found : tables.Working v = work_somewhere v root.grant reached (root_there v h s root out) (λ g wanted. holds_there g (all g (wanted_there g wanted))) in
-      let held : HeldLive w found.grant found.holder.sub = held_live job v w shown found.holder.name found.grant found.holder.sub found.holder.live in
-      record { grant = found.grant; wanted = wanted_there found.grant found.wanted; at = held.at; holder = held.holder; work = has_work found.holder.sub held.holder.sub held.shown found.work }
+      let found : tables.Working v = work_somewhere v root.grant reached (root_there v h s root out)
+      (λ g wanted. holds_there g (all g (wanted_there g wanted))) in
+      let held : HeldLive w found.grant found.holder.sub =
+      held_live job v w shown found.holder.name found.grant found.holder.sub found.holder.live in
+      record {
+        grant = found.grant;
+        wanted = wanted_there found.grant found.wanted;
+        at = held.at;
+        holder = held.holder;
+        work = has_work found.holder.sub held.holder.sub held.shown found.work;
+      }

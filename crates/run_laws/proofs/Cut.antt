@@ -36,14 +36,16 @@ ended h (Leaving r heir) f = absurd (f tt)
 ended h Ended f = tt
 
 -- who keeps a roster of an epoch before is behind
-behind_epoch : (epoch : ℕ) (o : Option Roster) (r : Roster) (q : Kept) → KeepsRoster o q → o ≡ Some r → r.epoch < epoch → q.epoch < epoch
+behind_epoch : (epoch : ℕ) (o : Option Roster) (r : Roster) (q : Kept) → KeepsRoster o q → o ≡ Some r → r.epoch < epoch
+    → q.epoch < epoch
 behind_epoch epoch o r q kept is less =
     let same : r ≡ kept.roster = some_same (sym is ∙ kept.is) in
     let own : r.epoch ≡ q.epoch = ap (λ (x : Roster). x.epoch) same ∙ kept.shows.epoch in
     omega (arith, own, less)
 
 -- one that joins keeps none
-before : (v : View) (h : HouseOf) (n : NodeOf) → NodeShown v n → Rosters v → (r : Roster) → v.roster n.incarnation ≡ Some r → r.epoch < h.epoch → IsBehind h n.state
+before : (v : View) (h : HouseOf) (n : NodeOf) → NodeShown v n → Rosters v → (r : Roster)
+    → v.roster n.incarnation ≡ Some r → r.epoch < h.epoch → IsBehind h n.state
 before v h n shown rosters r is less = by_state n.state refl
   where
     by_state : (x : Stage) → n.state ≡ x → IsBehind h x
@@ -57,7 +59,8 @@ before v h n shown rosters r is less = by_state n.state refl
     by_state Ended e = tt
 
 -- who is cut off from the open house's roster is cut off in the world
-pub is_cut : (job : JobOf) (v : View) (w : WorldOf) → Shown job v w → Rosters v → (h : HouseOf) (house : Roster) → ShowsRoster house (roster_of h) → (i : ℕ) → CutOff v house i → IsCutAt w h i
+pub is_cut : (job : JobOf) (v : View) (w : WorldOf) → Shown job v w → Rosters v → (h : HouseOf) (house : Roster)
+    → ShowsRoster house (roster_of h) → (i : ℕ) → CutOff v house i → IsCutAt w h i
 is_cut job v w shown rosters h house shows i cut = by_cut cut
   where
     status : house.status i ≡ status_of (status_in i (members_of h))
@@ -72,7 +75,8 @@ is_cut job v w shown rosters h house shows i cut = by_cut cut
         ended h n.state (λ up. idle (rw mode up))
 
     old : (r : Roster) → v.roster i ≡ Some r → r.epoch < house.epoch → IsGone w h i
-    old r kept less a n at name = before v h n (shown.nodes a n at) rosters r (ap v.roster name ∙ kept) (rw shows.epoch at less)
+    old r kept less a n at name = before v h n (shown.nodes a n at) rosters r (ap v.roster name
+        ∙ kept) (rw shows.epoch at less)
 
     by_cut : CutOff v house i → IsCutAt w h i
     by_cut (dead e) = inl (dead_of (status_in i (members_of h)) (sym status ∙ e))

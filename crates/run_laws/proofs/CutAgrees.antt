@@ -23,25 +23,56 @@ use Rattle.run_laws.specs.Shown.{Tied}
 use Rattle.run_laws.specs.Sound.{cut_world}
 use Rattle.run_laws.proofs.SentAgrees.{held_agrees, known_agrees, packet_agrees, stored_agrees}
 
-module _ (job : JobOf) (v : WorldOf) (tied : Tied job v) (right : WorldIsRight job v) (kept : (a : ℕ) (n : NodeOf) → node_in a v.nodes ≡ Some n → NodeKept job.number v.net n) where
+module _ (job : JobOf) (v : WorldOf) (tied : Tied job v) (right : WorldIsRight job v) (kept : (a : ℕ) (n : NodeOf)
+    → node_in a v.nodes ≡ Some n → NodeKept job.number v.net n) where
   -- Grants go as they are
   granted_whole : (g : Grant) (t : Task) → WasGranted job (cut_all v.net) g t → WasGranted job v.net g t
   granted_whole g t was =
-      let p : PacketOf = record { job = job.number; to = was.to; body = body.Grant (record { seq = was.seq; grant = g; task = t; saved = was.saved }) } in
+      let p : PacketOf = record {
+        job = job.number;
+        to = was.to;
+        body = body.Grant (record { seq = was.seq; grant = g; task = t; saved = was.saved });
+      } in
       ⊎_elim
-      (λ whole. (let at = placed v.net p whole in record { at = at.at; to = was.to; seq = was.seq; saved = was.saved; sent = at.is }))
-      (λ (k : IsPieceOf v.net p). absurd (let two : p.body ≡ body.Piece (piece_at k.offer (packet.write k.whole) k.index) = ap (λ (q : PacketOf). q.body) k.is in cc))
+      (λ whole. (let at = placed v.net p whole in record {
+        at = at.at;
+        to = was.to;
+        seq = was.seq;
+        saved = was.saved;
+        sent = at.is;
+      }))
+      (λ (k : IsPieceOf v.net p). absurd (let two : p.body
+      ≡ body.Piece (piece_at k.offer (packet.write k.whole) k.index) = ap (λ (q : PacketOf). q.body) k.is in cc))
       (arrives v.net p (got (cut_all v.net) was.at p was.sent))
 
   granted_cut : (g : Grant) (t : Task) → WasGranted job v.net g t → WasGranted job (cut_all v.net) g t
   granted_cut g t was =
-      let p : PacketOf = record { job = job.number; to = was.to; body = body.Grant (record { seq = was.seq; grant = g; task = t; saved = was.saved }) } in
+      let p : PacketOf = record {
+        job = job.number;
+        to = was.to;
+        body = body.Grant (record { seq = was.seq; grant = g; task = t; saved = was.saved });
+      } in
       by_what p was (goes v.net p (got v.net was.at p was.sent)) refl
     where
-      by_what : (p : PacketOf) → (was : WasGranted job v.net g t) → (x : Went (cut_all v.net) p) → p ≡ record { job = job.number; to = was.to; body = body.Grant (record { seq = was.seq; grant = g; task = t; saved = was.saved }) } → WasGranted job (cut_all v.net) g t
+      by_what : (p : PacketOf) → (was : WasGranted job v.net g t) → (x : Went (cut_all v.net) p)
+          → p ≡ record {
+            job = job.number;
+            to = was.to;
+            body = body.Grant (record { seq = was.seq; grant = g; task = t; saved = was.saved });
+          }
+          → WasGranted job (cut_all v.net) g t
       by_what p was x is = ⊎_elim
-          (λ same. (let at = placed (cut_all v.net) x.sent x.there in record { at = at.at; to = was.to; seq = was.seq; saved = was.saved; sent = at.is ∙ ap Some (same ∙ is) }))
-          (λ (k : (o : Offer) × (p.body ≡ body.Offer o) × (x.sent.body ≡ body.Piece (piece_at o (packet.write p) 0))). absurd (let two : body.Grant (record { seq = was.seq; grant = g; task = t; saved = was.saved }) ≡ body.Offer k.0 = sym (ap (λ (q : PacketOf). q.body) is) ∙ k.1 in cc))
+          (λ same. (let at = placed (cut_all v.net) x.sent x.there in record {
+            at = at.at;
+            to = was.to;
+            seq = was.seq;
+            saved = was.saved;
+            sent = at.is ∙ ap Some (same ∙ is);
+          }))
+          (λ (k : (o : Offer) × (p.body ≡ body.Offer o)
+          × (x.sent.body ≡ body.Piece (piece_at o (packet.write p) 0))). absurd
+          (let two : body.Grant (record { seq = was.seq; grant = g; task = t; saved = was.saved })
+          ≡ body.Offer k.0 = sym (ap (λ (q : PacketOf). q.body) is) ∙ k.1 in cc))
           x.what
 
   body_cut : (x : Body) → BodyAgrees job v.net x → BodyAgrees job (cut_all v.net) x
@@ -65,7 +96,17 @@ module _ (job : JobOf) (v : WorldOf) (tied : Tied job v) (right : WorldIsRight j
   piece_of_right p k =
       let whole = right.net k.whole k.there in
       let offers : IsRight job (offered k.offer).content = rw k.says at whole in
-      let agrees : PieceAgrees job (piece_at k.offer (packet.write k.whole) k.index) = record { whole = k.whole; offer = k.offer; index = k.index; says = k.says; large = k.large; below = k.below; is = refl; agrees = offers.agrees } in
+      let agrees : PieceAgrees job (piece_at k.offer (packet.write k.whole) k.index) =
+      record {
+        whole = k.whole;
+        offer = k.offer;
+        index = k.index;
+        says = k.says;
+        large = k.large;
+        below = k.below;
+        is = refl;
+        agrees = offers.agrees;
+      } in
       rw (ap (λ (q : PacketOf). q.body) k.is) agrees
 
   pub cut_agrees : Agrees job (cut_world v)
@@ -74,11 +115,14 @@ module _ (job : JobOf) (v : WorldOf) (tied : Tied job v) (right : WorldIsRight j
         (λ whole. body_cut p.body (packet_agrees job v tied right p whole))
         (λ piece. piece_of_right p piece)
         (arrives v.net p (got (cut_all v.net) i p e));
-    held = λ a g at. (let here : Holder v a g = record { node = at.node; sub = at.sub; up = at.up; live = at.live } in held_agrees job v tied right a g here);
-    known = λ a g at. (let here : Holder v a g = record { node = at.node; sub = at.sub; up = at.up; live = at.live } in known_agrees job v tied right a g here);
+    held = λ a g at. (let here : Holder v a g =
+        record { node = at.node; sub = at.sub; up = at.up; live = at.live } in held_agrees job v tied right a g here);
+    known = λ a g at. (let here : Holder v a g =
+        record { node = at.node; sub = at.sub; up = at.up; live = at.live } in known_agrees job v tied right a g here);
     stored = stored_agrees job v tied;
     parts = λ a i j n x y up of there. (
-        let came : came_in job.number n.incarnation x y ∈ cut_all v.net = ((kept a n up).parts x (got n.assemblies i x of)).each y (got x.parts j y there) in
+        let came : came_in job.number n.incarnation x y ∈ cut_all v.net =
+        ((kept a n up).parts x (got n.assemblies i x of)).each y (got x.parts j y there) in
         let at = placed (cut_all v.net) (came_in job.number n.incarnation x y) came in
         record { at = at.at; sent = at.is });
   }

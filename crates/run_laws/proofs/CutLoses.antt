@@ -34,11 +34,25 @@ module _ (v : WorldOf) where
 
       by_what : Went (cut_all v.net) was.packet → WasSent w g i
       by_what x = ⊎_elim
-          (λ same. (let at = placed (cut_all v.net) x.sent x.there in record { at = at.at; packet = x.sent; sent = at.is; transfer = subst (λ (p : PacketOf). IsTransfer g p.body) (sym same) was.transfer; to = x.to ∙ was.to }))
-          (λ (k : (o : Offer) × (was.packet.body ≡ body.Offer o) × (x.sent.body ≡ body.Piece (piece_at o (packet.write was.packet) 0))). (
+          (λ same. (let at = placed (cut_all v.net) x.sent x.there in record {
+            at = at.at;
+            packet = x.sent;
+            sent = at.is;
+            transfer = subst (λ (p : PacketOf). IsTransfer g p.body) (sym same) was.transfer;
+            to = x.to ∙ was.to;
+          }))
+          (λ (k : (o : Offer) × (was.packet.body ≡ body.Offer o)
+          × (x.sent.body ≡ body.Piece (piece_at o (packet.write was.packet) 0))). (
           let at = placed (cut_all v.net) x.sent x.there in
-          let its : IsTransfer g (body.Piece (piece_at k.0 (packet.write was.packet) 0)) = of_offer k.0 was.packet.body k.1 was.transfer in
-          record { at = at.at; packet = x.sent; sent = at.is; transfer = subst (λ (b : Body). IsTransfer g b) (sym k.2) its; to = x.to ∙ was.to }))
+          let its : IsTransfer g (body.Piece (piece_at k.0 (packet.write was.packet) 0)) =
+          of_offer k.0 was.packet.body k.1 was.transfer in
+          record {
+            at = at.at;
+            packet = x.sent;
+            sent = at.is;
+            transfer = subst (λ (b : Body). IsTransfer g b) (sym k.2) its;
+            to = x.to ∙ was.to;
+          }))
           x.what
 
   awaited_out : (g : Grant) → IsAwaited v g → IsAwaited w g
@@ -49,25 +63,48 @@ module _ (v : WorldOf) where
 
       by_what : Went (cut_all v.net) is.packet → IsAwaited w g
       by_what x = ⊎_elim
-          (λ same. (let at = placed (cut_all v.net) x.sent x.there in record { at = is.at; node = is.node; request = is.request; number = at.at; packet = is.packet; up = is.up; pending = is.pending; sent = at.is ∙ ap Some same; to = is.to; answers = is.answers }))
-          (λ (k : (o : Offer) × (is.packet.body ≡ body.Offer o) × (x.sent.body ≡ body.Piece (piece_at o (packet.write is.packet) 0))). absurd (no_offer is.request k.0 is.packet.body k.1 is.answers))
+          (λ same. (let at = placed (cut_all v.net) x.sent x.there in record {
+            at = is.at;
+            node = is.node;
+            request = is.request;
+            number = at.at;
+            packet = is.packet;
+            up = is.up;
+            pending = is.pending;
+            sent = at.is ∙ ap Some same;
+            to = is.to;
+            answers = is.answers;
+          }))
+          (λ (k : (o : Offer) × (is.packet.body ≡ body.Offer o)
+          × (x.sent.body ≡ body.Piece (piece_at o (packet.write is.packet) 0))). absurd
+          (no_offer is.request k.0 is.packet.body k.1 is.answers))
           x.what
 
   frozen_out : (g : Grant) → IsFrozen v g → IsFrozen w g
-  frozen_out g is = record { at = is.at; node = is.node; sub = is.sub; up = is.up; leaving = is.leaving; held = is.held }
+  frozen_out g is = record {
+    at = is.at;
+    node = is.node;
+    sub = is.sub;
+    up = is.up;
+    leaving = is.leaving;
+    held = is.held;
+  }
 
   carried_out : (g : Grant) (i : ℕ) → Carried v g i → Carried w g i
   carried_out g _ (itself {i = i} s) = itself (sent_out g i s)
-  carried_out g _ (its_host {host = host} {a = a} {i = i} {r = r} at e s) = its_host (holder_out a host at) e (sent_out host i s)
+  carried_out g _ (its_host {host = host} {a = a} {i = i} {r = r} at e s) =
+      its_host (holder_out a host at) e (sent_out host i s)
 
   module _ (h : HouseOf) where
     wanted_in : (g : Grant) → Wanted w h g → Wanted v h g
     wanted_in _ (of_root {r = r} e) = of_root e
-    wanted_in _ (of_record {host = host} {a = a} {r = r} up at e) = of_record (wanted_in host up) (holder_in a host at) e
+    wanted_in _ (of_record {host = host} {a = a} {r = r} up at e) =
+        of_record (wanted_in host up) (holder_in a host at) e
 
     wanted_out : (g : Grant) → Wanted v h g → Wanted w h g
     wanted_out _ (of_root {r = r} e) = of_root e
-    wanted_out _ (of_record {host = host} {a = a} {r = r} up at e) = of_record (wanted_out host up) (holder_out a host at) e
+    wanted_out _ (of_record {host = host} {a = a} {r = r} up at e) =
+        of_record (wanted_out host up) (holder_out a host at) e
 
     found_out : (g : Grant) → Found v h g → Found w h g
     found_out g (live (a, at)) = live (a, holder_out a g at)
@@ -76,12 +113,19 @@ module _ (v : WorldOf) where
     found_out g (cut_off (i, carried, at)) = cut_off (i, carried_out g i carried, at)
 
     some_out : SomeWork v h → SomeWork w h
-    some_out s = record { grant = s.grant; wanted = wanted_out s.grant s.wanted; at = s.at; holder = holder_out s.at s.grant s.holder; work = s.work }
+    some_out s = record {
+      grant = s.grant;
+      wanted = wanted_out s.grant s.wanted;
+      at = s.at;
+      holder = holder_out s.at s.grant s.holder;
+      work = s.work;
+    }
 
     is_found : IsFound v h → IsFound w h
     is_found f = record {
       found = λ g wanted. found_out g (f.found g (wanted_in g wanted));
-      some = λ alive. some_out (f.some (λ g wanted. (let x : IsLive w g = alive g (wanted_out g wanted) in (x.0, holder_in x.0 g x.1))));
+      some = λ alive. some_out (f.some (λ g wanted. (let x : IsLive w g =
+          alive g (wanted_out g wanted) in (x.0, holder_in x.0 g x.1))));
     }
 
   pub cut_loses : NothingLost v → NothingLost w

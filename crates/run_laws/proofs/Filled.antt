@@ -19,24 +19,38 @@ once_before [] before o = o
 once_before (f ∷ fs) before o = (once_before fs (shown_fill f ∷ before) o).1
 
 -- a later fill isn't of a slot before
-later_apart : (fs : List Fill) (before : List tables.Fill) → Once (shown_fills fs before) → (f : Fill) → f ∈ fs → (y : tables.Fill) → y ∈ before → SameSlot (shown_fill f) y → ⊥
+later_apart : (fs : List Fill) (before : List tables.Fill) → Once (shown_fills fs before) → (f : Fill) → f ∈ fs
+    → (y : tables.Fill) → y ∈ before → SameSlot (shown_fill f) y → ⊥
 later_apart [] before o f m y k = absurd m
-later_apart (x ∷ fs) before o f (inl e) y k = λ same. (once_before fs (shown_fill x ∷ before) o).0 y k (record { grant = ap (λ (z : Fill). z.grant) (sym e) ∙ same.grant; frame = ap (λ (z : Fill). z.frame) (sym e) ∙ same.frame; slot = ap (λ (z : Fill). z.slot) (sym e) ∙ same.slot })
+later_apart (x ∷ fs) before o f (inl e) y k =
+    λ same. (once_before fs (shown_fill x ∷ before) o).0 y k
+    (record {
+      grant = ap (λ (z : Fill). z.grant) (sym e) ∙ same.grant;
+      frame = ap (λ (z : Fill). z.frame) (sym e) ∙ same.frame;
+      slot = ap (λ (z : Fill). z.slot) (sym e) ∙ same.slot;
+    })
 later_apart (x ∷ fs) before o f (inr m) y k = later_apart fs (shown_fill x ∷ before) o f m y (inr k)
 
 same_slot : (f g : Fill) → slot_of f ≡ slot_of g → SameSlot (shown_fill f) (shown_fill g)
-same_slot f g e = record { grant = ap (λ (s : SlotName). s.grant) e; frame = ap (λ (s : SlotName). s.frame) e; slot = ap (λ (s : SlotName). s.slot) e }
+same_slot f g e = record {
+  grant = ap (λ (s : SlotName). s.grant) e;
+  frame = ap (λ (s : SlotName). s.frame) e;
+  slot = ap (λ (s : SlotName). s.slot) e;
+}
 
 once_by_place : (fs : List Fill) (before : List tables.Fill) → Once (shown_fills fs before) → FilledOnce fs
 once_by_place [] before o i j f g a b e = absurd (got [] i f a)
 once_by_place (x ∷ fs) before o zero zero f g a b e = refl
 once_by_place (x ∷ fs) before o zero (suc j) f g a b e =
     let is : x ≡ f = cc in
-    absurd (later_apart fs (shown_fill x ∷ before) o g (got fs j g b) (shown_fill x) (inl refl) (same_slot g x (sym e ∙ ap slot_of (sym is))))
+    absurd (later_apart fs (shown_fill x ∷ before) o g (got fs j g b) (shown_fill x) (inl refl)
+    (same_slot g x (sym e ∙ ap slot_of (sym is))))
 once_by_place (x ∷ fs) before o (suc i) zero f g a b e =
     let is : x ≡ g = cc in
-    absurd (later_apart fs (shown_fill x ∷ before) o f (got fs i f a) (shown_fill x) (inl refl) (same_slot f x (e ∙ ap slot_of (sym is))))
-once_by_place (x ∷ fs) before o (suc i) (suc j) f g a b e = ap suc (once_by_place fs (shown_fill x ∷ before) o i j f g a b e)
+    absurd (later_apart fs (shown_fill x ∷ before) o f (got fs i f a) (shown_fill x) (inl refl)
+    (same_slot f x (e ∙ ap slot_of (sym is))))
+once_by_place (x ∷ fs) before o (suc i) (suc j) f g a b e =
+    ap suc (once_by_place fs (shown_fill x ∷ before) o i j f g a b e)
 
 pub filled_once : (job : JobOf) (w : WorldOf) → Tied job w → FilledOnce w.fills
 filled_once job w tied =

@@ -42,8 +42,11 @@ module _ (job : JobOf) (v : View) (w : WorldOf) (disk : DiskShown job v w.disk w
   reads : ReadsAsStore (bytes_of w.disk.file) disk.sequence disk.found
   reads = (disk.keeps.slot, disk.keeps.each (bytes_of w.disk.file) (crash-leaves-bytes_of w.disk.file))
 
-  not_refused : (s : StoreError) → IsRefused s (bytes_of w.disk.file) job.number → finds_none (Some (error_of_store s)) ≡ false
-  not_refused Version (named, other) = absurd (other (version_of (bytes_of w.disk.file) disk.keeps.slot disk.sequence disk.found (disk.keeps.each (bytes_of w.disk.file) (crash-leaves-bytes_of w.disk.file))))
+  not_refused : (s : StoreError) → IsRefused s (bytes_of w.disk.file) job.number
+      → finds_none (Some (error_of_store s)) ≡ false
+  not_refused Version (named, other) =
+      absurd (other (version_of (bytes_of w.disk.file) disk.keeps.slot disk.sequence disk.found
+      (disk.keeps.each (bytes_of w.disk.file) (crash-leaves-bytes_of w.disk.file))))
   not_refused Damaged (known, none) = absurd (none disk.sequence disk.found reads)
   not_refused JobMismatch (n, r, read, other) =
       let one = one_kept w.disk.file read.0 n disk.sequence r disk.found read.1 disk.keeps in
@@ -69,7 +72,8 @@ module _ (job : JobOf) (v : View) (w : WorldOf) (disk : DiskShown job v w.disk w
   ends_find (IsUp (Stopped s)) o ended = restart_finds o ended
   ends_find (IsUp (Open h)) o same = rw same refl
 
-  halts_find : (x : HouseAt) (k : ℕ) (bytes : List ℕ) (o : StepResult) → HouseHalts job Restart x k bytes w o → FindsItsStore o.answer
+  halts_find : (x : HouseAt) (k : ℕ) (bytes : List ℕ) (o : StepResult) → HouseHalts job Restart x k bytes w o
+      → FindsItsStore o.answer
   halts_find Down k bytes o halts = halted_finds k bytes o halts
   halts_find (IsUp (Stopped s)) k bytes o halts = halted_finds k bytes o halts
   halts_find (IsUp (Open h)) k bytes o never = absurd never
@@ -78,16 +82,20 @@ module _ (job : JobOf) (v : View) (w : WorldOf) (disk : DiskShown job v w.disk w
   cut_finds : (c : CutOf) (o : StepResult) → c.event ≡ Restart → IsCut job c w o → FindsItsStore o.answer
   cut_finds c o is (inl (unfit, same)) = rw same refl
   cut_finds c o is (inr (can, applies, inl (n, makes, few, (before, ended, after)))) =
-      rw after (stopped_finds before.answer (ends_find w.house before (subst (λ (e : HouseEvent). HouseEnds job e w.house w before) is ended)))
+      rw after (stopped_finds before.answer
+      (ends_find w.house before (subst (λ (e : HouseEvent). HouseEnds job e w.house w before) is ended)))
   cut_finds c o is (inr (can, applies, inr (before, halts, after))) =
-      rw after (stopped_finds before.answer (halts_find w.house c.calls c.bytes before (subst (λ (e : HouseEvent). HouseHalts job e w.house c.calls c.bytes w before) is halts)))
+      rw after (stopped_finds before.answer
+      (halts_find w.house c.calls c.bytes before
+      (subst (λ (e : HouseEvent). HouseHalts job e w.house c.calls c.bytes w before) is halts)))
 
   at_house : (e : HouseEvent) (o : StepResult) → HouseEnds job e w.house w o → FindsAt e o.answer
   at_house (Deliver i) o ended = tt
   at_house (Tick now) o ended = tt
   at_house Restart o ended = ends_find w.house o ended
 
-  at_house_fails : (e : HouseEvent) (k : ℕ) (bytes : List ℕ) (o : StepResult) → HouseHalts job e w.house k bytes w o → FindsAt e o.answer
+  at_house_fails : (e : HouseEvent) (k : ℕ) (bytes : List ℕ) (o : StepResult) → HouseHalts job e w.house k bytes w o
+      → FindsAt e o.answer
   at_house_fails (Deliver i) k bytes o halts = tt
   at_house_fails (Tick now) k bytes o halts = tt
   at_house_fails Restart k bytes o halts = halts_find w.house k bytes o halts
@@ -97,11 +105,14 @@ module _ (job : JobOf) (v : View) (w : WorldOf) (disk : DiskShown job v w.disk w
   at_cut c o (Tick now) is cut = tt
   at_cut c o Restart is cut = cut_finds c o is cut
 
-  at_cut_fails : (c : CutOf) (o : StepResult) (e : HouseEvent) → c.event ≡ e → DeviceFails job (Cut c) w o → FindsAt e o.answer
+  at_cut_fails : (c : CutOf) (o : StepResult) (e : HouseEvent) → c.event ≡ e → DeviceFails job (Cut c) w o
+      → FindsAt e o.answer
   at_cut_fails c o (Deliver i) is fails = tt
   at_cut_fails c o (Tick now) is fails = tt
   at_cut_fails c o Restart is (can, opens, k, first, some, (before, halts, after)) =
-      rw after (stopped_finds before.answer (halts_find w.house k c.bytes before (subst (λ (e : HouseEvent). HouseHalts job e w.house k c.bytes w before) is halts)))
+      rw after (stopped_finds before.answer
+      (halts_find w.house k c.bytes before
+      (subst (λ (e : HouseEvent). HouseHalts job e w.house k c.bytes w before) is halts)))
 
   step_finds : (e : Event) (o : StepResult) → Step job e w o → OpeningFinds e o.answer
   step_finds (Start p word) o step = tt
@@ -114,12 +125,19 @@ module _ (job : JobOf) (v : View) (w : WorldOf) (disk : DiskShown job v w.disk w
   step_finds (Cut c) o (inr fails) = at_cut_fails c o c.event refl fails
 
 -- the disk is that of the world of whole packets
-sound_finds : (job : JobOf) (w : WorldOf) → IsSound job w → (e : Event) (o : StepResult) → Step job e w o → OpeningFinds e o.answer
-sound_finds job w sound e o step = step_finds job sound.tied.view w (subst (λ (x : WorldOf). DiskShown job sound.tied.view x.disk x.house) (sym sound.from.cut) sound.tied.shown.disk) e o step
+sound_finds : (job : JobOf) (w : WorldOf) → IsSound job w → (e : Event) (o : StepResult) → Step job e w o
+    → OpeningFinds e o.answer
+sound_finds job w sound e o step = step_finds job sound.tied.view w
+    (subst (λ (x : WorldOf). DiskShown job sound.tied.view x.disk x.house) (sym sound.from.cut) sound.tied.shown.disk) e
+    o step
 
 -- so do those of a run
-pub openings_find : (job : JobOf) → IsJob job → (w : WorldOf) (entries : List Entry) (worlds : List WorldOf) → Runs job w entries worlds → IsSound job w → (x : Entry) → x ∈ entries → OpeningFinds x.event x.answer
+pub openings_find : (job : JobOf) → IsJob job → (w : WorldOf) (entries : List Entry) (worlds : List WorldOf)
+    → Runs job w entries worlds → IsSound job w → (x : Entry) → x ∈ entries → OpeningFinds x.event x.answer
 openings_find job ok w _ _ (ends) sound x never = absurd never
-openings_find job ok w _ _ (goes {v = v} {e = e} {entries = entries} {worlds = worlds} step rest) sound x (inl same) = rw same (sound_finds job w sound e.event (record { world = v; answer = e.answer }) step)
+openings_find job ok w _ _ (goes {v = v} {e = e} {entries = entries} {worlds = worlds} step rest) sound x (inl same) =
+    rw same (sound_finds job w sound e.event (record { world = v; answer = e.answer }) step)
 openings_find job ok w _ _ (goes {v = v} {e = e} {entries = entries} {worlds = worlds} step rest) sound x (inr later) =
-    openings_find job ok v entries worlds rest (sound_of (step_sound job ok sound.tied.view w (sound_here sound) e.event (record { world = v; answer = e.answer }) step)) x later
+    openings_find job ok v entries worlds rest
+    (sound_of (step_sound job ok sound.tied.view w (sound_here sound) e.event
+    (record { world = v; answer = e.answer }) step)) x later

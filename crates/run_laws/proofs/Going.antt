@@ -16,17 +16,21 @@ use Rattle.run_laws.proofs.Wholes.{whole_step}
 
 module _ (job : JobOf) (ok : IsJob job) where
   -- a step
-  pub step_sound : (base : View) (w : WorldOf) → SoundSince job base w → (e : Event) (o : StepResult) → Step job e w o → SoundSince job base o.world
-  step_sound base w s e o step = whole_step job ok base s.whole s.from.one s.from.kept s.tied s.right e o (subst (λ (x : WorldOf). Step job e x o) s.from.cut step)
+  pub step_sound : (base : View) (w : WorldOf) → SoundSince job base w → (e : Event) (o : StepResult) → Step job e w o
+      → SoundSince job base o.world
+  step_sound base w s e o step = whole_step job ok base s.whole s.from.one s.from.kept s.tied s.right e o
+      (subst (λ (x : WorldOf). Step job e x o) s.from.cut step)
 
   -- a run
-  pub runs_sound : (base : View) (w : WorldOf) (entries : List Entry) (worlds : List WorldOf) → Runs job w entries worlds → SoundSince job base w → (v : WorldOf) → v ∈ worlds → SoundSince job base v
+  pub runs_sound : (base : View) (w : WorldOf) (entries : List Entry) (worlds : List WorldOf)
+      → Runs job w entries worlds → SoundSince job base w → (v : WorldOf) → v ∈ worlds → SoundSince job base v
   runs_sound base _ _ _ (ends {w = w}) s v m = absurd m
   runs_sound base _ _ _ (goes {w = w} {v = x} {e = e} {entries = entries} {worlds = worlds} step rest) s v m =
       let next : SoundSince job base x = step_sound base w s e.event (record { world = x; answer = e.answer }) step in
       by_place next (runs_sound base x entries worlds rest next v) m
     where
-      by_place : SoundSince job base x → (v ∈ worlds → SoundSince job base v) → (v ≡ x) ⊎ (v ∈ worlds) → SoundSince job base v
+      by_place : SoundSince job base x → (v ∈ worlds → SoundSince job base v) → (v ≡ x) ⊎ (v ∈ worlds)
+          → SoundSince job base v
       by_place next later (inl same) = rw same next
       by_place next later (inr m) = later m
 
@@ -39,6 +43,8 @@ first_sound job d can = record {
   right = first_right job d;
 }
 
-pub run_sound : (job : JobOf) → IsJob job → (d : Device) (entries : List Entry) (worlds : List WorldOf) (v : WorldOf) → CanBegin job d → Runs job (first_over d) entries worlds → v ∈ worlds → IsSound job v
+pub run_sound : (job : JobOf) → IsJob job → (d : Device) (entries : List Entry) (worlds : List WorldOf) (v : WorldOf)
+    → CanBegin job d → Runs job (first_over d) entries worlds → v ∈ worlds → IsSound job v
 run_sound job ok d entries worlds v can runs m =
-    let first = first_sound job d can in sound_of (runs_sound job ok first.tied.view (first_over d) entries worlds runs (sound_here first) v m)
+    let first = first_sound job d can in sound_of
+    (runs_sound job ok first.tied.view (first_over d) entries worlds runs (sound_here first) v m)

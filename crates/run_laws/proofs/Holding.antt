@@ -40,11 +40,13 @@ pub record LiveThere (v : View) (i : ℕ) (g : Grant) (s : SubOf) : Type 0 where
   pub live : Live v i g sub
   pub shown : IsShown sub s
 
-pub live_there : (v : View) (n : NodeOf) (g : Grant) (s : SubOf) → NodeShown v n → sub_in g (live_at n.state n.subs) ≡ Some s → LiveThere v n.incarnation g s
+pub live_there : (v : View) (n : NodeOf) (g : Grant) (s : SubOf) → NodeShown v n
+    → sub_in g (live_at n.state n.subs) ≡ Some s → LiveThere v n.incarnation g s
 live_there v n g s shown there =
     let m = member_holds n g s there in
     let h = member_shown v n m.roster m.is shown in
-    let held : HeldAt (v.subs n.incarnation g) s = held_at (v.subs n.incarnation g) (sub_in g n.subs) s (h.parts.subs g) m.held in
+    let held : HeldAt (v.subs n.incarnation g) s =
+    held_at (v.subs n.incarnation g) (sub_in g n.subs) s (h.parts.subs g) m.held in
     record { sub = held.sub; live = record { member = h.mode; holds = held.is }; shown = held.shown }
 
 pub one_holder : (job : JobOf) (w : WorldOf) → Tied job w → (g : Grant) (a b : ℕ) → Holder w a g → Holder w b g → a ≡ b
@@ -53,4 +55,6 @@ one_holder job w tied g a b p q =
     let s = tied.shown in
     let x = live_there v p.node g p.sub (s.nodes a p.node p.up) p.live in
     let y = live_there v q.node g q.sub (s.nodes b q.node q.up) q.live in
-    s.apart a b p.node q.node p.up q.up (one_live v (names_reached (run_reached tied.run)) p.node.incarnation q.node.incarnation g x.sub y.sub x.live y.live)
+    s.apart a b p.node q.node p.up q.up
+    (one_live v (names_reached (run_reached tied.run)) p.node.incarnation q.node.incarnation g x.sub y.sub x.live
+    y.live)

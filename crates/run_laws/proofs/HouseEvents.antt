@@ -51,7 +51,8 @@ may_save job (body.Abort b) r = tt
 may_save job (body.Beat b) r = tt
 may_save job (body.Piece b) r = tt
 
-module _ (job : JobOf) (ok : IsJob job) (base : View) (w : WorldOf) (tied : TiedSince job base w) (right : WorldIsRight job w) where
+module _ (job : JobOf) (ok : IsJob job) (base : View) (w : WorldOf) (tied : TiedSince job base w)
+    (right : WorldIsRight job w) where
   abbrev v : View
   v = tied.view
 
@@ -74,18 +75,25 @@ module _ (job : JobOf) (ok : IsJob job) (base : View) (w : WorldOf) (tied : Tied
     packet_agrees : (p : PacketOf) → p ∈ w.net → HouseAnswerIsRight job (on_packet job p h)
     packet_agrees p m = packet_right job h own_right ok p (may_save job p.body (right.net p m))
 
-    ends_tied : (a : house.HouseAnswer) → HouseAnswerShown job v h a → Promises h a → HouseAnswerIsRight job a → (o : StepResult) → Ends job h a w o → TiedSince job base o.world
+    ends_tied : (a : house.HouseAnswer) → HouseAnswerShown job v h a → Promises h a → HouseAnswerIsRight job a
+        → (o : StepResult) → Ends job h a w o → TiedSince job base o.world
     ends_tied house.Ignored step keeps agrees o e = rw e tied
     ends_tied (house.Refused f) step keeps agrees o e = rw e tied
-    ends_tied (house.Does s) step keeps agrees o e = rw (e.2) (stepped_tied job base v w tied.run tied.since tied.shown h is s step keeps.holds keeps.commits agrees.after.1 e.0 e.1)
+    ends_tied (house.Does s) step keeps agrees o e =
+        rw (e.2) (stepped_tied job base v w tied.run tied.since tied.shown h is s step keeps.holds keeps.commits
+        agrees.after.1 e.0 e.1)
 
-    halts_tied : (a : house.HouseAnswer) → HouseAnswerShown job v h a → Promises h a → HouseAnswerIsRight job a → (k : ℕ) (bytes : List ℕ) (o : StepResult) → Halts job h a k bytes w o → TiedSince job base o.world
+    halts_tied : (a : house.HouseAnswer) → HouseAnswerShown job v h a → Promises h a → HouseAnswerIsRight job a
+        → (k : ℕ) (bytes : List ℕ) (o : StepResult) → Halts job h a k bytes w o → TiedSince job base o.world
     halts_tied house.Ignored step keeps agrees k bytes o e = absurd e
     halts_tied (house.Refused f) step keeps agrees k bytes o e = absurd e
-    halts_tied (house.Does s) step keeps agrees k bytes o e = rw (e.3) (halted_tied job base v w tied.run tied.since tied.shown h is s step keeps.holds keeps.commits own_right.1 agrees.after.1 e.0 k bytes by.Device e.1 e.2)
+    halts_tied (house.Does s) step keeps agrees k bytes o e =
+        rw (e.3) (halted_tied job base v w tied.run tied.since tied.shown h is s step keeps.holds keeps.commits
+        own_right.1 agrees.after.1 e.0 k bytes by.Device e.1 e.2)
 
     packet_here : (p : PacketOf) → p ∈ w.net → HouseAnswerShown job v h (on_packet job p h)
-    packet_here p m = let x = own job base v w tied.run tied.since tied.shown h is in packet_shown job v tied.run h x.shown x.sound.listing.rising p (tied.shown.net p m)
+    packet_here p m = let x = own job base v w tied.run tied.since tied.shown h is in packet_shown job v tied.run h
+        x.shown x.sound.listing.rising p (tied.shown.net p m)
 
     moment_here : (now : ℕ) → HouseStepShown job v h (passes job now h)
     moment_here now = passes_shown job v tied.run h (own job base v w tied.run tied.since tied.shown h is).shown now
@@ -95,17 +103,25 @@ module _ (job : JobOf) (ok : IsJob job) (base : View) (w : WorldOf) (tied : Tied
       where
         by_packet : (q : Option PacketOf) → slice_get w.net i ≡ q → TiedSince job base o.world
         by_packet None e = let same : o ≡ house_same None w = rw e at ends in rw same tied
-        by_packet (Some p) e = let done : Ends job h (on_packet job p h) w o = rw e at ends in ends_tied (on_packet job p h) (packet_here p (got w.net i p e)) (packet_promises p h (on_packet job p h) refl) (packet_agrees p (got w.net i p e)) o done
-    open_ends (Tick now) o ends = ends_tied (house.Does (passes job now h)) (moment_here now) (moment_keeps job now h) (passes_right job h own_right now) o ends
+        by_packet (Some p) e = let done : Ends job h (on_packet job p h) w o =
+            rw e at ends in ends_tied (on_packet job p h) (packet_here p (got w.net i p e))
+            (packet_promises p h (on_packet job p h) refl) (packet_agrees p (got w.net i p e)) o done
+    open_ends (Tick now) o ends = ends_tied (house.Does (passes job now h)) (moment_here now) (moment_keeps job now h)
+        (passes_right job h own_right now) o ends
     open_ends Restart o ends = rw ends tied
 
-    open_halts : (e : HouseEvent) (k : ℕ) (bytes : List ℕ) (o : StepResult) → HouseHalts job e (IsUp (Open h)) k bytes w o → TiedSince job base o.world
+    open_halts : (e : HouseEvent) (k : ℕ) (bytes : List ℕ) (o : StepResult)
+        → HouseHalts job e (IsUp (Open h)) k bytes w o → TiedSince job base o.world
     open_halts (Deliver i) k bytes o halts = by_packet (slice_get w.net i) refl
       where
         by_packet : (q : Option PacketOf) → slice_get w.net i ≡ q → TiedSince job base o.world
         by_packet None e = let never : ⊥ = rw e at halts in absurd never
-        by_packet (Some p) e = let done : Halts job h (on_packet job p h) k bytes w o = rw e at halts in halts_tied (on_packet job p h) (packet_here p (got w.net i p e)) (packet_promises p h (on_packet job p h) refl) (packet_agrees p (got w.net i p e)) k bytes o done
-    open_halts (Tick now) k bytes o halts = halts_tied (house.Does (passes job now h)) (moment_here now) (moment_keeps job now h) (passes_right job h own_right now) k bytes o halts
+        by_packet (Some p) e = let done : Halts job h (on_packet job p h) k bytes w o =
+            rw e at halts in halts_tied (on_packet job p h) (packet_here p (got w.net i p e))
+            (packet_promises p h (on_packet job p h) refl) (packet_agrees p (got w.net i p e)) k bytes o done
+    open_halts (Tick now) k bytes o halts =
+        halts_tied (house.Does (passes job now h)) (moment_here now) (moment_keeps job now h)
+        (passes_right job h own_right now) k bytes o halts
     open_halts Restart k bytes o halts = absurd halts
 
   -- it isn't open
@@ -119,24 +135,43 @@ module _ (job : JobOf) (ok : IsJob job) (base : View) (w : WorldOf) (tied : Tied
 
     restarts_tied : (o : StepResult) → Restarts job w o → TiedSince job base o.world
     restarts_tied o (inl (way, e)) = rw e (opened_tied job base v w tied.run tied.since tied.shown closed way)
-    restarts_tied o (inr (f, refused, e)) = rw e (rw_house (shut_tied job base w tied house (made w.disk opening) shut (λ n r k. read_keeps w.disk n r k)))
+    restarts_tied o (inr (f, refused, e)) =
+        rw e (rw_house (shut_tied job base w tied house (made w.disk opening) shut (λ n r k. read_keeps w.disk n r k)))
       where
-        rw_house : TiedSince job base (record w { house = house; disk = made w.disk opening }) → TiedSince job base (record w { disk = made w.disk opening })
-        rw_house t = subst (λ (x : HouseAt). TiedSince job base (record w { house = x; disk = made w.disk opening })) (sym is) t
+        rw_house : TiedSince job base (record w { house = house; disk = made w.disk opening })
+            → TiedSince job base (record w { disk = made w.disk opening })
+        rw_house t = subst (λ (x : HouseAt). TiedSince job base (record w { house = x; disk = made w.disk opening }))
+            (sym is) t
 
-    restart_halts_tied : (k : ℕ) (bytes : List ℕ) (o : StepResult) → RestartHalts job k bytes w o → TiedSince job base o.world
+    restart_halts_tied : (k : ℕ) (bytes : List ℕ) (o : StepResult) → RestartHalts job k bytes w o
+        → TiedSince job base o.world
     restart_halts_tied k bytes o (calls, why, within, e) = rw e (by_calls why)
       where
-        stops : (d : Device) → DiskShown job v d Down → TiedSince job base (record w { house = IsUp (Stopped by.Device); disk = d; net = w.net ++ [] })
-        stops d disk = net_as job base w (IsUp (Stopped by.Device)) d (shuts job base v w tied.run tied.since tied.shown (IsUp (Stopped by.Device)) d (is_stopped by.Device) disk)
+        stops : (d : Device) → DiskShown job v d Down
+            → TiedSince job base (record w { house = IsUp (Stopped by.Device); disk = d; net = w.net ++ [] })
+        stops d disk = net_as job base w (IsUp (Stopped by.Device)) d
+            (shuts job base v w tied.run tied.since tied.shown (IsUp (Stopped by.Device)) d (is_stopped by.Device) disk)
 
-        by_calls : IsAttempt job w.disk calls → TiedSince job base (record w { house = IsUp (Stopped by.Device); disk = halted w.disk calls k bytes; net = w.net ++ [] })
-        by_calls (inl reads) = stops (halted w.disk calls k bytes) (same_record job v w.disk (halted w.disk calls k bytes) w.house (λ n r kept. (let one : k < length opening = rw reads at within in rw reads (read_fails w.disk n r kept bytes k one))) tied.shown.disk)
-        by_calls (inr (inl (way, opens))) = stops (halted w.disk calls k bytes) (let some : k < length way.opens = rw opens at within in rw opens (half_read job v w tied.shown way k bytes some))
-        by_calls (inr (inr (way, opens))) = stops (halted w.disk calls k bytes) (let some : k < length (calls_of way) = rw opens at within in rw opens (half_opened job base v w tied.run tied.since tied.shown closed way k bytes some))
+        by_calls : IsAttempt job w.disk calls
+            → TiedSince job base (record w {
+              house = IsUp (Stopped by.Device);
+              disk = halted w.disk calls k bytes;
+              net = w.net ++ [];
+            })
+        by_calls (inl reads) = stops (halted w.disk calls k bytes)
+            (same_record job v w.disk (halted w.disk calls k bytes) w.house (λ n r kept. (let one : k < length opening =
+            rw reads at within in rw reads (read_fails w.disk n r kept bytes k one))) tied.shown.disk)
+        by_calls (inr (inl (way, opens))) =
+            stops (halted w.disk calls k bytes) (let some : k < length way.opens =
+            rw opens at within in rw opens (half_read job v w tied.shown way k bytes some))
+        by_calls (inr (inr (way, opens))) =
+            stops (halted w.disk calls k bytes) (let some : k < length (calls_of way) =
+            rw opens at within in rw opens (half_opened job base v w tied.run tied.since tied.shown closed way k bytes
+            some))
 
   -- an event that ends, wherever the clearinghouse stands
-  pub house_ends : (e : HouseEvent) (x : HouseAt) → w.house ≡ x → (o : StepResult) → HouseEnds job e x w o → TiedSince job base o.world
+  pub house_ends : (e : HouseEvent) (x : HouseAt) → w.house ≡ x → (o : StepResult) → HouseEnds job e x w o
+      → TiedSince job base o.world
   house_ends e (IsUp (Open h)) is o ends = open_ends h is e o ends
   house_ends (Deliver i) (IsUp (Stopped s)) is o ends = rw ends tied
   house_ends (Tick now) (IsUp (Stopped s)) is o ends = rw ends tied
@@ -146,11 +181,13 @@ module _ (job : JobOf) (ok : IsJob job) (base : View) (w : WorldOf) (tied : Tied
   house_ends Restart Down is o ends = restarts_tied Down is is_down o ends
 
   -- one in which a call of the disk fails
-  pub house_halts : (e : HouseEvent) (x : HouseAt) → w.house ≡ x → (k : ℕ) (bytes : List ℕ) (o : StepResult) → HouseHalts job e x k bytes w o → TiedSince job base o.world
+  pub house_halts : (e : HouseEvent) (x : HouseAt) → w.house ≡ x → (k : ℕ) (bytes : List ℕ) (o : StepResult)
+      → HouseHalts job e x k bytes w o → TiedSince job base o.world
   house_halts e (IsUp (Open h)) is k bytes o halts = open_halts h is e k bytes o halts
   house_halts (Deliver i) (IsUp (Stopped s)) is k bytes o halts = absurd halts
   house_halts (Tick now) (IsUp (Stopped s)) is k bytes o halts = absurd halts
-  house_halts Restart (IsUp (Stopped s)) is k bytes o halts = restart_halts_tied (IsUp (Stopped s)) is (is_stopped s) k bytes o halts
+  house_halts Restart (IsUp (Stopped s)) is k bytes o halts =
+      restart_halts_tied (IsUp (Stopped s)) is (is_stopped s) k bytes o halts
   house_halts (Deliver i) Down is k bytes o halts = absurd halts
   house_halts (Tick now) Down is k bytes o halts = absurd halts
   house_halts Restart Down is k bytes o halts = restart_halts_tied Down is is_down k bytes o halts

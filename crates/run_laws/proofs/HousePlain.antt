@@ -39,14 +39,16 @@ by_test : (b : Bool) (x y : house.HouseAnswer) → AnswerIsPlain x → AnswerIsP
 by_test true x y a c = a
 by_test false x y a c = c
 
-by_listed : (s : Option Status) (live gone unlisted : house.HouseAnswer) → AnswerIsPlain live → AnswerIsPlain gone → AnswerIsPlain unlisted → AnswerIsPlain (by_status s live gone unlisted)
+by_listed : (s : Option Status) (live gone unlisted : house.HouseAnswer) → AnswerIsPlain live → AnswerIsPlain gone
+    → AnswerIsPlain unlisted → AnswerIsPlain (by_status s live gone unlisted)
 unfolding by_status
 by_listed None live gone unlisted a b c = c
 by_listed (Some member.Live) live gone unlisted a b c = a
 by_listed (Some member.Dead) live gone unlisted a b c = b
 by_listed (Some (member.Left heir)) live gone unlisted a b c = b
 
-in_order : (o : Ordering) (below same above : house.HouseAnswer) → AnswerIsPlain below → AnswerIsPlain same → AnswerIsPlain above → AnswerIsPlain (by_order o below same above)
+in_order : (o : Ordering) (below same above : house.HouseAnswer) → AnswerIsPlain below → AnswerIsPlain same
+    → AnswerIsPlain above → AnswerIsPlain (by_order o below same above)
 unfolding by_order
 in_order Less below same above a b c = a
 in_order Equal below same above a b c = b
@@ -65,7 +67,8 @@ module _ (job : JobOf) where
       by_root (Some r) = by_holder r (resolve (members_of h) r.holder)
 
   joined_plain : (i : ℕ) (h : HouseOf) → AnswerIsPlain (cases.joined job i h)
-  joined_plain i h = by_listed (status_in i (members_of h)) _ _ _ (one _ refl) (one _ refl) (by_test (nat_lt (length h.workers) 4096) _ _ (one _ refl) tt)
+  joined_plain i h = by_listed (status_in i (members_of h)) _ _ _ (one _ refl) (one _ refl)
+      (by_test (nat_lt (length h.workers) 4096) _ _ (one _ refl) tt)
 
   served_plain : (b : Steal) (o : Option Task) (h : HouseOf) → AnswerIsPlain (cases.served job b o h)
   served_plain b None h = one _ refl
@@ -74,21 +77,29 @@ module _ (job : JobOf) where
   stolen_plain : (b : Steal) (h : HouseOf) → IsHouse h → AnswerIsPlain (cases.stolen job b h)
   stolen_plain b h holds = by_test (is_live b.from (members_of h)) _ _ (by_kept (reply_in b.from h.replies) refl) tt
     where
-      by_kept : (x : Option Reply) → reply_in b.from h.replies ≡ x → AnswerIsPlain (by_reply x b.seq house.Ignored (λ reply. house.Does (house.sends (reply ∷ []) h)) (cases.served job b (cases.free_task job h) h))
+      by_kept : (x : Option Reply) → reply_in b.from h.replies ≡ x
+          → AnswerIsPlain (by_reply x b.seq house.Ignored (λ reply. house.Does (house.sends (reply ∷ []) h))
+          (cases.served job b (cases.free_task job h) h))
       by_kept None e = served_plain b (cases.free_task job h) h
-      by_kept (Some reply) e = in_order (nat_cmp b.seq reply.seq) _ _ _ tt (one reply.packet (of_each (λ (r : Reply). IsPlain r.packet) h.replies holds.short reply (found_among _ reply h.replies e))) (served_plain b (cases.free_task job h) h)
+      by_kept (Some reply) e = in_order (nat_cmp b.seq reply.seq) _ _ _ tt
+          (one reply.packet (of_each (λ (r : Reply). IsPlain r.packet) h.replies holds.short reply
+          (found_among _ reply h.replies e))) (served_plain b (cases.free_task job h) h)
 
   returned_plain : (b : TaskResult) (h : HouseOf) → AnswerIsPlain (cases.returned job b h)
-  returned_plain b h = by_test (not (is_root b.grant h.root)) _ _ (one _ refl) (by_test (nat_lt (h.sequence + 1) (2 ^ 64)) _ _ (one _ refl) tt)
+  returned_plain b h = by_test (not (is_root b.grant h.root)) _ _ (one _ refl)
+      (by_test (nat_lt (h.sequence + 1) (2 ^ 64)) _ _ (one _ refl) tt)
 
   left_plain : (b : Leave) (h : HouseOf) → AnswerIsPlain (cases.left job b h)
   left_plain b h =
       let new : HouseOf = moves.says b.from (moves.leaving_status b.from b.heir (members_of h)) h in
-      by_listed (status_in b.from (members_of h)) _ _ _ (both (moves.roster_for job b.from new ∷ []) (moves.settles job new).sent (one _ refl) (settles_plain new)) (one _ refl) tt
+      by_listed (status_in b.from (members_of h)) _ _ _
+      (both (moves.roster_for job b.from new ∷ []) (moves.settles job new).sent (one _ refl) (settles_plain new))
+      (one _ refl) tt
 
   saved_plain : (b : Save) (h : HouseOf) → AnswerIsPlain (cases.saved b h)
   saved_plain b h =
-      by_test (not (is_live b.from (members_of h)) || (is_some h.outcome || not (cases.may_save (record { place = b.place; value = b.value }) h))) _ _ tt
+      by_test (not (is_live b.from (members_of h))
+      || (is_some h.outcome || not (cases.may_save (record { place = b.place; value = b.value }) h))) _ _ tt
       (by_test (nat_lt (h.sequence + 1) (2 ^ 64)) _ _ none tt)
 
   beat_plain : (b : Beat) (h : HouseOf) → AnswerIsPlain (cases.answered_beat job b h)
@@ -122,7 +133,8 @@ module _ (job : JobOf) where
   packet_plain p h holds = by_test (nat_eq p.job job.number) _ _ (body_plain p.to p.body h holds) tt
 
   -- a Piece is ignored
-  pub piece_ignored : (p : PacketOf) (b : Piece) (h : HouseOf) → p.body ≡ body.Piece b → on_packet job p h ≡ house.Ignored
+  pub piece_ignored : (p : PacketOf) (b : Piece) (h : HouseOf) → p.body ≡ body.Piece b
+      → on_packet job p h ≡ house.Ignored
   unfolding on_packet on_body
   piece_ignored p b h says = rw says (by_job (nat_eq p.job job.number))
     where
@@ -137,7 +149,9 @@ module _ (job : JobOf) where
       new : HouseOf
       new = record h { moment = now }
 
-      by_lost : (b : Bool) → ArePlain (cond b (moves.settles job (moves.with_workers (map (moves.declared_dead h.limit now) h.workers) new)) (house.sends [] new)).sent
+      by_lost : (b : Bool) → ArePlain (cond b
+          (moves.settles job (moves.with_workers (map (moves.declared_dead h.limit now) h.workers) new))
+          (house.sends [] new)).sent
       by_lost true = settles_plain _
       by_lost false = none
 

@@ -35,10 +35,22 @@ pub kept_as : {f : List Cell} {n m : ℕ} {r t : CheckpointRecord} → n ≡ m �
 kept_as {f = f} {n = n} {t = t} e q k = subst (λ x. KeepsRecord f x t) e (subst (λ y. KeepsRecord f n y) q k)
 
 -- an open clearinghouse's disk keeps what it has committed
-pub open_disk : (job : JobOf) (v : View) (h : HouseOf) (d : Device) → OpenShown v h → KeepsRecord d.file h.sequence (record_of job (kept_of h)) → AllSavedAgree job h.saved → DiskShown job v d (IsUp (Open h))
-open_disk job v h d s keeps saved = record { sequence = h.sequence; found = record_of job (kept_of h); keeps = keeps; own = refl; stored = s.stored; epoch = rw s.epoch (omega arith); saved = saved; held = (refl, refl) }
+pub open_disk : (job : JobOf) (v : View) (h : HouseOf) (d : Device) → OpenShown v h
+    → KeepsRecord d.file h.sequence (record_of job (kept_of h)) → AllSavedAgree job h.saved
+    → DiskShown job v d (IsUp (Open h))
+open_disk job v h d s keeps saved = record {
+  sequence = h.sequence;
+  found = record_of job (kept_of h);
+  keeps = keeps;
+  own = refl;
+  stored = s.stored;
+  epoch = rw s.epoch (omega arith);
+  saved = saved;
+  held = (refl, refl);
+}
 
-module _ (job : JobOf) (base v : View) (w : WorldOf) (run : Run (tables_meaning job) v) (since : Leads base v) (shown : Shown job v w) (h : HouseOf) (is : w.house ≡ IsUp (Open h)) where
+module _ (job : JobOf) (base v : View) (w : WorldOf) (run : Run (tables_meaning job) v) (since : Leads base v)
+    (shown : Shown job v w) (h : HouseOf) (is : w.house ≡ IsUp (Open h)) where
   pub own : OpenHouse v h
   own = let s = shown.house in rw is at s
 
@@ -46,10 +58,14 @@ module _ (job : JobOf) (base v : View) (w : WorldOf) (run : Run (tables_meaning 
   pub own_kept : KeepsRecord w.disk.file h.sequence (record_of job (kept_of h))
   own_kept = by_house w.house is shown.disk
     where
-      by_house : (x : HouseAt) → x ≡ IsUp (Open h) → DiskShown job v w.disk x → KeepsRecord w.disk.file h.sequence (record_of job (kept_of h))
+      by_house : (x : HouseAt) → x ≡ IsUp (Open h) → DiskShown job v w.disk x
+          → KeepsRecord w.disk.file h.sequence (record_of job (kept_of h))
       by_house Down e d = cc
       by_house (IsUp (Stopped s)) e d = cc
-      by_house (IsUp (Open k)) e d = let same : k ≡ h = cc in let held : (d.sequence ≡ k.sequence) × (d.found ≡ record_of job (kept_of k)) = d.held in subst (λ (x : HouseOf). KeepsRecord w.disk.file x.sequence (record_of job (kept_of x))) same (kept_as held.0 held.1 d.keeps)
+      by_house (IsUp (Open k)) e d = let same : k ≡ h =
+          cc in let held : (d.sequence ≡ k.sequence) × (d.found ≡ record_of job (kept_of k)) =
+          d.held in subst (λ (x : HouseOf). KeepsRecord w.disk.file x.sequence (record_of job (kept_of x))) same
+          (kept_as held.0 held.1 d.keeps)
 
   pub no_worker : (a : ℕ) (n : NodeOf) → node_in a w.nodes ≡ Some n → n.incarnation ≡ name_of h → ⊥
   no_worker a n at e =
@@ -59,11 +75,16 @@ module _ (job : JobOf) (base v : View) (w : WorldOf) (run : Run (tables_meaning 
       cc
 
   -- a step of it, over whatever disk keeps what it has committed then, of which these packets went
-  pub house_stepped : (s : house.HouseStepOf) (disk : Device) (sent : List PacketOf) → (step : HouseStepShown job v h s) → IsHouse s.after → KeepsRecord disk.file s.after.sequence (record_of job (kept_of s.after)) → AllSavedAgree job s.after.saved → AllShown step.view sent → ((t : Transfer) → t ∈ step.view.transfers → (t ∈ v.transfers) ⊎ IsSent job.number sent t) → Shown job step.view (record w { house = IsUp (Open s.after); disk = disk; net = w.net ++ sent })
+  pub house_stepped : (s : house.HouseStepOf) (disk : Device) (sent : List PacketOf) → (step : HouseStepShown job v h s)
+      → IsHouse s.after → KeepsRecord disk.file s.after.sequence (record_of job (kept_of s.after))
+      → AllSavedAgree job s.after.saved → AllShown step.view sent
+      → ((t : Transfer) → t ∈ step.view.transfers → (t ∈ v.transfers) ⊎ IsSent job.number sent t)
+      → Shown job step.view (record w { house = IsUp (Open s.after); disk = disk; net = w.net ++ sent })
   house_stepped s disk sent step sound keeps saved told transfers =
       let x = step.view in
       record {
-        nodes = λ a n at. node_beside v x n (step.others n.incarnation (no_worker a n at)) step.keeps (shown.nodes a n at);
+        nodes = λ a n at. node_beside v x n (step.others n.incarnation (no_worker a n at)) step.keeps
+            (shown.nodes a n at);
         workers = shown.workers;
         started = shown.started;
         apart = shown.apart;
@@ -78,25 +99,41 @@ module _ (job : JobOf) (base v : View) (w : WorldOf) (run : Run (tables_meaning 
         house = record { shown = step.after; sound = sound };
         disk = open_disk job x s.after disk step.after keeps saved;
         net = both_shown x w.net sent (all_shown step.keeps w.net shown.net) told;
-        sent = λ t m. ⊎_elim (λ old. sent_early w.net sent t (shown.sent t old)) (λ new. sent_late w.net sent t new) (transfers t m);
+        sent = λ t m. ⊎_elim (λ old. sent_early w.net sent t (shown.sent t old)) (λ new. sent_late w.net sent t new)
+            (transfers t m);
         fills = step.fills ∙ shown.fills;
       }
 
   -- all calls of a step passed
-  module _ (s : house.HouseStepOf) (step : HouseStepShown job v h s) (holds : IsHouse h → IsHouse s.after) (commits : Commits s.commits h s.after) (saved : AllSavedAgree job s.after.saved) (calls : List DeviceCall) (makes : MakesCalls job h s.commits w.disk calls) where
+  module _ (s : house.HouseStepOf) (step : HouseStepShown job v h s) (holds : IsHouse h
+      → IsHouse s.after) (commits : Commits s.commits h s.after) (saved : AllSavedAgree job s.after.saved)
+      (calls : List DeviceCall) (makes : MakesCalls job h s.commits w.disk calls) where
     after_kept : KeepsRecord (made w.disk calls).file s.after.sequence (record_of job (kept_of s.after))
     unfolding after
     after_kept = by_commit s.commits commits makes
       where
-        same : (k : Kept) (n : ℕ) (f : List Cell) → kept_of s.after ≡ k → k.sequence ≡ n → KeepsRecord f n (record_of job k) → KeepsRecord f s.after.sequence (record_of job (kept_of s.after))
-        same k n f e q keeps = subst (λ (x : Kept). KeepsRecord f x.sequence (record_of job x)) (sym e) (kept_as (sym q) refl keeps)
+        same : (k : Kept) (n : ℕ) (f : List Cell) → kept_of s.after ≡ k → k.sequence ≡ n
+            → KeepsRecord f n (record_of job k) → KeepsRecord f s.after.sequence (record_of job (kept_of s.after))
+        same k n f e q keeps = subst (λ (x : Kept). KeepsRecord f x.sequence (record_of job x)) (sym e)
+            (kept_as (sym q) refl keeps)
 
-        by_none : calls ≡ [] → kept_of s.after ≡ kept_of h → KeepsRecord (made w.disk calls).file s.after.sequence (record_of job (kept_of s.after))
-        by_none none e = subst (λ cs. KeepsRecord (made w.disk cs).file s.after.sequence (record_of job (kept_of s.after))) (sym none) (same (kept_of h) h.sequence w.disk.file e refl own_kept)
+        by_none : calls ≡ [] → kept_of s.after ≡ kept_of h
+            → KeepsRecord (made w.disk calls).file s.after.sequence (record_of job (kept_of s.after))
+        by_none none e = subst (λ cs. KeepsRecord (made w.disk cs).file s.after.sequence
+            (record_of job (kept_of s.after))) (sym none) (same (kept_of h) h.sequence w.disk.file e refl own_kept)
 
-        by_commit : (o : Option Kept) → Commits o h s.after → MakesCalls job h o w.disk calls → KeepsRecord (made w.disk calls).file s.after.sequence (record_of job (kept_of s.after))
+        by_commit : (o : Option Kept) → Commits o h s.after → MakesCalls job h o w.disk calls
+            → KeepsRecord (made w.disk calls).file s.after.sequence (record_of job (kept_of s.after))
         by_commit None e none = by_none none e
-        by_commit (Some k) e commit = same k (h.sequence + 1) (made w.disk calls).file e.0 e.2 (committed w.disk h.sequence (record_of job (kept_of h)) (record_of job k) calls own_kept commit)
+        by_commit (Some k) e commit = same k (h.sequence + 1) (made w.disk calls).file e.0 e.2
+            (committed w.disk h.sequence (record_of job (kept_of h)) (record_of job k) calls own_kept commit)
 
-    pub stepped_tied : TiedSince job base (record w { house = IsUp (Open s.after); disk = made w.disk calls; net = w.net ++ s.sent })
-    stepped_tied = record { view = step.view; run = step.run run; since = step.since base since; shown = house_stepped s (made w.disk calls) s.sent step (holds own.sound) after_kept saved step.sent step.transfers }
+    pub stepped_tied : TiedSince job base
+        (record w { house = IsUp (Open s.after); disk = made w.disk calls; net = w.net ++ s.sent })
+    stepped_tied = record {
+      view = step.view;
+      run = step.run run;
+      since = step.since base since;
+      shown =
+          house_stepped s (made w.disk calls) s.sent step (holds own.sound) after_kept saved step.sent step.transfers;
+    }

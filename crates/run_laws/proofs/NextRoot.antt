@@ -52,7 +52,8 @@ any_found test x (y ∷ ys) (inr later) e = either (test y) (list_any test ys) (
 abbrev told : Option Listed → Option Status
 told o = o >>= λ m. Some m.status
 
-said : (i : ℕ) (ws : List Enlisted) (x : Enlisted) → item_in name_of_enlisted (i, 0) ws ≡ Some x → status_in i (map member_of ws) ≡ Some x.status
+said : (i : ℕ) (ws : List Enlisted) (x : Enlisted) → item_in name_of_enlisted (i, 0) ws ≡ Some x
+    → status_in i (map member_of ws) ≡ Some x.status
 said i [] x e = cc
 said i (w ∷ ws) x e = by_test (λ at. said i ws x at) (has_key name_of_enlisted name_cmp (i, 0) w) e
   where
@@ -62,13 +63,18 @@ said i (w ∷ ws) x e = by_test (λ at. said i ws x at) (has_key name_of_enliste
     by_test rest true at = ap (λ (y : Enlisted). Some y.status) (some_same at)
     by_test rest false at = rest at
 
-dies : (i limit now : ℕ) (ws : List Enlisted) (x : Enlisted) → item_in name_of_enlisted (i, 0) ws ≡ Some x → moves.is_lost limit now x ≡ true → status_in i (map member_of (map (moves.declared_dead limit now) ws)) ≡ Some member.Dead
+dies : (i limit now : ℕ) (ws : List Enlisted) (x : Enlisted) → item_in name_of_enlisted (i, 0) ws ≡ Some x
+    → moves.is_lost limit now x ≡ true → status_in i (map member_of (map (moves.declared_dead limit now) ws))
+    ≡ Some member.Dead
 dies i limit now [] x e lost = cc
-dies i limit now (w ∷ ws) x e lost = by_test (λ at. dies i limit now ws x at lost) (has_key name_of_enlisted name_cmp (i, 0) w) e
+dies i limit now (w ∷ ws) x e lost =
+    by_test (λ at. dies i limit now ws x at lost) (has_key name_of_enlisted name_cmp (i, 0) w) e
   where
-    by_test : (item_in name_of_enlisted (i, 0) ws ≡ Some x → status_in i (map member_of (map (moves.declared_dead limit now) ws)) ≡ Some member.Dead)
+    by_test : (item_in name_of_enlisted (i, 0) ws ≡ Some x
+        → status_in i (map member_of (map (moves.declared_dead limit now) ws)) ≡ Some member.Dead)
         → (b : Bool) → cond b (Some w) (item_in name_of_enlisted (i, 0) ws) ≡ Some x
-        → told (cond b (Some (member_of (moves.declared_dead limit now w))) (item_in name_of_member (i, 0) (map member_of (map (moves.declared_dead limit now) ws)))) ≡ Some member.Dead
+        → told (cond b (Some (member_of (moves.declared_dead limit now w)))
+        (item_in name_of_member (i, 0) (map member_of (map (moves.declared_dead limit now) ws)))) ≡ Some member.Dead
     by_test rest true at =
         let same : w ≡ x = some_same at in
         ap (λ b. Some (cond b member.Dead w.status)) (ap (moves.is_lost limit now) same ∙ lost)
@@ -80,12 +86,14 @@ unfolding follow
 nobody members i dead = rw dead refl
 
 module _ (job : JobOf) where
-  moment_frees : (h : HouseOf) (root : RootGrant) (now : ℕ) → RootStands h → h.root ≡ Some root → IsSilent h root.holder now → h.moment < now
+  moment_frees : (h : HouseOf) (root : RootGrant) (now : ℕ) → RootStands h → h.root ≡ Some root
+      → IsSilent h root.holder now → h.moment < now
       → ((passes job now h).after.root ≡ None) × ((passes job now h).after.outcome ≡ h.outcome)
   unfolding passes
   moment_frees h root now stands out silent later =
       let x : Enlisted = silent.enlisted in
-      let live : says_live (Some x.status) ≡ true = sym (ap says_live (said root.holder h.workers x silent.listed)) ∙ stands root out in
+      let live : says_live (Some x.status) ≡ true =
+      sym (ap says_live (said root.holder h.workers x silent.listed)) ∙ stands root out in
       let lost : moves.is_lost h.limit now x ≡ true = rw (live, lt-ltb h.limit (now - x.heard) silent.long) refl in
       let any : list_any (moves.is_lost h.limit now) h.workers ≡ true =
       any_found (moves.is_lost h.limit now) x h.workers (found_among _ x h.workers silent.listed) lost in
@@ -94,22 +102,31 @@ module _ (job : JobOf) where
       rw (lt-ltb h.moment now later, any, out, none) (refl, refl)
 
   -- a newer request of a live thief, where the root is free
-  newer_served : {B : Type 0} (o : Option Reply) (seq : ℕ) → ((reply : Reply) → o ≡ Some reply → reply.seq < seq) → (older : B) (again : PacketOf → B) (newer : B) → by_reply o seq older again newer ≡ newer
+  newer_served : {B : Type 0} (o : Option Reply) (seq : ℕ) → ((reply : Reply) → o ≡ Some reply → reply.seq < seq)
+      → (older : B) (again : PacketOf → B) (newer : B) → by_reply o seq older again newer ≡ newer
   unfolding by_order
   newer_served None seq is older again newer = refl
   newer_served (Some reply) seq is older again newer =
       let above : nat_cmp seq reply.seq ≡ Greater = sym (nat_cmp_is seq reply.seq Greater (is reply refl)) in
       rw above refl
 
-  root_served : (ok : IsJob job) (h : HouseOf) (b : Steal) (p : PacketOf) → p.job ≡ job.number → p.to ≡ name_of h → p.body ≡ body.Steal b → h.root ≡ None → h.outcome ≡ None → is_live b.from (members_of h) ≡ true → IsNewer b h → h.minted + 1 < 2 ^ 64
-      → on_packet job p h ≡ house.Does (moves.grants job b (record { place = []; thread = ok.takes.thread; numbers = job.input }) h)
+  root_served : (ok : IsJob job) (h : HouseOf) (b : Steal) (p : PacketOf) → p.job ≡ job.number → p.to ≡ name_of h
+      → p.body ≡ body.Steal b → h.root ≡ None → h.outcome ≡ None → is_live b.from (members_of h) ≡ true → IsNewer b h
+      → h.minted + 1 < 2 ^ 64
+      → on_packet job p h ≡ house.Does (moves.grants job b
+      (record { place = []; thread = ok.takes.thread; numbers = job.input }) h)
   unfolding on_packet on_body
   root_served ok h b p mine here says free none live newer room =
-      let new : stolen job b h ≡ served job b (moves.root_task job) h = rw (live, free, none) (newer_served (reply_in b.from h.replies) b.seq newer _ _ _) in
-      let first : on_packet job p h ≡ stolen job b h = rw (eq-eqb p.job job.number mine, says, eq-eqb p.to (name_of h) here) refl in
+      let new : stolen job b h ≡ served job b (moves.root_task job) h =
+      rw (live, free, none) (newer_served (reply_in b.from h.replies) b.seq newer _ _ _) in
+      let first : on_packet job p h ≡ stolen job b h =
+      rw (eq-eqb p.job job.number mine, says, eq-eqb p.to (name_of h) here) refl in
       first ∙ new ∙ rw (ok.takes.found, lt-ltb (h.minted + 1) (2 ^ 64) room) refl
 
-  pub root_freed : (w : WorldOf) → ((h : HouseOf) → open_house w.house ≡ Some h → RootStands h) → (h : HouseOf) (root : RootGrant) (now : ℕ) → open_house w.house ≡ Some h → h.root ≡ Some root → IsSilent h root.holder now → h.moment < now → (o : StepResult) → CarriedOut job (AtHouse (at_house.Tick now)) w o → IsRootFree h.outcome o.world
+  pub root_freed : (w : WorldOf) → ((h : HouseOf) → open_house w.house ≡ Some h → RootStands h)
+      → (h : HouseOf) (root : RootGrant) (now : ℕ) → open_house w.house ≡ Some h → h.root ≡ Some root
+      → IsSilent h root.holder now → h.moment < now → (o : StepResult)
+      → CarriedOut job (AtHouse (at_house.Tick now)) w o → IsRootFree h.outcome o.world
   root_freed w stands h root now open_now out silent later o over =
       let end = moment_does job w now h open_now o over in
       let free = moment_frees h root now (stands h open_now) out silent later in
@@ -121,9 +138,22 @@ module _ (job : JobOf) where
       }
 
   abbrev root_sent : HouseOf → Steal → Task → PacketOf
-  root_sent h b task = record { job = job.number; to = b.from; body = body.Grant (record { seq = b.seq; grant = record { minter = name_of h; number = h.minted + 1 }; task = task; saved = h.saved }) }
+  root_sent h b task = record {
+    job = job.number;
+    to = b.from;
+    body =
+        body.Grant (record {
+          seq = b.seq;
+          grant = record { minter = name_of h; number = h.minted + 1 };
+          task = task;
+          saved = h.saved;
+        });
+  }
 
-  pub root_granted : (ok : IsJob job) (w : WorldOf) (i : ℕ) (h : HouseOf) (b : Steal) → open_house w.house ≡ Some h → h.root ≡ None → h.outcome ≡ None → is_live b.from (members_of h) ≡ true → IsNewer b h → h.minted + 1 < 2 ^ 64 → IsPacket job w i (name_of h) (body.Steal b) → (o : StepResult) → CarriedOut job (AtHouse (at_house.Deliver i)) w o → IsRootGranted job b o
+  pub root_granted : (ok : IsJob job) (w : WorldOf) (i : ℕ) (h : HouseOf) (b : Steal) → open_house w.house ≡ Some h
+      → h.root ≡ None → h.outcome ≡ None → is_live b.from (members_of h) ≡ true → IsNewer b h → h.minted + 1 < 2 ^ 64
+      → IsPacket job w i (name_of h) (body.Steal b) → (o : StepResult)
+      → CarriedOut job (AtHouse (at_house.Deliver i)) w o → IsRootGranted job b o
   root_granted ok w i h b open_now free none live newer room x o over =
       let first : Task = record { place = []; thread = ok.takes.thread; numbers = job.input } in
       let answer = root_served ok h b x.packet x.job_is x.to_is x.says free none live newer room in

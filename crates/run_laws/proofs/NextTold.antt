@@ -45,7 +45,8 @@ module _ {X Y : Type 0} where
   in_map f (z ∷ zs) x (inr m) = inr (in_map f zs x m)
 
 -- a node's event is carried out by the node that is there
-pub node_step : (a : ℕ) (n : NodeOf) (w : WorldOf) (f : NodeOf → StepResult) (o : StepResult) → node_in a w.nodes ≡ Some n → o ≡ with_some (node_in a w.nodes) w f → o ≡ f n
+pub node_step : (a : ℕ) (n : NodeOf) (w : WorldOf) (f : NodeOf → StepResult) (o : StepResult)
+    → node_in a w.nodes ≡ Some n → o ≡ with_some (node_in a w.nodes) w f → o ≡ f n
 unfolding with_some
 node_step a n w f o there is = rw there at is
 
@@ -65,19 +66,26 @@ module _ (job : JobOf) (w : WorldOf) (a : ℕ) (n : NodeOf) (there : node_in a w
     told = flat_map (results job n.incarnation) n.subs
 
     request_told : (q : Request) → n.asker.pending ≡ Some q → steal job n.incarnation q ∈ call.member_resend job n r
-    request_told q pending = inr (early (call.pending_steal job n n.asker.pending) told (steal job n.incarnation q) (rw pending (inl refl)))
+    request_told q pending = inr (early (call.pending_steal job n n.asker.pending) told (steal job n.incarnation q)
+        (rw pending (inl refl)))
 
-    result_told : (g : Grant) (s : SubOf) (x : Outcome) → sub_in g n.subs ≡ Some s → s.content.progress ≡ Finished x → result_of job n s x ∈ call.member_resend job n r
+    result_told : (g : Grant) (s : SubOf) (x : Outcome) → sub_in g n.subs ≡ Some s → s.content.progress ≡ Finished x
+        → result_of job n s x ∈ call.member_resend job n r
     result_told g s x held over =
         let here : result_of job n s x ∈ results job n.incarnation s = rw over (inl refl) in
-        inr (later (call.pending_steal job n n.asker.pending) told (result_of job n s x) (in_flat (results job n.incarnation) n.subs s (result_of job n s x) (found_among _ s n.subs held) here))
+        inr (later (call.pending_steal job n n.asker.pending) told (result_of job n s x)
+        (in_flat (results job n.incarnation) n.subs s (result_of job n s x) (found_among _ s n.subs held) here))
 
     pub member_tells : (o : StepResult) → Step job (resend a) w o → MemberTells job n (sent_in o.answer)
     member_tells o step =
-        let sent : sent_in o.answer ≡ call.member_resend job n r = ap (λ (x : StepResult). sent_in x.answer) (resent o step) ∙ ap (λ (x : node.Answer). sent_in (answered a x w).answer) member_resent in
+        let sent : sent_in o.answer ≡ call.member_resend job n r =
+        ap (λ (x : StepResult). sent_in x.answer) (resent o step)
+        ∙ ap (λ (x : node.Answer). sent_in (answered a x w).answer) member_resent in
         record {
-          request = λ q pending. subst (λ (ps : List PacketOf). steal job n.incarnation q ∈ ps) (sym sent) (request_told q pending);
-          results = λ g s x held over. subst (λ (ps : List PacketOf). result_of job n s x ∈ ps) (sym sent) (result_told g s x held over);
+          request = λ q pending. subst (λ (ps : List PacketOf). steal job n.incarnation q ∈ ps) (sym sent)
+              (request_told q pending);
+          results = λ g s x held over. subst (λ (ps : List PacketOf). result_of job n s x ∈ ps) (sym sent)
+              (result_told g s x held over);
         }
 
   -- a leaver's
@@ -86,13 +94,19 @@ module _ (job : JobOf) (w : WorldOf) (a : ℕ) (n : NodeOf) (there : node_in a w
     unfolding call.resend by_state
     leaver_resent = rw leaving refl
 
-    offer_told : (s : SubOf) (p : PacketOf) → s ∈ n.subs → p ∈ cut (offer job.number n.incarnation heir s) → p ∈ call.leaving_resend job n r heir
+    offer_told : (s : SubOf) (p : PacketOf) → s ∈ n.subs → p ∈ cut (offer job.number n.incarnation heir s)
+        → p ∈ call.leaving_resend job n r heir
     offer_told s p held here =
         let q : PacketOf = offer job.number n.incarnation heir s in
-        let among : p ∈ call.offers job heir n = in_flat cut (map (offer job.number n.incarnation heir) n.subs) (offer job.number n.incarnation heir s) p (in_map (offer job.number n.incarnation heir) n.subs s held) here in
-        inr (early (call.offers job heir n ++ grants_in (awaited r n)) (leaves job r heir n) p (early (call.offers job heir n) (grants_in (awaited r n)) p among))
+        let among : p ∈ call.offers job heir n =
+        in_flat cut (map (offer job.number n.incarnation heir) n.subs) (offer job.number n.incarnation heir s) p
+        (in_map (offer job.number n.incarnation heir) n.subs s held) here in
+        inr (early (call.offers job heir n ++ grants_in (awaited r n)) (leaves job r heir n) p
+        (early (call.offers job heir n) (grants_in (awaited r n)) p among))
 
     pub leaver_tells : (o : StepResult) → Step job (resend a) w o → LeaverTells job n heir (sent_in o.answer)
     leaver_tells o step g s p held here =
-        let sent : sent_in o.answer ≡ call.leaving_resend job n r heir = ap (λ (x : StepResult). sent_in x.answer) (resent o step) ∙ ap (λ (x : node.Answer). sent_in (answered a x w).answer) leaver_resent in
+        let sent : sent_in o.answer ≡ call.leaving_resend job n r heir =
+        ap (λ (x : StepResult). sent_in x.answer) (resent o step)
+        ∙ ap (λ (x : node.Answer). sent_in (answered a x w).answer) leaver_resent in
         subst (λ (ps : List PacketOf). p ∈ ps) (sym sent) (offer_told s p (found_among _ s n.subs held) here)

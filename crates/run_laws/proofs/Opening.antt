@@ -62,16 +62,23 @@ lost_old : (v : View) (js : List ℕ) (j : ℕ) → j ∈ without_joining v js �
 lost_old v [] j m = absurd m
 lost_old v (k ∷ js) j m = by_mode (lost_old v js j) (joins (v.mode k)) refl m
   where
-    by_mode : (j ∈ without_joining v js → (j ∈ js) × (v.mode j ≡ Joining → ⊥)) → (b : Bool) → joins (v.mode k) ≡ b → j ∈ cond b (without_joining v js) (k ∷ without_joining v js) → (j ∈ (k ∷ js)) × (v.mode j ≡ Joining → ⊥)
+    by_mode : (j ∈ without_joining v js → (j ∈ js) × (v.mode j ≡ Joining → ⊥)) → (b : Bool) → joins (v.mode k) ≡ b
+        → j ∈ cond b (without_joining v js) (k ∷ without_joining v js) → (j ∈ (k ∷ js)) × (v.mode j ≡ Joining → ⊥)
     by_mode rest true e m = let r = rest m in (inr r.0, r.1)
     by_mode rest false e (inr m) = let r = rest m in (inr r.0, r.1)
-    by_mode rest false e (inl same) = (inl same, λ is. let yes : joins (v.mode k) ≡ true = ap (λ (x : ℕ). joins (v.mode x)) (sym same) ∙ joining (v.mode j) is in let two : true ≡ false = sym yes ∙ e in cc)
+    by_mode rest false e (inl same) = (
+      inl same,
+      λ is. let yes : joins (v.mode k) ≡ true =
+          ap (λ (x : ℕ). joins (v.mode x)) (sym same) ∙ joining (v.mode j) is in let two : true ≡ false =
+          sym yes ∙ e in cc,
+    )
 
 lost_all : (v : View) (js : List ℕ) (j : ℕ) → j ∈ js → (v.mode j ≡ Joining → ⊥) → j ∈ without_joining v js
 lost_all v [] j m not = absurd m
 lost_all v (k ∷ js) j m not = by_mode (λ x. lost_all v js j x not) (joins (v.mode k)) refl m
   where
-    by_mode : (j ∈ js → j ∈ without_joining v js) → (b : Bool) → joins (v.mode k) ≡ b → j ∈ (k ∷ js) → j ∈ cond b (without_joining v js) (k ∷ without_joining v js)
+    by_mode : (j ∈ js → j ∈ without_joining v js) → (b : Bool) → joins (v.mode k) ≡ b → j ∈ (k ∷ js)
+        → j ∈ cond b (without_joining v js) (k ∷ without_joining v js)
     by_mode rest true e (inl same) = absurd (not (ap v.mode same ∙ joins_is (v.mode k) e))
     by_mode rest true e (inr m) = rest m
     by_mode rest false e (inl same) = inl same
@@ -80,7 +87,8 @@ lost_all v (k ∷ js) j m not = by_mode (λ x. lost_all v js j x not) (joins (v.
 -- what is read is what is kept
 module _ (job : JobOf) (v : View) (w : WorldOf) (shown : Shown job v w) (way : Openable job w.disk) where
   agrees : (way.sequence ≡ shown.disk.sequence) × (way.found ≡ shown.disk.found)
-  agrees = one_kept w.disk.file way.reads.0 way.sequence shown.disk.sequence way.found shown.disk.found way.reads.1 shown.disk.keeps
+  agrees = one_kept w.disk.file way.reads.0 way.sequence shown.disk.sequence way.found shown.disk.found way.reads.1
+      shown.disk.keeps
 
   pub read_kept : KeepsRecord w.disk.file way.sequence way.found
   read_kept = kept_as (sym agrees.0) (sym agrees.1) shown.disk.keeps
@@ -96,15 +104,27 @@ module _ (job : JobOf) (v : View) (w : WorldOf) (shown : Shown job v w) (way : O
 
   -- a disk that keeps it, of whatever sequence
   still_shown : (d : Device) (m : ℕ) → KeepsRecord d.file m way.found → DiskShown job v d Down
-  still_shown d m keeps = record { sequence = m; found = way.found; keeps = keeps; own = way.own; stored = read_stored; epoch = read_epoch; saved = read_saved; held = tt }
+  still_shown d m keeps = record {
+    sequence = m;
+    found = way.found;
+    keeps = keeps;
+    own = way.own;
+    stored = read_stored;
+    epoch = read_epoch;
+    saved = read_saved;
+    held = tt;
+  }
 
   -- one of the calls by which the store is opened failed
-  pub half_read : (k : ℕ) (bytes : List ℕ) → k < length way.opens → DiskShown job v (halted w.disk way.opens k bytes) Down
+  pub half_read : (k : ℕ) (bytes : List ℕ) → k < length way.opens
+      → DiskShown job v (halted w.disk way.opens k bytes) Down
   half_read k bytes within =
-      let kept = opens_cut_off w.disk way.sequence way.found read_kept way.counts way.opens way.opening k bytes within in
+      let kept = opens_cut_off w.disk way.sequence way.found read_kept way.counts way.opens way.opening k bytes
+      within in
       still_shown (halted w.disk way.opens k bytes) kept.0 kept.1
 
-module _ (job : JobOf) (base v : View) (w : WorldOf) (run : Run (tables_meaning job) v) (since : Leads base v) (shown : Shown job v w) (closed : Closed v) (opens : Opens job w.disk) where
+module _ (job : JobOf) (base v : View) (w : WorldOf) (run : Run (tables_meaning job) v) (since : Leads base v)
+    (shown : Shown job v w) (closed : Closed v) (opens : Opens job w.disk) where
   abbrev way : Openable job w.disk
   way = opens.way
 
@@ -112,11 +132,22 @@ module _ (job : JobOf) (base v : View) (w : WorldOf) (run : Run (tables_meaning 
   next = begun_of way
 
   -- one of the calls failed
-  pub half_opened : (k : ℕ) (bytes : List ℕ) → k < length (calls_of opens) → DiskShown job v (halted w.disk (calls_of opens) k bytes) Down
+  pub half_opened : (k : ℕ) (bytes : List ℕ) → k < length (calls_of opens)
+      → DiskShown job v (halted w.disk (calls_of opens) k bytes) Down
   half_opened k bytes within = ⊎_elim
       (λ old. still_shown job v w shown way (halted w.disk (calls_of opens) k bytes) old.0 old.1)
-      (λ new. record { sequence = way.counts + 1; found = record_of job next; keeps = new; own = refl; stored = read_stored job v w shown way; epoch = let e = read_epoch job v w shown way in omega (arith, e); saved = read_saved job v w shown way; held = tt })
-      (opening_cut_off w.disk way.sequence way.found (read_kept job v w shown way) way.counts way.opens way.opening (record_of job next) opens.calls opens.commit k bytes within)
+      (λ new. record {
+        sequence = way.counts + 1;
+        found = record_of job next;
+        keeps = new;
+        own = refl;
+        stored = read_stored job v w shown way;
+        epoch = let e = read_epoch job v w shown way in omega (arith, e);
+        saved = read_saved job v w shown way;
+        held = tt;
+      })
+      (opening_cut_off w.disk way.sequence way.found (read_kept job v w shown way) way.counts way.opens way.opening
+      (record_of job next) opens.calls opens.commit k bytes within)
 
   -- all passed
   abbrev new : HouseOf
@@ -157,7 +188,16 @@ module _ (job : JobOf) (base v : View) (w : WorldOf) (run : Run (tables_meaning 
   act = acts.opens i lost roster may
 
   others : (j : ℕ) → (j ≡ i → ⊥) → SameAt v x j
-  others j apart = record { mode = put_other v.mode i j House apart; minted = put_other v.minted i j 0 apart; asked = put_other v.asked i j 0 apart; seen = λ g. clear_other v.seen i j g apart; subs = λ g. clear_other v.subs i j g apart; pending = put_other v.pending i j None apart; kept = λ t. clear_other v.kept i j t apart; roster = put_other v.roster i j None apart }
+  others j apart = record {
+    mode = put_other v.mode i j House apart;
+    minted = put_other v.minted i j 0 apart;
+    asked = put_other v.asked i j 0 apart;
+    seen = λ g. clear_other v.seen i j g apart;
+    subs = λ g. clear_other v.subs i j g apart;
+    pending = put_other v.pending i j None apart;
+    kept = λ t. clear_other v.kept i j t apart;
+    roster = put_other v.roster i j None apart;
+  }
 
   own : OpenShown x new
   own = record {
@@ -172,13 +212,16 @@ module _ (job : JobOf) (base v : View) (w : WorldOf) (run : Run (tables_meaning 
     root = tt;
     stored = read_stored job v w shown way;
     epoch = refl;
-    only = λ j e. ⊎_elim (λ (same : j ≡ i). same) (λ (apart : j ≡ i → ⊥). absurd (closed.nobody j (sym (others j apart).mode ∙ e))) (same_or j i);
+    only = λ j e. ⊎_elim (λ (same : j ≡ i). same)
+        (λ (apart : j ≡ i → ⊥). absurd (closed.nobody j (sym (others j apart).mode ∙ e))) (same_or j i);
   }
 
   no_worker : (n : NodeOf) → of_worker n.incarnation ≡ true → n.incarnation ≡ i → ⊥
-  no_worker n worker e = let house : of_worker n.incarnation ≡ false = rw e (house_named (way.found.epoch + 1)) in let two : true ≡ false = sym worker ∙ house in cc
+  no_worker n worker e = let house : of_worker n.incarnation ≡ false =
+      rw e (house_named (way.found.epoch + 1)) in let two : true ≡ false = sym worker ∙ house in cc
 
-  pub opened_tied : TiedSince job base (record w { house = IsUp (Open new); disk = made w.disk (calls_of opens); net = w.net ++ [] })
+  pub opened_tied : TiedSince job base
+      (record w { house = IsUp (Open new); disk = made w.disk (calls_of opens); net = w.net ++ [] })
   unfolding act
   opened_tied =
       let keeps : KeepsSent v x = keeps_one act in
@@ -187,23 +230,29 @@ module _ (job : JobOf) (base v : View) (w : WorldOf) (run : Run (tables_meaning 
         run = by_right run act tt;
         since = leads_on since act;
         shown = record {
-          nodes = λ a n at. node_beside v x n (others n.incarnation (no_worker n (shown.workers a n at))) keeps (shown.nodes a n at);
+          nodes = λ a n at. node_beside v x n (others n.incarnation (no_worker n (shown.workers a n at))) keeps
+              (shown.nodes a n at);
           workers = shown.workers;
           started = shown.started;
           apart = shown.apart;
           up = λ j works not_house. ⊎_elim
-              (λ (same : j ≡ i). let here : x.mode j ≡ House = ap x.mode same ∙ put_here v.mode i House in absurd (not_house here))
+              (λ (same : j ≡ i). let here : x.mode j ≡ House =
+              ap x.mode same ∙ put_here v.mode i House in absurd (not_house here))
               (λ (apart : j ≡ i → ⊥). (
               let mode = (others j apart).mode in
               let old : UpAt w j = shown.up j (rw mode at works) (λ e. not_house (mode ∙ e)) in
               record { at = old.at; node = old.node; there = old.there; name = old.name }))
               (same_or j i);
           words = λ j m of. ⊎_elim
-              (λ (same : j ≡ i). let house : of_worker j ≡ false = rw same (house_named (way.found.epoch + 1)) in let two : true ≡ false = sym of ∙ house in cc)
+              (λ (same : j ≡ i). let house : of_worker j ≡ false =
+              rw same (house_named (way.found.epoch + 1)) in let two : true ≡ false = sym of ∙ house in cc)
               (λ old. shown.words j old of)
               m;
           house = record { shown = own; sound = opened_house silence next };
-          disk = open_disk job x new (made w.disk (calls_of opens)) own (opening_committed w.disk way.sequence way.found (read_kept job v w shown way) way.counts way.opens way.opening (record_of job next) opens.calls opens.commit) (read_saved job v w shown way);
+          disk = open_disk job x new (made w.disk (calls_of opens)) own
+              (opening_committed w.disk way.sequence way.found
+              (read_kept job v w shown way) way.counts way.opens way.opening
+              (record_of job next) opens.calls opens.commit) (read_saved job v w shown way);
           net = both_shown x w.net [] (all_shown keeps w.net shown.net) (none_shown x);
           sent = λ t m. sent_early w.net [] t (shown.sent t m);
           fills = shown.fills;

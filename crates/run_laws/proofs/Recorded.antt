@@ -20,16 +20,19 @@ pub told_back : (o : Outcome) → outcome_of (outcome_number o) ≡ o
 told_back (Value v) = refl
 told_back TooDeep = refl
 
-pub stored_at : (v : View) (house : HouseAt) (o : Outcome) → HouseShown v house → recorded_at house ≡ Some o → v.stored ≡ Some (outcome_number o)
+pub stored_at : (v : View) (house : HouseAt) (o : Outcome) → HouseShown v house → recorded_at house ≡ Some o
+    → v.stored ≡ Some (outcome_number o)
 stored_at v Down o s e = cc
 stored_at v (IsUp (Open h)) o s e = s.shown.stored ∙ ap stored_of e
 stored_at v (IsUp (Stopped why)) o s e = cc
 
 -- the outcome that the disk keeps, whatever a crash leaves of it
-pub kept_is_meant : (job : JobOf) (w : WorldOf) → (tied : Tied job w) → (o : Outcome) → tied.shown.disk.found.outcome ≡ Some o → o ≡ meaning_of job
+pub kept_is_meant : (job : JobOf) (w : WorldOf) → (tied : Tied job w) → (o : Outcome)
+    → tied.shown.disk.found.outcome ≡ Some o → o ≡ meaning_of job
 kept_is_meant job w tied o e =
     let stored = tied.shown.disk.stored ∙ ap stored_of e in
-    sym (told_back o) ∙ ap outcome_of ((values_run (program_meaning job.program job.input) (program_serial job.program job.input) tied.run).stored_agrees (outcome_number o) stored)
+    sym (told_back o) ∙ ap outcome_of ((values_run (program_meaning job.program job.input)
+    (program_serial job.program job.input) tied.run).stored_agrees (outcome_number o) stored)
 
 -- so another run can begin on it
 pub goes_on : (job : JobOf) (w : WorldOf) → Tied job w → w.disk.arming ≡ Unarmed → CanBegin job w.disk
@@ -43,7 +46,9 @@ goes_on job w tied unarmed = record {
   saved = tied.shown.disk.saved;
 }
 
-pub recorded_is_meant : (job : JobOf) (w : WorldOf) → Tied job w → (o : Outcome) → recorded w ≡ Some o → o ≡ meaning_of job
+pub recorded_is_meant : (job : JobOf) (w : WorldOf) → Tied job w → (o : Outcome) → recorded w ≡ Some o
+    → o ≡ meaning_of job
 recorded_is_meant job w tied o e =
     let stored = stored_at tied.view w.house o tied.shown.house e in
-    sym (told_back o) ∙ ap outcome_of ((values_run (program_meaning job.program job.input) (program_serial job.program job.input) tied.run).stored_agrees (outcome_number o) stored)
+    sym (told_back o) ∙ ap outcome_of ((values_run (program_meaning job.program job.input)
+    (program_serial job.program job.input) tied.run).stored_agrees (outcome_number o) stored)

@@ -47,26 +47,54 @@ module _ (job : JobOf) (w : WorldOf) (tied : Tied job w) where
 
   transfer_of : (g : Grant) (t : Task) → WasGranted job w.net g t → IsTransferOf g t
   transfer_of g t was =
-      let s : GrantShown v.transfers was.to (record { seq = was.seq; grant = g; task = t; saved = was.saved }) = tied.shown.net (record { job = job.number; to = was.to; body = body.Grant (record { seq = was.seq; grant = g; task = t; saved = was.saved }) }) (got w.net was.at _ was.sent) in
+      let s : GrantShown v.transfers was.to (record { seq = was.seq; grant = g; task = t; saved = was.saved }) =
+      tied.shown.net (record {
+        job = job.number;
+        to = was.to;
+        body = body.Grant (record { seq = was.seq; grant = g; task = t; saved = was.saved });
+      })
+      (got w.net was.at _ was.sent) in
       record { transfer = s.transfer; sent = s.sent; grant = s.grant; task = s.content.task }
 
   -- so a Result tells the outcome of each task that was granted under its name
-  outcome_of_granted : (b : TaskResult) (to : ℕ) → result_to b.grant to (outcome_number b.outcome) ∈ v.results → (t : Task) → WasGranted job w.net b.grant t → b.outcome ≡ outcome_at job.program job.input t.place
+  outcome_of_granted : (b : TaskResult) (to : ℕ) → result_to b.grant to (outcome_number b.outcome) ∈ v.results
+      → (t : Task) → WasGranted job w.net b.grant t → b.outcome ≡ outcome_at job.program job.input t.place
   outcome_of_granted b to told t was =
       let u = transfer_of b.grant t was in
-      told_outcome job v tied.run b.outcome t.place (told_value job v tied.run b.grant to (outcome_number b.outcome) u.transfer told u.sent u.grant ∙ ap (λ (x : tables.Task). (tables_meaning job).value x.place) u.task)
+      told_outcome job v tied.run b.outcome t.place
+      (told_value job v tied.run b.grant to (outcome_number b.outcome) u.transfer told u.sent u.grant
+      ∙ ap (λ (x : tables.Task). (tables_meaning job).value x.place) u.task)
 
   -- and there is one
-  made : (p : PacketOf) (b : GrantBody) (g : Grant) → p.job ≡ job.number → p.body ≡ body.Grant b → b.grant ≡ g → p ≡ record { job = job.number; to = p.to; body = body.Grant (record { seq = b.seq; grant = g; task = b.task; saved = b.saved }) }
+  made : (p : PacketOf) (b : GrantBody) (g : Grant) → p.job ≡ job.number → p.body ≡ body.Grant b → b.grant ≡ g
+      → p ≡ record {
+        job = job.number;
+        to = p.to;
+        body = body.Grant (record { seq = b.seq; grant = g; task = b.task; saved = b.saved });
+      }
   made p b g own is of =
       ap (λ (j : ℕ). let x : PacketOf = record { job = j; to = p.to; body = p.body } in x) own
       ∙ ap (λ (k : Body). let x : PacketOf = record { job = job.number; to = p.to; body = k } in x) is
-      ∙ ap (λ (k : Grant). let x : PacketOf = record { job = job.number; to = p.to; body = body.Grant (record { seq = b.seq; grant = k; task = b.task; saved = b.saved }) } in x) of
+      ∙ ap (λ (k : Grant). let x : PacketOf =
+      record {
+        job = job.number;
+        to = p.to;
+        body = body.Grant (record { seq = b.seq; grant = k; task = b.task; saved = b.saved });
+      } in x) of
 
-  granted_by : (g : Grant) (u : Transfer) → u.grant ≡ g → u.hop ≡ 0 → (s : IsSent job.number w.net u) → (x : Body) → s.packet.body ≡ x → Carries u x → BodyShown v s.packet.to x → (t : Task) × WasGranted job w.net g t
+  granted_by : (g : Grant) (u : Transfer) → u.grant ≡ g → u.hop ≡ 0 → (s : IsSent job.number w.net u) → (x : Body)
+      → s.packet.body ≡ x → Carries u x → BodyShown v s.packet.to x → (t : Task) × WasGranted job w.net g t
   granted_by g u of first s (body.Grant b) is (same, seq, hop, task) shown =
-      let p = placed w.net s.packet s.there in
-      (b.task, record { at = p.at; to = s.packet.to; seq = b.seq; saved = b.saved; sent = p.is ∙ ap Some (made s.packet b g s.job_is is (same ∙ of)) })
+      let p = placed w.net s.packet s.there in (
+        b.task,
+        record {
+          at = p.at;
+          to = s.packet.to;
+          seq = b.seq;
+          saved = b.saved;
+          sent = p.is ∙ ap Some (made s.packet b g s.job_is is (same ∙ of));
+        },
+      )
   granted_by g u of first s (body.Offer b) is (same, hop) shown =
       let o : OfferShown v.transfers s.packet.to b = shown in
       let a : o.transfer.hop ≡ suc o.before = o.later in
@@ -85,14 +113,17 @@ module _ (job : JobOf) (w : WorldOf) (tied : Tied job w) where
   granted_by g u of first s (body.Piece b) is carries shown = absurd carries
   granted_by g u of first s (body.Save b) is carries shown = absurd carries
 
-  some_granted : (b : TaskResult) (to : ℕ) → result_to b.grant to (outcome_number b.outcome) ∈ v.results → (t : Task) × WasGranted job w.net b.grant t
+  some_granted : (b : TaskResult) (to : ℕ) → result_to b.grant to (outcome_number b.outcome) ∈ v.results
+      → (t : Task) × WasGranted job w.net b.grant t
   some_granted b to told =
       let names = names_reached (run_reached tied.run) in
-      let granted : Granted v.transfers b.grant = names.result_granted (result_to b.grant to (outcome_number b.outcome)) told in
+      let granted : Granted v.transfers b.grant =
+      names.result_granted (result_to b.grant to (outcome_number b.outcome)) told in
       by_first (grant_of_transfer v names b.grant granted)
     where
       by_first : ((i : ℕ) × SentTo v.transfers b.grant 0 i) → (t : Task) × WasGranted job w.net b.grant t
-      by_first (i, f) = let s = tied.shown.sent f.transfer f.sent in granted_by b.grant f.transfer f.grant f.hop s s.packet.body refl s.carries (tied.shown.net s.packet s.there)
+      by_first (i, f) = let s = tied.shown.sent f.transfer f.sent in granted_by b.grant f.transfer f.grant f.hop s
+          s.packet.body refl s.carries (tied.shown.net s.packet s.there)
 
   body_agrees : (x : Body) (to : ℕ) → BodyIsRight job x → BodyShown v to x → BodyAgrees job w.net x
   body_agrees (body.Grant b) to right shown = (right.0, right.1)
@@ -128,7 +159,10 @@ module _ (job : JobOf) (w : WorldOf) (tied : Tied job w) where
 pub stored_agrees : (job : JobOf) (w : WorldOf) → Tied job w → StoredAgree job w.disk
 stored_agrees job w tied content left n r reads =
     let disk = tied.shown.disk in
-    subst (λ (x : CheckpointRecord). AllSavedAgree job x.saved) (sym (one_store content reads.0 disk.keeps.slot n disk.sequence r disk.found reads.1 (disk.keeps.each content left)).2) disk.saved
+    subst (λ (x : CheckpointRecord). AllSavedAgree job x.saved)
+    (sym (one_store content reads.0 disk.keeps.slot n disk.sequence r disk.found reads.1
+    (disk.keeps.each content left)).2) disk.saved
 
-pub received : (job : JobOf) (w : WorldOf) → WorldIsRight job w → (i : ℕ) (f : Fill) → slice_get w.fills i ≡ Some f → IsReceived job (filling_of f)
+pub received : (job : JobOf) (w : WorldOf) → WorldIsRight job w → (i : ℕ) (f : Fill) → slice_get w.fills i ≡ Some f
+    → IsReceived job (filling_of f)
 received job w right i f e = right.fills f (got w.fills i f e)

@@ -48,7 +48,8 @@ sound_agrees job w s = subst (Agrees job) (sym s.from.cut) (cut_agrees job s.who
 pub sound_loses : (job : JobOf) (w : WorldOf) → IsSound job w → NothingLost w
 sound_loses job w s = subst NothingLost (sym s.from.cut) (cut_loses s.whole (nothing_lost job s.whole s.tied))
 
-module _ (job : JobOf) (ok : IsJob job) (d : Device) (entries : List Entry) (worlds : List WorldOf) (can : CanBegin job d) (runs : Runs job (first_over d) entries worlds) where
+module _ (job : JobOf) (ok : IsJob job) (d : Device) (entries : List Entry) (worlds : List WorldOf)
+    (can : CanBegin job d) (runs : Runs job (first_over d) entries worlds) where
   pub sound : (w : WorldOf) → w ∈ (first_over d ∷ worlds) → IsSound job w
   sound w (inl same) = rw same (first_sound job d can)
   sound w (inr m) = run_sound job ok d entries worlds w can runs m
@@ -63,7 +64,10 @@ module _ (job : JobOf) (ok : IsJob job) (d : Device) (entries : List Entry) (wor
 
   pub all_safe : AllSafe job (first_over d ∷ worlds)
   all_safe = record {
-    safe = record { each = λ i w e. each_safe w (got (first_over d ∷ worlds) i w e); stays = runs_stay job ok d entries worlds can runs };
+    safe = record {
+      each = λ i w e. each_safe w (got (first_over d ∷ worlds) i w e);
+      stays = runs_stay job ok d entries worlds can runs;
+    };
     agree = λ w m. sound_agrees job w (sound w m);
     none_lost = λ w m. sound_loses job w (sound w m);
     stand = stands;

@@ -97,7 +97,11 @@ module _ (m : Meaning) (v : View) (run : Run m v) where
     known_offered o to y g s there = elim (put_or_there name_of_sub (name_of_grant g) (offered o) s n.subs there) [
       | inl both ↦ let same : g ≡ o.grant = grant_named g o.grant both.0 in
           let c : Known g (offered o) =
-          record { content = y.transfer.content; cont = sent y.transfer y.sent (y.grant ∙ sym same) refl; shows = y.content } in
+          record {
+            content = y.transfer.content;
+            cont = sent y.transfer y.sent (y.grant ∙ sym same) refl;
+            shows = y.content;
+          } in
           rw both.1 c
       | inr both ↦ known g s both.1
     ]

@@ -29,13 +29,18 @@ use Rattle.run_laws.specs.Shown.{UpAt, Closed, HouseShown, DiskShown, Shown, Tie
 use Rattle.run_laws.proofs.Places.{put_here, put_beside, new_or_old}
 
 -- the clearinghouse stays shown by moves of a worker
-module _ (v x : View) (i : ℕ) (worker : of_worker i ≡ true) (same : SameHouse v x) (keeps : KeepsSent v x) (others : (j : ℕ) → (j ≡ i → ⊥) → SameAt v x j) (own : x.mode i ≡ House → ⊥) (names : (j : ℕ) → v.mode j ≡ House → of_worker j ≡ false) where
+module _ (v x : View) (i : ℕ) (worker : of_worker i ≡ true) (same : SameHouse v x) (keeps : KeepsSent v x)
+    (others : (j : ℕ) → (j ≡ i → ⊥) → SameAt v x j) (own : x.mode i ≡ House → ⊥) (names : (j : ℕ)
+    → v.mode j ≡ House → of_worker j ≡ false) where
   was_house : (j : ℕ) → x.mode j ≡ House → v.mode j ≡ House
-  was_house j e = ⊎_elim (λ (is : j ≡ i). absurd (own (rw is at e))) (λ other. sym (others j other).mode ∙ e) (same_or j i)
+  was_house j e = ⊎_elim (λ (is : j ≡ i). absurd (own (rw is at e))) (λ other. sym (others j other).mode
+      ∙ e) (same_or j i)
 
   open_beside : (h : HouseOf) → OpenShown v h → OpenShown x h
   open_beside h s =
-      let apart : name_of h ≡ i → ⊥ = λ e. (let house = names (name_of h) s.mode in let w : of_worker (name_of h) ≡ true = rw e worker in let two : true ≡ false = sym w ∙ house in cc) in
+      let apart : name_of h ≡ i → ⊥ = λ e. (let house =
+      names (name_of h) s.mode in let w : of_worker (name_of h) ≡ true = rw e worker in let two : true ≡ false =
+      sym w ∙ house in cc) in
       let at = others (name_of h) apart in
       record {
         mode = at.mode ∙ s.mode;
@@ -61,8 +66,19 @@ module _ (v x : View) (i : ℕ) (worker : of_worker i ≡ true) (same : SameHous
   house_beside (IsUp (Stopped why)) s = closed_beside s
 
 -- so does its disk
-pub disk_beside : (job : JobOf) (v x : View) (d : Device) (house : HouseAt) → SameHouse v x → DiskShown job v d house → DiskShown job x d house
-disk_beside job v x d house same s = record { sequence = s.sequence; found = s.found; keeps = s.keeps; own = s.own; stored = same.stored ∙ s.stored; epoch = rw same.epoch s.epoch; saved = s.saved; held = s.held }
+pub disk_beside : (job : JobOf) (v x : View) (d : Device) (house : HouseAt) → SameHouse v x
+    → DiskShown job v d house → DiskShown job x d house
+disk_beside job v x d house same s =
+    record {
+      sequence = s.sequence;
+      found = s.found;
+      keeps = s.keeps;
+      own = s.own;
+      stored = same.stored ∙ s.stored;
+      epoch = rw same.epoch s.epoch;
+      saved = s.saved;
+      held = s.held;
+    }
 
 -- a node's mode is no house's
 pub not_house : (v : View) (n : NodeOf) → NodeShown v n → v.mode n.incarnation ≡ House → ⊥
@@ -74,8 +90,10 @@ not_house v n s e = by_state n.state (sym s.mode ∙ e)
     by_state (Leaving r heir) e = cc
     by_state Ended e = cc
 
-module _ (job : JobOf) (base v : View) (w : WorldOf) (run : Run (tables_meaning job) v) (since : Leads base v) (shown : Shown job v w) (a : ℕ) (n : NodeOf) (there : node_in a w.nodes ≡ Some n) where
-  stepped_shown : (s : node.StepOf) → (step : StepShown (tables_meaning job) job.number v n s) → Shown job step.view (stepped a s w).world
+module _ (job : JobOf) (base v : View) (w : WorldOf) (run : Run (tables_meaning job) v) (since : Leads base v)
+    (shown : Shown job v w) (a : ℕ) (n : NodeOf) (there : node_in a w.nodes ≡ Some n) where
+  stepped_shown : (s : node.StepOf) → (step : StepShown (tables_meaning job) job.number v n s)
+      → Shown job step.view (stepped a s w).world
   stepped_shown s step =
       let x = step.view in
       let keeps : KeepsSent v x = keeps_all step.way in
@@ -88,7 +106,8 @@ module _ (job : JobOf) (base v : View) (w : WorldOf) (run : Run (tables_meaning 
       record {
         nodes = λ b o at. ⊎_elim
             (λ new. rw (new.1) step.node)
-            (λ old. node_beside v x o (others o.incarnation (λ e. old.0 (shown.apart b a o n old.1 there e))) keeps (shown.nodes b o old.1))
+            (λ old. node_beside v x o (others o.incarnation (λ e. old.0 (shown.apart b a o n old.1 there e))) keeps
+            (shown.nodes b o old.1))
             (new_or_old a b s.after o w.nodes at);
         workers = λ b o at. ⊎_elim
             (λ new. rw (new.1, step.name) worker)
@@ -101,37 +120,73 @@ module _ (job : JobOf) (base v : View) (w : WorldOf) (run : Run (tables_meaning 
         apart = λ b c o p at bt e. ⊎_elim
             (λ new. ⊎_elim
             (λ also. new.0 ∙ sym also.0)
-            (λ old. absurd (old.0 (shown.apart c a p n old.1 there (sym e ∙ ap (λ (z : NodeOf). z.incarnation) new.1 ∙ step.name))))
+            (λ old. absurd (old.0 (shown.apart c a p n old.1 there (sym e ∙ ap (λ (z : NodeOf). z.incarnation) new.1
+            ∙ step.name))))
             (new_or_old a c s.after p w.nodes bt))
             (λ old. ⊎_elim
-            (λ new. absurd (old.0 (shown.apart b a o n old.1 there (e ∙ ap (λ (z : NodeOf). z.incarnation) new.1 ∙ step.name))))
+            (λ new. absurd (old.0 (shown.apart b a o n old.1 there (e ∙ ap (λ (z : NodeOf). z.incarnation) new.1
+            ∙ step.name))))
             (λ also. shown.apart b c o p old.1 also.1 e)
             (new_or_old a c s.after p w.nodes bt))
             (new_or_old a b s.after o w.nodes at);
         up = λ i works not. ⊎_elim
-            (λ (is : i ≡ n.incarnation). record { at = a; node = s.after; there = put_here a s.after w.nodes; name = step.name ∙ sym is })
+            (λ (is : i ≡ n.incarnation). record {
+              at = a;
+              node = s.after;
+              there = put_here a s.after w.nodes;
+              name = step.name ∙ sym is;
+            })
             (λ other. (
             let mode = (others i other).mode in
             let old : UpAt w i = shown.up i (rw mode at works) (λ e. not (mode ∙ e)) in
-            let elsewhere : old.at ≡ a → ⊥ = λ e. (let here : node_in a w.nodes ≡ Some old.node = rw e at old.there in other (sym old.name ∙ ap (λ (z : NodeOf). z.incarnation) (one_found here there))) in
-            record { at = old.at; node = old.node; there = put_beside a old.at s.after w.nodes elsewhere ∙ old.there; name = old.name }))
+            let elsewhere : old.at ≡ a → ⊥ = λ e. (let here : node_in a w.nodes ≡ Some old.node =
+            rw e at old.there in other (sym old.name
+            ∙ ap (λ (z : NodeOf). z.incarnation) (one_found here there))) in
+            record {
+              at = old.at;
+              node = old.node;
+              there = put_beside a old.at s.after w.nodes elsewhere ∙ old.there;
+              name = old.name;
+            }))
             (same_or i n.incarnation);
         words = λ i m of. shown.words i (rw used at m) of;
-        house = house_beside v x n.incarnation worker same keeps others own (homes_reached (run_reached run)).house_name w.house shown.house;
+        house = house_beside v x n.incarnation worker same keeps others own
+            (homes_reached (run_reached run)).house_name w.house shown.house;
         disk = disk_beside job v x w.disk w.house same shown.disk;
         net = both_shown x w.net s.sent (all_shown keeps w.net shown.net) step.sent;
-        sent = λ t m. ⊎_elim (λ old. sent_early w.net s.sent t (shown.sent t old)) (λ new. sent_late w.net s.sent t new) (step.transfers t m);
+        sent = λ t m. ⊎_elim (λ old. sent_early w.net s.sent t (shown.sent t old)) (λ new. sent_late w.net s.sent t new)
+            (step.transfers t m);
         fills = step.fills ∙ ap (λ fs. shown_fills s.fills fs) shown.fills ∙ sym (fills_on w.fills s.fills []);
       }
 
   -- what a node answers leads to a world that is tied as well
-  pub answered_tied : (ans : node.Answer) → AnswerShown (tables_meaning job) job.number v n ans → TiedSince job base (answered a ans w).world
+  pub answered_tied : (ans : node.Answer) → AnswerShown (tables_meaning job) job.number v n ans
+      → TiedSince job base (answered a ans w).world
   answered_tied node.Ignored s = record { view = v; run = run; since = since; shown = shown }
   answered_tied (node.Refused e) s = record { view = v; run = run; since = since; shown = shown }
-  answered_tied (node.Does step) s = record { view = s.view; run = runs_on run s.way; since = leads_all since s.way; shown = stepped_shown step s }
+  answered_tied (node.Does step) s = record {
+    view = s.view;
+    run = runs_on run s.way;
+    since = leads_all since s.way;
+    shown = stepped_shown step s;
+  }
   answered_tied (node.Forgets k) s =
-      let quietly : StepShown (tables_meaning job) job.number v n (node.quiet k) = record { view = v; way = unmoved; name = s.1; node = s.0; sent = none_shown v; transfers = λ t m. inl m; fills = refl } in
-      let there : TiedSince job base (stepped a (node.quiet k) w).world = record { view = v; run = run; since = since; shown = stepped_shown (node.quiet k) quietly } in
-      let same_net : (stepped a (node.quiet k) w).world ≡ record w { nodes = put_node a k w.nodes; fills = w.fills ++ [] } = ap (λ net. record w { nodes = put_node a k w.nodes; net = net; fills = w.fills ++ [] }) (append-nil w.net) in
-      let same_fills : record w { nodes = put_node a k w.nodes; fills = w.fills ++ [] } ≡ record w { nodes = put_node a k w.nodes } = ap (λ fills. record w { nodes = put_node a k w.nodes; fills = fills }) (append-nil w.fills) in
+      let quietly : StepShown (tables_meaning job) job.number v n (node.quiet k) =
+      record {
+        view = v;
+        way = unmoved;
+        name = s.1;
+        node = s.0;
+        sent = none_shown v;
+        transfers = λ t m. inl m;
+        fills = refl;
+      } in
+      let there : TiedSince job base (stepped a (node.quiet k) w).world =
+      record { view = v; run = run; since = since; shown = stepped_shown (node.quiet k) quietly } in
+      let same_net : (stepped a (node.quiet k) w).world
+      ≡ record w { nodes = put_node a k w.nodes; fills = w.fills ++ [] } =
+      ap (λ net. record w { nodes = put_node a k w.nodes; net = net; fills = w.fills ++ [] }) (append-nil w.net) in
+      let same_fills : record w { nodes = put_node a k w.nodes; fills = w.fills ++ [] }
+      ≡ record w { nodes = put_node a k w.nodes } =
+      ap (λ fills. record w { nodes = put_node a k w.nodes; fills = fills }) (append-nil w.fills) in
       subst (TiedSince job base) (same_net ∙ same_fills) there

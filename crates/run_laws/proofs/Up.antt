@@ -26,12 +26,20 @@ pub record NodeUp (v : View) (w : WorldOf) (i : ℕ) : Type 0 where
   pub parts : PartsShown v node
 
 -- who works in the tables and is no house works in the world
-pub node_up : (job : JobOf) (v : View) (w : WorldOf) → Shown job v w → (i : ℕ) → Works (v.mode i) → (v.mode i ≡ House → ⊥) → NodeUp v w i
+pub node_up : (job : JobOf) (v : View) (w : WorldOf) → Shown job v w → (i : ℕ) → Works (v.mode i)
+    → (v.mode i ≡ House → ⊥) → NodeUp v w i
 node_up job v w shown i works not_house =
     let up : UpAt w i = shown.up i works not_house in
     let node = shown.nodes up.at up.node up.there in
     let mode : v.mode i ≡ mode_of up.node.state = ap v.mode (sym up.name) ∙ node.mode in
-    record { at = up.at; node = up.node; there = up.there; name = up.name; mode = mode; parts = node.parts (rw mode at works) }
+    record {
+      at = up.at;
+      node = up.node;
+      there = up.there;
+      name = up.name;
+      mode = mode;
+      parts = node.parts (rw mode at works);
+    }
 
 -- a member is one in the world
 pub member_state : (x : Stage) → mode_of x ≡ tables.Member → (r : Roster) × (x ≡ Member r)
@@ -54,20 +62,30 @@ pub record HeldLive (w : WorldOf) (g : Grant) (t : Sub) : Type 0 where
   pub shown : IsShown t holder.sub
 
 module _ (job : JobOf) (v : View) (w : WorldOf) (shown : Shown job v w) where
-  node_holds : (i : ℕ) (g : Grant) (t : Sub) → (n : NodeUp v w i) → v.subs i g ≡ Some t → FoundSub t (sub_in g n.node.subs)
-  node_holds i g t n holds = found_sub (v.subs n.node.incarnation g) (sub_in g n.node.subs) t (n.parts.subs g) (ap (λ k. v.subs k g) n.name ∙ holds)
+  node_holds : (i : ℕ) (g : Grant) (t : Sub) → (n : NodeUp v w i) → v.subs i g ≡ Some t
+      → FoundSub t (sub_in g n.node.subs)
+  node_holds i g t n holds = found_sub (v.subs n.node.incarnation g) (sub_in g n.node.subs) t (n.parts.subs g)
+      (ap (λ k. v.subs k g) n.name ∙ holds)
 
   pub held_live : (i : ℕ) (g : Grant) (t : Sub) → Live v i g t → HeldLive w g t
   held_live i g t live =
-      let n : NodeUp v w i = node_up job v w shown i (rw live.member tt) (λ e. let two : tables.Member ≡ House = sym live.member ∙ e in cc) in
+      let n : NodeUp v w i = node_up job v w shown i (rw live.member tt) (λ e. let two : tables.Member ≡ House =
+      sym live.member ∙ e in cc) in
       let state = member_state n.node.state (sym n.mode ∙ live.member) in
       let held = node_holds i g t n live.holds in
-      let there : sub_in g (live_at n.node.state n.node.subs) ≡ Some held.sub = ap (λ x. sub_in g (live_at x n.node.subs)) state.1 ∙ held.is in
-      record { at = n.at; holder = record { node = n.node; sub = held.sub; up = n.there; live = there }; shown = held.shown }
+      let there : sub_in g (live_at n.node.state n.node.subs) ≡ Some held.sub =
+      ap (λ x. sub_in g (live_at x n.node.subs)) state.1 ∙ held.is in
+      record {
+        at = n.at;
+        holder = record { node = n.node; sub = held.sub; up = n.there; live = there };
+        shown = held.shown;
+      }
 
-  pub held_frozen : (i heir : ℕ) (g : Grant) (t : Sub) → v.mode i ≡ tables.Leaving heir → v.subs i g ≡ Some t → IsFrozen w g
+  pub held_frozen : (i heir : ℕ) (g : Grant) (t : Sub) → v.mode i ≡ tables.Leaving heir → v.subs i g ≡ Some t
+      → IsFrozen w g
   held_frozen i heir g t leaving holds =
-      let n : NodeUp v w i = node_up job v w shown i (rw leaving tt) (λ e. let two : tables.Leaving heir ≡ House = sym leaving ∙ e in cc) in
+      let n : NodeUp v w i = node_up job v w shown i (rw leaving tt) (λ e. let two : tables.Leaving heir ≡ House =
+      sym leaving ∙ e in cc) in
       let state = leaving_state n.node.state heir (sym n.mode ∙ leaving) in
       let held = node_holds i g t n holds in
       record { at = n.at; node = n.node; sub = held.sub; up = n.there; leaving = rw state.2 tt; held = held.is }

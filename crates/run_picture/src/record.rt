@@ -70,7 +70,7 @@ pub struct Recorder {
 }
 
 impl Watch for Recorder {
-    fn sees(&mut self, alloc: Global, event: &Event, told: EventAnswer, world: &World<'_>) {
+    fn see(&mut self, alloc: Global, event: &Event, told: EventAnswer, world: &World<'_>) {
         if self.is_whole && self.take(alloc, event, told, world).is_err() {
             self.is_whole = false;
         }

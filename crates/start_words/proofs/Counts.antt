@@ -31,7 +31,8 @@ times_of_none x [] none = refl
 times_of_none x (y ∷ ys) none = absurd (omega arith)
 
 -- what one pen more has drawn
-pub times-drawn_by : (x : ℕ) (pens : List PenOf) (p : PenOf) → times_drawn x (drawn_by (pens ++ p ∷ [])) ≡ times_drawn x (drawn_by pens) + times_drawn x p.drawn
+pub times-drawn_by : (x : ℕ) (pens : List PenOf) (p : PenOf)
+    → times_drawn x (drawn_by (pens ++ p ∷ [])) ≡ times_drawn x (drawn_by pens) + times_drawn x p.drawn
 times-drawn_by x [] p = omega (arith, times-append x p.drawn [])
 times-drawn_by x (q ∷ qs) p =
     let rest = times-drawn_by x qs p in

@@ -49,8 +49,10 @@ count_fits pens s few kept =
     omega arith
 
 -- the pen that draws gets the next number
-drawn_next : (pens : ℕ) (s : St) (id : ℕ) (me : M) → Drawn pens s → get_elem? s.views id ≡ some me.0 → length me.0.drawn < me.0.parts * 2 ^ 32
-    → Drawn pens (stepped s 0 (get_or s.words 0 0 + 1) id me.1 (hand me.0.parts (me.0.drawn ++ (get_or s.words 0 0 + 1) ∷ [])) keeps)
+drawn_next : (pens : ℕ) (s : St) (id : ℕ) (me : M) → Drawn pens s → get_elem? s.views id ≡ some me.0
+    → length me.0.drawn < me.0.parts * 2 ^ 32
+    → Drawn pens (stepped s 0 (get_or s.words 0 0 + 1) id me.1
+    (hand me.0.parts (me.0.drawn ++ (get_or s.words 0 0 + 1) ∷ [])) keeps)
 drawn_next pens s id me kept at room =
     let n : ℕ = get_or s.words 0 0 in
     let drawn : List ℕ = me.0.drawn in
@@ -68,7 +70,8 @@ drawn_next pens s id me kept at room =
           let more = times-append x drawn ((n + 1) ∷ []) in
           let next = times_to-next n x in
           let p = kept.each_once x in
-          subst (λ (z : ℕ). total (λ v. times_drawn x v.drawn) (set s.views id w) ≡ times_to z x) (sym now) (omega arith);
+          subst (λ (z : ℕ). total (λ v. times_drawn x v.drawn) (set s.views id w) ≡ times_to z x) (sym now)
+          (omega arith);
     }
 
 pub draws : (pens slots id : ℕ) (me : M) → pens ≤ 1024 → length me.0.drawn < me.0.parts * 2 ^ 32
@@ -88,7 +91,8 @@ draws pens slots id me few room s kept _ at _ =
       (refl, refl, omega arith, (omega arith, fits)),
     )
 
-pub comes : (pens slots : ℕ) (first : M) → Enters (Drawn pens) slots 0 (λ n w. Comes (step slots 0 0 0 none) first n (w, []))
+pub comes : (pens slots : ℕ) (first : M)
+    → Enters (Drawn pens) slots 0 (λ n w. Comes (step slots 0 0 0 none) first n (w, []))
 comes pens slots first s kept _ _ =
     let w : Hand = hand 0 [] in (
       w,
@@ -108,10 +112,13 @@ deals pens id v some_part empty s kept at =
     recounted pens s (views ++ r ∷ []) kept
     (within-snoc views r (within-set s.views id l kept.within (omega arith)) (omega arith))
     (let t = total-set (λ u. u.parts) s.views id v l at in let u = total-snoc (λ u. u.parts) views r in omega arith)
-    (let t = total-set (λ u. length u.drawn) s.views id v l at in let u = total-snoc (λ u. length u.drawn) views r in omega arith)
-    (λ x. let t = total-set (λ u. times_drawn x u.drawn) s.views id v l at in let u = total-snoc (λ u. times_drawn x u.drawn) views r in omega arith)
+    (let t = total-set (λ u. length u.drawn) s.views id v l at in let u =
+    total-snoc (λ u. length u.drawn) views r in omega arith)
+    (λ x. let t = total-set (λ u. times_drawn x u.drawn) s.views id v l at in let u =
+    total-snoc (λ u. times_drawn x u.drawn) views r in omega arith)
 
-pub gathers : (pens id : ℕ) (v : Hand) (other : ℕ) (w : Hand) → Joins (Drawn pens) id v other w (gathered v w) (hand 0 [])
+pub gathers : (pens id : ℕ) (v : Hand) (other : ℕ) (w : Hand)
+    → Joins (Drawn pens) id v other w (gathered v w) (hand 0 [])
 gathers pens id v other w s kept at apart there =
     let all : Hand = gathered v w in
     let left : Hand = hand 0 [] in
@@ -121,8 +128,10 @@ gathers pens id v other w s kept at apart there =
     let theirs = kept.within other w (sym (set_else s.views id other all apart) ∙ there) in
     recounted pens s (set views other left) kept
     (within-set views other left (within-set s.views id all kept.within (omega arith)) (omega arith))
-    (let t = total-set (λ u. u.parts) s.views id v all at in let u = total-set (λ u. u.parts) views other w left there in omega arith)
-    (let t = total-set (λ u. length u.drawn) s.views id v all at in let u = total-set (λ u. length u.drawn) views other w left there in omega arith)
+    (let t = total-set (λ u. u.parts) s.views id v all at in let u =
+    total-set (λ u. u.parts) views other w left there in omega arith)
+    (let t = total-set (λ u. length u.drawn) s.views id v all at in let u =
+    total-set (λ u. length u.drawn) views other w left there in omega arith)
     (λ x.
     let t = total-set (λ u. times_drawn x u.drawn) s.views id v all at in
     let u = total-set (λ u. times_drawn x u.drawn) views other w left there in
@@ -130,15 +139,19 @@ gathers pens id v other w s kept at apart there =
     omega arith)
 
 -- the view with all parts has drawn all numbers
-pub drawn_alone : (pens : ℕ) (s : St) (id : ℕ) (v : Hand) → v.parts ≡ pens → Seen (Drawn pens) id v s → EachOnce (get_or s.words 0 0) v.drawn
+pub drawn_alone : (pens : ℕ) (s : St) (id : ℕ) (v : Hand) → v.parts ≡ pens → Seen (Drawn pens) id v s
+    → EachOnce (get_or s.words 0 0) v.drawn
 drawn_alone pens s id v whole seen x =
     let kept = seen.0 in
     let parts = kept.parts in
-    let none_else : (j : ℕ) (u : Hand) → get_elem? s.views j ≡ some u → u.parts ≡ 0 → times_drawn x u.drawn ≡ 0 = λ j u there none. times_of_none x u.drawn (let h = kept.within j u there in omega arith) in
+    let none_else : (j : ℕ) (u : Hand) → get_elem? s.views j ≡ some u → u.parts ≡ 0
+    → times_drawn x u.drawn ≡ 0 = λ j u there none. times_of_none x u.drawn (let h =
+    kept.within j u there in omega arith) in
     sym (total_alone (λ u. times_drawn x u.drawn) s.views id v none_else seen.1 (omega arith)) ∙ kept.each_once x
 
 -- the same of a table that was closed
-pub closed_each_once : (pens : ℕ) (id : ℕ) (v : Hand) (words : List ℕ) (slots : List (Unit {0})) (n : ℕ) → v.parts ≡ pens
+pub closed_each_once : (pens : ℕ) (id : ℕ) (v : Hand) (words : List ℕ) (slots : List (Unit {0})) (n : ℕ)
+    → v.parts ≡ pens
     → Final (Seen (Drawn pens) id v) words slots → get_elem? words 0 ≡ some n → EachOnce n v.drawn
 closed_each_once pens id v words slots n whole final at x =
     let s = final.0 in

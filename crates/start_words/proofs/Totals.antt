@@ -6,7 +6,8 @@ use Rattle.atomic_table.proofs.Lists.{at_set, at_snoc}
 use Rattle.start_words.specs.declared.law.Hand.{Hand}
 use Rattle.start_words.specs.Hands.{total, IsWithin}
 
-pub total-set : (f : Hand → ℕ) (vs : List Hand) (i : ℕ) (v w : Hand) → get_elem? vs i ≡ some v → total f (set vs i w) + f v ≡ total f vs + f w
+pub total-set : (f : Hand → ℕ) (vs : List Hand) (i : ℕ) (v w : Hand) → get_elem? vs i ≡ some v
+    → total f (set vs i w) + f v ≡ total f vs + f w
 total-set f [] i v w e = absurd (some-ne-none v (sym e))
 total-set f (x ∷ xs) zero v w e = let is : f x ≡ f v = ap f (some-injective x v e) in omega arith
 total-set f (x ∷ xs) (suc i) v w e = let rest = total-set f xs i v w e in omega arith
@@ -35,7 +36,8 @@ total_none f (x ∷ xs) h none =
     omega arith
 
 -- the view with all parts has all that there is
-pub total_alone : (f : Hand → ℕ) (vs : List Hand) (i : ℕ) (v : Hand) → ((j : ℕ) (u : Hand) → get_elem? vs j ≡ some u → u.parts ≡ 0 → f u ≡ 0)
+pub total_alone : (f : Hand → ℕ) (vs : List Hand) (i : ℕ) (v : Hand)
+    → ((j : ℕ) (u : Hand) → get_elem? vs j ≡ some u → u.parts ≡ 0 → f u ≡ 0)
     → get_elem? vs i ≡ some v → total (λ u. u.parts) vs ≡ v.parts → total f vs ≡ f v
 total_alone f [] i v h e whole = absurd (some-ne-none v (sym e))
 total_alone f (x ∷ xs) zero v h e whole =
@@ -50,10 +52,13 @@ total_alone f (x ∷ xs) (suc i) v h e whole =
     let rest = total_alone f xs i v (λ j u at. h (suc j) u at) e (omega arith) in
     omega arith
 
-pub within-set : (vs : List Hand) (i : ℕ) (w : Hand) → IsWithin vs → length w.drawn ≤ w.parts * 2 ^ 32 → IsWithin (set vs i w)
+pub within-set : (vs : List Hand) (i : ℕ) (w : Hand) → IsWithin vs → length w.drawn ≤ w.parts * 2 ^ 32
+    → IsWithin (set vs i w)
 within-set vs i w h now j u e =
     ⊎_elim (λ t. subst (λ (z : Hand). length z.drawn ≤ z.parts * 2 ^ 32) t.1 now) (λ t. h j u t.1) (at_set vs i j w u e)
 
-pub within-snoc : (vs : List Hand) (w : Hand) → IsWithin vs → length w.drawn ≤ w.parts * 2 ^ 32 → IsWithin (vs ++ w ∷ [])
+pub within-snoc : (vs : List Hand) (w : Hand) → IsWithin vs → length w.drawn ≤ w.parts * 2 ^ 32
+    → IsWithin (vs ++ w ∷ [])
 within-snoc vs w h now j u e =
-    ⊎_elim (λ at. h j u at) (λ same. subst (λ (z : Hand). length z.drawn ≤ z.parts * 2 ^ 32) same now) (at_snoc vs w u j e)
+    ⊎_elim (λ at. h j u at) (λ same. subst (λ (z : Hand). length z.drawn ≤ z.parts * 2 ^ 32) same now)
+    (at_snoc vs w u j e)

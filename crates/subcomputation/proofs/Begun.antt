@@ -34,7 +34,8 @@ arrives_begun (Local n j) v c begun = by_frame (frame_in n c.frames)
 
 -- a frame's turn
 turned_begun : (f : Frame) (t : Turn) (c : Content) → Begun c → Begun (turned f t c).after
-turned_begun f (Sends v) c begun = arrives_begun f.returns v (record c { frames = without_frame f.number c.frames }) begun
+turned_begun f (Sends v) c begun = arrives_begun f.returns v
+    (record c { frames = without_frame f.number c.frames }) begun
 turned_begun f (Joins t slots) c begun = by_length (nat_lt (length f.place) 1024)
   where
     more : (n m : ℕ) → 0 < n → 0 < n + m
@@ -45,16 +46,21 @@ turned_begun f (Joins t slots) c begun = by_length (nat_lt (length f.place) 1024
     by_length false = begun
 
 -- after a frame is carried out
-pub exec_begun : (known : Known) (c x : Content) (d : DoneOf) (n : ℕ) (change : ContentChange) → x ≡ c → exec_content known d n x ≡ Ok change → 0 < c.next → 0 < change.after.next
+pub exec_begun : (known : Known) (c x : Content) (d : DoneOf) (n : ℕ) (change : ContentChange) → x ≡ c
+    → exec_content known d n x ≡ Ok change → 0 < c.next → 0 < change.after.next
 exec_begun known c x d n change same is begun = by_frame (frame_in n c.frames) (rw same at is)
   where
-    by_next : (f : Frame) (b : Bool) → cond {A = Result ContentChange SubError} b (Ok (turned f (resumed known f.place d.turn) c)) (Err Spent) ≡ Ok change → Begun change.after
+    by_next : (f : Frame) (b : Bool) → cond {A =
+        Result ContentChange SubError} b (Ok (turned f (resumed known f.place d.turn) c)) (Err Spent) ≡ Ok change
+        → Begun change.after
     by_next f true at =
         let equal : turned f (resumed known f.place d.turn) c ≡ change = cc in
         rw (← equal) (turned_begun f (resumed known f.place d.turn) c begun)
     by_next f false at = absurd cc
 
-    by_turn : (f : Frame) (b : Bool) → cond {A = Result ContentChange SubError} b (within_numbers (turned f (resumed known f.place d.turn) c)) (Err Stale) ≡ Ok change → Begun change.after
+    by_turn : (f : Frame) (b : Bool) → cond {A =
+        Result ContentChange SubError} b (within_numbers (turned f (resumed known f.place d.turn) c)) (Err Stale)
+        ≡ Ok change → Begun change.after
     by_turn f true at = by_next f (nat_lt (turned f (resumed known f.place d.turn) c).after.next (2 ^ 32)) at
     by_turn f false at = absurd cc
 
@@ -63,7 +69,8 @@ exec_begun known c x d n change same is begun = by_frame (frame_in n c.frames) (
     by_frame (Some f) at = by_turn f (is_turn_of d f) at
 
 -- after an outcome came
-pub result_begun : (c : Content) (g : Grant) (o : Outcome) (change : ContentChange) → Some change ≡ closed_in o c (record_in g c.records) → 0 < c.next → 0 < change.after.next
+pub result_begun : (c : Content) (g : Grant) (o : Outcome) (change : ContentChange)
+    → Some change ≡ closed_in o c (record_in g c.records) → 0 < c.next → 0 < change.after.next
 result_begun c g o change is begun = by_record (record_in g c.records) is
   where
     closed_begun : (r : Record) (o : Outcome) → Begun (closed r o c).after

@@ -39,27 +39,36 @@ pub record Prepares (s : SubOf) (p : Prepared) (Turned : Program → Type 0) : T
   pub fits : (q : Program) → Fits q s.content → Turned q → Fits q (changed_of s p).after.content
 
 -- by the change to which it leads
-by_change : (s : SubOf) (p : Prepared) (change : ContentChange) (Turned : Program → Type 0) → s.content.progress ≡ Active → Leads s.content p change → Tells s.content change → 0 < change.after.next → ((q : Program) → Fits q s.content → Turned q → Fits q change.after) → Prepares s p Turned
+by_change : (s : SubOf) (p : Prepared) (change : ContentChange) (Turned : Program → Type 0)
+    → s.content.progress ≡ Active → Leads s.content p change → Tells s.content change → 0 < change.after.next
+    → ((q : Program) → Fits q s.content → Turned q → Fits q change.after) → Prepares s p Turned
 by_change s p change Turned active leads tells begun fits = record {
   may = record {
     may = leads.may;
-    begun = record { sound = leads.sound; begun = subst (λ (ch : ContentChange). 0 < ch.after.next) (sym leads.same) begun };
+    begun = record {
+      sound = leads.sound;
+      begun = subst (λ (ch : ContentChange). 0 < ch.after.next) (sym leads.same) begun;
+    };
     active = active;
   };
   ready = subst (λ (ch : ContentChange). TellsReady s.content ch.after ch.ready) (sym leads.same) tells.ready;
-  records = subst (λ (ch : ContentChange). HasNoOthers s.content.records ch.after.records) (sym leads.same) tells.records;
+  records = subst (λ (ch : ContentChange). HasNoOthers s.content.records ch.after.records)
+      (sym leads.same) tells.records;
   fits = λ q here turned. subst (λ (ch : ContentChange). Fits q ch.after) (sym leads.same) (fits q here turned);
 }
 
 -- ---- a frame is carried out
-exec_active : (known : Known) (c : Content) (d : DoneOf) (n : ℕ) (change : ContentChange) → IsSound c → exec_content known d n c ≡ Ok change → c.progress ≡ Active
+exec_active : (known : Known) (c : Content) (d : DoneOf) (n : ℕ) (change : ContentChange) → IsSound c
+    → exec_content known d n c ≡ Ok change → c.progress ≡ Active
 exec_active known c d n change sound is = by_frame (frame_in n c.frames) refl is
   where
     by_frame : (o : Option Frame) → frame_in n c.frames ≡ o → executed known d c o ≡ Ok change → c.progress ≡ Active
     by_frame None there at = cc
     by_frame (Some f) there at = (frame_goes_on c.progress n f c.frames c.records there sound.owed).0
 
-pub exec_prepares : (known : Known) (s : SubOf) (d : DoneOf) (n : ℕ) (p : Prepared) → IsSound s.content → 0 < s.content.next → AreInOrder name_of_frame s.content.frames → IsPreparedFor s.content (exec_content known d n s.content) (Ok p) → Prepares s p (λ q. TurnFits q d.turn)
+pub exec_prepares : (known : Known) (s : SubOf) (d : DoneOf) (n : ℕ) (p : Prepared) → IsSound s.content
+    → 0 < s.content.next → AreInOrder name_of_frame s.content.frames
+    → IsPreparedFor s.content (exec_content known d n s.content) (Ok p) → Prepares s p (λ q. TurnFits q d.turn)
 exec_prepares known s d n p sound begun order prepared =
     let change = prepared.0 in
     let is = prepared.1 in
@@ -68,8 +77,11 @@ exec_prepares known s d n p sound begun order prepared =
     (exec_begun known s.content s.content d n change refl is begun)
     (λ q fits turn. exec_fits known q s.content s.content d n change refl is fits turn)
 
-pub exec_answers : (known : Known) (s : SubOf) (d : DoneOf) (n : ℕ) (p : Prepared) → IsPreparedFor s.content (exec_content known d n s.content) (Ok p) → carried_out s (exec_content known d n s.content) ≡ Ok (changed_of s p)
-exec_answers known s d n p prepared = ap (carried_out s) prepared.1 ∙ ap (λ (ch : ContentChange). Ok (changed s ch)) (sym prepared.2.same)
+pub exec_answers : (known : Known) (s : SubOf) (d : DoneOf) (n : ℕ) (p : Prepared)
+    → IsPreparedFor s.content (exec_content known d n s.content) (Ok p)
+    → carried_out s (exec_content known d n s.content) ≡ Ok (changed_of s p)
+exec_answers known s d n p prepared =
+    ap (carried_out s) prepared.1 ∙ ap (λ (ch : ContentChange). Ok (changed s ch)) (sym prepared.2.same)
 
 -- ---- an outcome comes
 pub record ResultIs (s : SubOf) (g : Grant) (o : Outcome) (p : Prepared) : Type 0 where
@@ -77,21 +89,27 @@ pub record ResultIs (s : SubOf) (g : Grant) (o : Outcome) (p : Prepared) : Type 
   pub is : Some change ≡ closed_in o s.content (record_in g s.content.records)
   pub leads : Leads s.content p change
 
-pub result_is : (s : SubOf) (g : Grant) (o : Outcome) (p : Prepared) → IsPreparedIn s.content (closed_in o s.content (record_in g s.content.records)) (Some p) → ResultIs s g o p
+pub result_is : (s : SubOf) (g : Grant) (o : Outcome) (p : Prepared)
+    → IsPreparedIn s.content (closed_in o s.content (record_in g s.content.records)) (Some p) → ResultIs s g o p
 result_is s g o p prepared = by_change_of (closed_in o s.content (record_in g s.content.records)) refl prepared
   where
-    by_change_of : (x : Option ContentChange) → closed_in o s.content (record_in g s.content.records) ≡ x → IsPreparedIn s.content x (Some p) → ResultIs s g o p
+    by_change_of : (x : Option ContentChange) → closed_in o s.content (record_in g s.content.records) ≡ x
+        → IsPreparedIn s.content x (Some p) → ResultIs s g o p
     by_change_of None is prepared = absurd prepared
     by_change_of (Some change) is prepared = record { change = change; is = sym is; leads = prepared }
 
-result_active : (c : Content) (g : Grant) (o : Outcome) (change : ContentChange) → IsSound c → Some change ≡ closed_in o c (record_in g c.records) → c.progress ≡ Active
+result_active : (c : Content) (g : Grant) (o : Outcome) (change : ContentChange) → IsSound c
+    → Some change ≡ closed_in o c (record_in g c.records) → c.progress ≡ Active
 result_active c g o change sound is = by_record (record_in g c.records) refl is
   where
     by_record : (x : Option Record) → record_in g c.records ≡ x → Some change ≡ closed_in o c x → c.progress ≡ Active
     by_record None there at = cc
     by_record (Some x) there at = (record_goes_on c.progress g x c.frames c.records there sound.owed).0
 
-pub result_prepares : (s : SubOf) (g : Grant) (o : Outcome) (p : Prepared) → IsSound s.content → 0 < s.content.next → AreInOrder name_of_frame s.content.frames → AreInOrder name_of_record s.content.records → IsPreparedIn s.content (closed_in o s.content (record_in g s.content.records)) (Some p) → Prepares s p (λ q. Unit {0})
+pub result_prepares : (s : SubOf) (g : Grant) (o : Outcome) (p : Prepared) → IsSound s.content → 0 < s.content.next
+    → AreInOrder name_of_frame s.content.frames → AreInOrder name_of_record s.content.records
+    → IsPreparedIn s.content (closed_in o s.content (record_in g s.content.records)) (Some p)
+    → Prepares s p (λ q. Unit {0})
 result_prepares s g o p sound begun frames records prepared =
     let result = result_is s g o p prepared in
     by_change s p result.change (λ q. Unit {0}) (result_active s.content g o result.change sound result.is) result.leads
@@ -99,10 +117,13 @@ result_prepares s g o p sound begun frames records prepared =
     (result_begun s.content g o result.change result.is begun)
     (λ q fits turned. result_fits q s.content s.content g o result.change refl result.is fits)
 
-pub result_answers : (s : SubOf) (g : Grant) (o : Outcome) (x : Option Prepared) → IsPreparedIn s.content (closed_in o s.content (record_in g s.content.records)) x → changed_of_some s x ≡ changed_by s (closed_in o s.content (record_in g s.content.records))
+pub result_answers : (s : SubOf) (g : Grant) (o : Outcome) (x : Option Prepared)
+    → IsPreparedIn s.content (closed_in o s.content (record_in g s.content.records)) x
+    → changed_of_some s x ≡ changed_by s (closed_in o s.content (record_in g s.content.records))
 result_answers s g o x prepared = by_both x (closed_in o s.content (record_in g s.content.records)) prepared
   where
-    by_both : (x : Option Prepared) (y : Option ContentChange) → IsPreparedIn s.content y x → changed_of_some s x ≡ changed_by s y
+    by_both : (x : Option Prepared) (y : Option ContentChange) → IsPreparedIn s.content y x
+        → changed_of_some s x ≡ changed_by s y
     by_both None None prepared = refl
     by_both None (Some change) prepared = absurd prepared
     by_both (Some p) None prepared = absurd prepared

@@ -55,11 +55,14 @@ turned_less f (Joins t slots) c = by_length (nat_lt (length f.place) 1024)
     by_length true = λ h none. none
     by_length false = λ h none. refl
 
-less_left : (g h : Grant) (records : List Record) → record_in h records ≡ None → record_in h (without_record g records) ≡ None
+less_left : (g h : Grant) (records : List Record) → record_in h records ≡ None
+    → record_in h (without_record g records) ≡ None
 less_left g h records none = none_left name_of_record (name_of_grant h) (name_of_grant g) records none
 
 closed_less : (r : Record) (o : Outcome) (c : Content) → Less c (closed r o c).after
-closed_less r (Value v) c = λ h none. arrives_less r.returns v (record c { records = without_record r.grant c.records }) h (less_left r.grant h c.records none)
+closed_less r (Value v) c = λ h none.
+    arrives_less r.returns v (record c { records = without_record r.grant c.records }) h
+    (less_left r.grant h c.records none)
 closed_less r TooDeep c = λ h none. refl
 
 redone_less : (r : Record) (c : Content) → Less c (redone r c)
@@ -74,8 +77,10 @@ same_name g h is = same_fields g.minter g.number h.minter h.number (ap (λ k. k.
     same_fields : (a b c d : ℕ) → a ≡ c → b ≡ d → named a b ≡ named c d
     same_fields a b c d first second = cc
 
-granted_less : (g : Grant) (thief : ℕ) (r : Ready) (c : Content) → HasNoOthersBut g c.records (granted_out g thief r c).records
-granted_less g thief r c = λ h other none. put_other name_of_record (name_of_grant h) (record_of g thief r) c.records (λ is. other (same_name h g is)) ∙ none
+granted_less : (g : Grant) (thief : ℕ) (r : Ready) (c : Content)
+    → HasNoOthersBut g c.records (granted_out g thief r c).records
+granted_less g thief r c = λ h other none.
+    put_other name_of_record (name_of_grant h) (record_of g thief r) c.records (λ is. other (same_name h g is)) ∙ none
 
 -- what a call tells
 pub record Tells (c : Content) (change : ContentChange) : Type 0 where
@@ -96,27 +101,39 @@ turn_is_ready d f is = by_count (missing_in f.slots) refl
         let none = empty_holds_none f.slots d.numbers k count in
         cc
 
-pub exec_tells : (known : Known) (c x : Content) (d : DoneOf) (n : ℕ) (change : ContentChange) → x ≡ c → IsSound c → AreInOrder name_of_frame c.frames → exec_content known d n x ≡ Ok change → Tells c change
+pub exec_tells : (known : Known) (c x : Content) (d : DoneOf) (n : ℕ) (change : ContentChange) → x ≡ c → IsSound c
+    → AreInOrder name_of_frame c.frames → exec_content known d n x ≡ Ok change → Tells c change
 exec_tells known c x d n change same sound order is = by_frame (frame_in n c.frames) refl (rw same at is)
   where
-    by_next : (f : Frame) → frame_in n c.frames ≡ Some f → is_turn_of d f ≡ true → (b : Bool) → cond {A = Result ContentChange SubError} b (Ok (turned f (resumed known f.place d.turn) c)) (Err Spent) ≡ Ok change → Tells c change
+    by_next : (f : Frame) → frame_in n c.frames ≡ Some f → is_turn_of d f ≡ true → (b : Bool)
+        → cond {A = Result ContentChange SubError} b (Ok (turned f (resumed known f.place d.turn) c)) (Err Spent)
+        ≡ Ok change → Tells c change
     by_next f there turn true at =
         let equal : turned f (resumed known f.place d.turn) c ≡ change = cc in
         let name = found_name name_of_frame (n, 0) f c.frames there in
         let number : n ≡ f.number = ap (λ k. k.0) name in
         let found : frame_in f.number c.frames ≡ Some f = rw number at there in
-        rw (← equal) (record { ready = turned_tells c f (resumed known f.place d.turn) sound order found (ready_test f (turn_is_ready d f turn)); records = turned_less f (resumed known f.place d.turn) c })
+        rw (← equal) (record {
+          ready = turned_tells c f (resumed known f.place d.turn) sound order found
+              (ready_test f (turn_is_ready d f turn));
+          records = turned_less f (resumed known f.place d.turn) c;
+        })
     by_next f there turn false at = cc
 
-    by_turn : (f : Frame) → frame_in n c.frames ≡ Some f → (b : Bool) → is_turn_of d f ≡ b → cond {A = Result ContentChange SubError} b (within_numbers (turned f (resumed known f.place d.turn) c)) (Err Stale) ≡ Ok change → Tells c change
-    by_turn f there true turn at = by_next f there turn (nat_lt (turned f (resumed known f.place d.turn) c).after.next (2 ^ 32)) at
+    by_turn : (f : Frame) → frame_in n c.frames ≡ Some f → (b : Bool) → is_turn_of d f ≡ b
+        → cond {A = Result ContentChange SubError} b (within_numbers (turned f (resumed known f.place d.turn) c))
+        (Err Stale) ≡ Ok change → Tells c change
+    by_turn f there true turn at = by_next f there turn
+        (nat_lt (turned f (resumed known f.place d.turn) c).after.next (2 ^ 32)) at
     by_turn f there false turn at = cc
 
     by_frame : (o : Option Frame) → frame_in n c.frames ≡ o → executed known d c o ≡ Ok change → Tells c change
     by_frame None there at = cc
     by_frame (Some f) there at = by_turn f there (is_turn_of d f) refl at
 
-pub result_tells : (c x : Content) (g : Grant) (o : Outcome) (change : ContentChange) → x ≡ c → IsSound c → AreInOrder name_of_frame c.frames → AreInOrder name_of_record c.records → Some change ≡ closed_in o x (record_in g x.records) → Tells c change
+pub result_tells : (c x : Content) (g : Grant) (o : Outcome) (change : ContentChange) → x ≡ c → IsSound c
+    → AreInOrder name_of_frame c.frames → AreInOrder name_of_record c.records
+    → Some change ≡ closed_in o x (record_in g x.records) → Tells c change
 result_tells c x g o change same sound frames records is = by_record (record_in g c.records) refl (rw same at is)
   where
     by_record : (r : Option Record) → record_in g c.records ≡ r → Some change ≡ closed_in o c r → Tells c change
@@ -132,7 +149,8 @@ pub record Gives (c after : Content) (g : Grant) : Type 0 where
   pub ready : TellsReady c after []
   pub records : HasNoOthersBut g c.records after.records
 
-pub grant_tells : (c x : Content) (g : Grant) (thief n : ℕ) (given : ContentGrant) → x ≡ c → AreInOrder name_of_frame c.frames → Some given ≡ given_away g thief x (ready_in n x) → Gives c given.after g
+pub grant_tells : (c x : Content) (g : Grant) (thief n : ℕ) (given : ContentGrant) → x ≡ c
+    → AreInOrder name_of_frame c.frames → Some given ≡ given_away g thief x (ready_in n x) → Gives c given.after g
 grant_tells c x g thief n given same frames is = by_ready (ready_in n c) (rw same at is)
   where
     by_ready : (r : Option Ready) → Some given ≡ given_away g thief c r → Gives c given.after g
@@ -142,10 +160,13 @@ grant_tells c x g thief n given same frames is = by_ready (ready_in n c) (rw sam
         rw (← equal) (record { ready = granted_tells c g thief r frames; records = granted_less g thief r c })
 
 -- what is prepared of a frame gives it away
-pub opening_gives : (c x : Content) (g : Grant) (thief n : ℕ) (p : Opening) → x ≡ c → Some p ≡ opening_of g thief (ready_in n x) → Some (record { after = opened_in p.opened c; task = p.task }) ≡ given_away g thief c (ready_in n c)
+pub opening_gives : (c x : Content) (g : Grant) (thief n : ℕ) (p : Opening) → x ≡ c
+    → Some p ≡ opening_of g thief (ready_in n x)
+    → Some (record { after = opened_in p.opened c; task = p.task }) ≡ given_away g thief c (ready_in n c)
 opening_gives c x g thief n p same is = by_ready (ready_in n c) (rw same at is)
   where
-    by_ready : (r : Option Ready) → Some p ≡ opening_of g thief r → Some (record { after = opened_in p.opened c; task = p.task }) ≡ given_away g thief c r
+    by_ready : (r : Option Ready) → Some p ≡ opening_of g thief r
+        → Some (record { after = opened_in p.opened c; task = p.task }) ≡ given_away g thief c r
     by_ready None at = cc
     by_ready (Some r) at =
         let equal : record { opened = record_of g thief r; task = task_of r } ≡ p = cc in
@@ -155,7 +176,9 @@ pub record Repeats (c : Content) (again : ContentRedo) : Type 0 where
   pub ready : TellsReady c again.after (again.ready ∷ [])
   pub records : HasNoOthers c.records again.after.records
 
-pub redo_tells : (c x : Content) (g : Grant) (again : ContentRedo) → x ≡ c → IsSound c → AreInOrder name_of_frame c.frames → AreInOrder name_of_record c.records → Some again ≡ done_again x (record_in g x.records) → Repeats c again
+pub redo_tells : (c x : Content) (g : Grant) (again : ContentRedo) → x ≡ c → IsSound c
+    → AreInOrder name_of_frame c.frames → AreInOrder name_of_record c.records
+    → Some again ≡ done_again x (record_in g x.records) → Repeats c again
 redo_tells c x g again same sound frames records is = by_record (record_in g c.records) refl (rw same at is)
   where
     by_record : (r : Option Record) → record_in g c.records ≡ r → Some again ≡ done_again c r → Repeats c again

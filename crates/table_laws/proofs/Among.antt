@@ -35,7 +35,8 @@ module _ {X : Type 0} where
   put_among name x y [] m = m
   put_among name x y (z ∷ zs) m = by_order (put_among name x y zs) (name_cmp (name x) (name z)) m
     where
-      by_order : (y ∈ put_in name x zs → (y ≡ x) ⊎ (y ∈ zs)) → (o : Ordering) → y ∈ match_ordering o (x ∷ z ∷ zs) (x ∷ zs) (z ∷ put_in name x zs) → (y ≡ x) ⊎ (y ∈ (z ∷ zs))
+      by_order : (y ∈ put_in name x zs → (y ≡ x) ⊎ (y ∈ zs)) → (o : Ordering)
+          → y ∈ match_ordering o (x ∷ z ∷ zs) (x ∷ zs) (z ∷ put_in name x zs) → (y ≡ x) ⊎ (y ∈ (z ∷ zs))
       by_order rest Less m = m
       by_order rest Equal (inl e) = inl e
       by_order rest Equal (inr m) = inr (inr m)
@@ -47,7 +48,8 @@ module _ {X : Type 0} where
   filtered test x [] m = absurd m
   filtered test x (y ∷ ys) m = by_test (filtered test x ys) (test y) m
     where
-      by_test : (x ∈ filter test ys → x ∈ ys) → (b : Bool) → x ∈ cond b (y ∷ filter test ys) (filter test ys) → (x ≡ y) ⊎ (x ∈ ys)
+      by_test : (x ∈ filter test ys → x ∈ ys) → (b : Bool) → x ∈ cond b (y ∷ filter test ys) (filter test ys)
+          → (x ≡ y) ⊎ (x ∈ ys)
       by_test rest true (inl e) = inl e
       by_test rest true (inr k) = inr (rest k)
       by_test rest false k = inr (rest k)
@@ -57,7 +59,8 @@ module _ {X : Type 0} where
   found_among test x [] e = cc
   found_among test x (y ∷ ys) e = by_test (found_among test x ys) (test y) e
     where
-      by_test : (find test ys ≡ Some x → x ∈ ys) → (b : Bool) → cond b (Some y) (find test ys) ≡ Some x → (x ≡ y) ⊎ (x ∈ ys)
+      by_test : (find test ys ≡ Some x → x ∈ ys) → (b : Bool) → cond b (Some y) (find test ys) ≡ Some x
+          → (x ≡ y) ⊎ (x ∈ ys)
       by_test rest true e = inl (cc)
       by_test rest false e = inr (rest e)
 

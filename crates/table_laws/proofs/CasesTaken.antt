@@ -23,8 +23,12 @@ pub record Clears (v : View) (i : ℕ) (t : Transfer) (request : Option Request)
   pub grant : t.hop ≡ 0 → v.pending i ≡ Some (request_of t)
   pub offer : (h : ℕ) → t.hop ≡ suc h → request ≡ v.pending i
 
-pub cases_take : (v : View) (i : ℕ) (t : Transfer) (request : Option Request) (new : List Ack) → MayTake v i t new → Clears v i t request → ((h : ℕ) → t.hop ≡ suc h → ack_of t ∈ new) → Names v → Requests v → Cases v → Cases (take v i t request new)
-cases_take v i t request new may clears acks n q c = cases_by v (take v i t request new) (heads_take v i t request new may) refl (λ g k d m h e. kept g k) (λ k e. kept k k)
+pub cases_take : (v : View) (i : ℕ) (t : Transfer) (request : Option Request) (new : List Ack) → MayTake v i t new
+    → Clears v i t request → ((h : ℕ) → t.hop ≡ suc h → ack_of t ∈ new) → Names v → Requests v → Cases v
+    → Cases (take v i t request new)
+cases_take v i t request new may clears acks n q c =
+    cases_by v (take v i t request new) (heads_take v i t request new may) refl (λ g k d m h e. kept g k)
+    (λ k e. kept k k)
     (λ u h j m e f w s. ⊎_elim
     (λ both. let is : u ≡ t = n.one u t m may.sent both.1 (some_same (hops u j both s)) in
     let hop : t.hop ≡ suc h = ap (λ (y : Transfer). y.hop) (sym is) ∙ e in
@@ -33,11 +37,13 @@ cases_take v i t request new may clears acks n q c = cases_by v (take v i t requ
     (spot_or j i u.grant t.grant))
     (λ u x h m o e f z. later new v.acks (ack_of u) (c.passed_acked u x h m o e f z)) c
   where
-    hops : (u : Transfer) (j : ℕ) → ((j ≡ i) × (u.grant ≡ t.grant)) → put_grant v.seen i t.grant (Some t.hop) j u.grant ≡ Some u.hop → Some u.hop ≡ Some t.hop
+    hops : (u : Transfer) (j : ℕ) → ((j ≡ i) × (u.grant ≡ t.grant))
+        → put_grant v.seen i t.grant (Some t.hop) j u.grant ≡ Some u.hop → Some u.hop ≡ Some t.hop
     hops u j both s = grind (arith, s, both)
 
     -- what i waits on isn't answered by another Grant
-    waits : (u : Transfer) → u ∈ v.transfers → u.hop ≡ 0 → v.pending u.to ≡ Some (request_of u) → u.to ≡ i → (u.grant ≡ t.grant → ⊥) → (h : ℕ) → t.hop ≡ h → request ≡ v.pending i
+    waits : (u : Transfer) → u ∈ v.transfers → u.hop ≡ 0 → v.pending u.to ≡ Some (request_of u) → u.to ≡ i
+        → (u.grant ≡ t.grant → ⊥) → (h : ℕ) → t.hop ≡ h → request ≡ v.pending i
     waits u m f r is other zero z =
         let two : v.pending i ≡ Some (request_of u) = rw is at r in
         let seq : u.seq ≡ t.seq = ap (λ (y : Request). y.seq) (some_same (sym two ∙ clears.grant z)) in
@@ -45,26 +51,33 @@ cases_take v i t request new may clears acks n q c = cases_by v (take v i t requ
     waits u m f r is other (suc h) z = clears.offer h z
 
     here : (g k : Grant) → k ≡ t.grant → Case (take v i t request new) g k
-    here g k is = alive i (record { hop = t.hop; content = t.content }) (record { member = may.member; holds = grind (arith, is) })
+    here g k is = alive i (record { hop = t.hop; content = t.content })
+        (record { member = may.member; holds = grind (arith, is) })
 
     kept_other : (g k : Grant) → (k ≡ t.grant → ⊥) → Case v g k → Case (take v i t request new) g k
     kept_other g k other (alive j s a) = alive j s (record { member = a.member; holds = grind (arith, a.holds, other) })
     kept_other g k other (awaited u m e f w r) = awaited u m e f w (⊎_elim
-        (λ is. let still : request ≡ v.pending i = waits u m f r is (λ x. other (sym e ∙ x)) t.hop refl in grind (arith, r, is, still))
+        (λ is. let still : request ≡ v.pending i =
+        waits u m f r is (λ x. other (sym e ∙ x)) t.hop refl in grind (arith, r, is, still))
         (λ apart. grind (arith, r, apart))
         (same_or u.to i))
     kept_other g k other (frozen j h s a b y) = frozen j h s a (grind (arith, b, other))
-        (λ x. ⊎_elim (λ l. other (ap (λ (z : Ack). z.grant) (may.acks (ack_of (offer_of j h k s)) l))) y (either new v.acks (ack_of (offer_of j h k s)) x))
+        (λ x. ⊎_elim (λ l. other (ap (λ (z : Ack). z.grant) (may.acks (ack_of (offer_of j h k s)) l))) y
+        (either new v.acks (ack_of (offer_of j h k s)) x))
     kept_other g k other (cut_off j m y) = cut_off j m y
 
     kept : (g k : Grant) → Case v g k → Case (take v i t request new) g k
     kept g k a = ⊎_elim (λ is. here g k is) (λ other. kept_other g k other a) (grant_or k t.grant)
 
 -- i departs: what it held live is frozen, and its Offer is new, so not acknowledged
-pub cases_freeze : (v : View) (i heir : ℕ) (offers : List Transfer) → MayFreeze v i heir offers → Names v → Cases v → Cases (freeze v i heir offers)
-cases_freeze v i heir offers may n c = cases_by v (freeze v i heir offers) (heads_freeze v i heir offers may) refl (λ g k d m h e. kept g k) (λ k e. kept k k)
+pub cases_freeze : (v : View) (i heir : ℕ) (offers : List Transfer) → MayFreeze v i heir offers → Names v → Cases v
+    → Cases (freeze v i heir offers)
+cases_freeze v i heir offers may n c =
+    cases_by v (freeze v i heir offers) (heads_freeze v i heir offers may) refl (λ g k d m h e. kept g k)
+    (λ k e. kept k k)
     (λ t h j m e f w s. ⊎_elim
-    (λ l. let b = n.seen_sent j t.hop t.grant (grind (arith, may.member)) s in absurd (unoffered v i heir t b.transfer may.member n (may.each t l) b.sent (sym b.grant) (sym b.hop)))
+    (λ l. let b = n.seen_sent j t.hop t.grant (grind (arith, may.member)) s in absurd
+    (unoffered v i heir t b.transfer may.member n (may.each t l) b.sent (sym b.grant) (sym b.hop)))
     (λ r. c.taken_acked t h j r e f (grind (arith, may.member)) s)
     (either offers v.transfers t m))
     (λ t u h m o e f z. passed t u h e f z (either offers v.transfers t m) (either offers v.transfers u o)) c
@@ -76,7 +89,8 @@ cases_freeze v i heir offers may n c = cases_by v (freeze v i heir offers) (head
     came t l = let o = may.each t l in held_sent v n i t.grant o.sub (rw may.member tt) o.holds
 
     -- what i took it has acknowledged, and offers only now
-    passed : (t u : Transfer) (h : ℕ) → t.grant ≡ u.grant → t.hop ≡ suc h → u.hop ≡ suc t.hop → (t ∈ offers) ⊎ (t ∈ v.transfers) → (u ∈ offers) ⊎ (u ∈ v.transfers) → ack_of t ∈ v.acks
+    passed : (t u : Transfer) (h : ℕ) → t.grant ≡ u.grant → t.hop ≡ suc h → u.hop ≡ suc t.hop
+        → (t ∈ offers) ⊎ (t ∈ v.transfers) → (u ∈ offers) ⊎ (u ∈ v.transfers) → ack_of t ∈ v.acks
     passed t u h e f z (inl x) (inl y) =
         let a = may.each t x in let b = may.each u y in
         let one : v.subs i t.grant ≡ Some a.sub = a.holds in
@@ -91,7 +105,8 @@ cases_freeze v i heir offers may n c = cases_by v (freeze v i heir offers) (head
         let b = may.each u y in
         let hy = hop_of u y in
         let level : t.hop ≡ b.sub.hop = omega (arith, hy, z) in
-        let to : t.to ≡ i = one_to n (record { transfer = t; sent = x; grant = e; hop = level; to = refl }) (came u y) in
+        let to : t.to ≡ i = one_to n (record { transfer = t; sent = x; grant = e; hop = level; to = refl })
+        (came u y) in
         let seen : v.seen i u.grant ≡ Some b.sub.hop = n.held_seen i u.grant b.sub (rw may.member tt) b.holds in
         c.taken_acked t h i x f to (rw may.member tt) (rw (e, level) seen)
     passed t u h e f z (inr x) (inr y) = c.passed_acked t u h x y e f z
@@ -99,7 +114,8 @@ cases_freeze v i heir offers may n c = cases_by v (freeze v i heir offers) (head
     unacked : (k : Grant) (s : Sub) → v.subs i k ≡ Some s → ack_of (offer_of i heir k s) ∈ v.acks → ⊥
     unacked k s e x =
         let b = n.acked_sent (ack_of (offer_of i heir k s)) x in
-        let low = last v n k s.hop i (held_sent v n i k s (rw may.member tt) e) (rw may.member tt) b.transfer b.sent b.grant in
+        let low = last v n k s.hop i (held_sent v n i k s (rw may.member tt) e)
+        (rw may.member tt) b.transfer b.sent b.grant in
         omega (arith, low, b.hop)
 
     kept : (g k : Grant) → Case v g k → Case (freeze v i heir offers) g k
@@ -113,8 +129,10 @@ cases_freeze v i heir offers may n c = cases_by v (freeze v i heir offers) (head
 
 -- An acknowledgement again: of what was taken at that hop it was sent before; where more was taken,
 -- what came at that hop was offered on, and so acknowledged too.
-pub cases_acknowledge : (v : View) (t : Transfer) → t ∈ v.transfers → (Above (v.seen t.to t.grant) t.hop → ⊥) → Works (v.mode t.to) → Names v → Cases v → Cases (acknowledge v (ack_of t))
-cases_acknowledge v t m seen works n c = cases_by v (acknowledge v (ack_of t)) (λ g d h. h) refl (λ g k d o h e. kept g k) (λ k e. kept k k)
+pub cases_acknowledge : (v : View) (t : Transfer) → t ∈ v.transfers → (Above (v.seen t.to t.grant) t.hop → ⊥)
+    → Works (v.mode t.to) → Names v → Cases v → Cases (acknowledge v (ack_of t))
+cases_acknowledge v t m seen works n c =
+    cases_by v (acknowledge v (ack_of t)) (λ g d h. h) refl (λ g k d o h e. kept g k) (λ k e. kept k k)
     (λ u h j o e f w s. inr (c.taken_acked u h j o e f w s))
     (λ u x h o z e f y. inr (c.passed_acked u x h o z e f y)) c
   where
@@ -132,5 +150,9 @@ cases_acknowledge v t m seen works n c = cases_by v (acknowledge v (ack_of t)) (
     kept : (g k : Grant) → Case v g k → Case (acknowledge v (ack_of t)) g k
     kept g k (alive j s a) = alive j s a
     kept g k (awaited u o e f w p) = awaited u o e f w p
-    kept g k (frozen j h s a b y) = frozen j h s a b (elim [ inl e ↦ y (rw e (before s.hop (v.seen t.to t.grant) (sym (ap (λ (z : Ack). z.hop) e)) refl seen)) | inr x ↦ y x ])
+    kept g k (frozen j h s a b y) = frozen j h s a b
+        (elim [
+          | inl e ↦ y (rw e (before s.hop (v.seen t.to t.grant) (sym (ap (λ (z : Ack). z.hop) e)) refl seen))
+          | inr x ↦ y x
+        ])
     kept g k (cut_off j o y) = cut_off j o y

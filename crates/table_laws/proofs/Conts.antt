@@ -25,7 +25,8 @@ pub live_cont : (v : View) (i : ℕ) (g : Grant) (s : Sub) → Live v i g s → 
 live_cont v i g s here = held i s (rw here.member tt) here.holds refl
 
 -- at first nothing has one
-pub no_cont : (epoch : ℕ) (stored : Option (Option ℤ)) (g : Grant) (c : Content) → Cont (first_over epoch stored) g c → ⊥
+pub no_cont : (epoch : ℕ) (stored : Option (Option ℤ)) (g : Grant) (c : Content) → Cont (first_over epoch stored) g c
+    → ⊥
 no_cont epoch stored g c (held i s w e q) = w
 no_cont epoch stored g c (sent t m e q) = m
 
@@ -34,7 +35,8 @@ pub cont_sent : (v : View) → Names v → (g : Grant) (c : Content) → Cont v 
 cont_sent v n g c (held i s w e q) = granted_of (held_sent v n i g s w e)
 cont_sent v n g c (sent t m e q) = record { transfer = t; sent = m; grant = e }
 
-pub record_sent : (v : View) → Names v → (g k : Grant) (c : Content) (o : ℕ) → Cont v g c → c.granted o ≡ Some k → Granted v.transfers k
+pub record_sent : (v : View) → Names v → (g k : Grant) (c : Content) (o : ℕ) → Cont v g c → c.granted o ≡ Some k
+    → Granted v.transfers k
 record_sent v n g k c o (held i s w e q) f = n.sub_granted i g k s o w e (rw q f)
 record_sent v n g k c o (sent t m e q) f = n.sent_granted t k o m (rw q f)
 
@@ -48,21 +50,26 @@ conts_new v i m g c (held j s w e q) = held j s (grind arith) (grind arith) q
 conts_new v i m g c (sent t o e q) = sent t o e q
 
 -- where nobody works that didn't
-pub conts_mode : (v : View) (i : ℕ) (m : Mode) → (Works m → Works (v.mode i)) → Conts v (record v { mode = put v.mode i m })
+pub conts_mode : (v : View) (i : ℕ) (m : Mode) → (Works m → Works (v.mode i))
+    → Conts v (record v { mode = put v.mode i m })
 conts_mode v i m works g c (held j s w e q) = held j s (grind (arith, w, works)) e q
 conts_mode v i m works g c (sent t o e q) = sent t o e q
 
-pub conts_take : (v : View) (i : ℕ) (t : Transfer) (request : Option Request) (new : List Ack) → MayTake v i t new → Conts v (take v i t request new)
+pub conts_take : (v : View) (i : ℕ) (t : Transfer) (request : Option Request) (new : List Ack) → MayTake v i t new
+    → Conts v (take v i t request new)
 conts_take v i t request new may g c (held j s w e q) = ⊎_elim
-    (λ both. let r : Sub = record { hop = t.hop; content = t.content } in let is : Some r ≡ Some s = grind (arith, e, both) in sent t may.sent (sym both.1) (written is ∙ q))
+    (λ both. let r : Sub = record { hop = t.hop; content = t.content } in let is : Some r ≡ Some s =
+    grind (arith, e, both) in sent t may.sent (sym both.1) (written is ∙ q))
     (λ other. held j s w (grind (arith, e, other)) q)
     (spot_or j i g t.grant)
 conts_take v i t request new may g c (sent u m e q) = sent u m e q
 
-pub conts_freeze : (v : View) (i heir : ℕ) (offers : List Transfer) → MayFreeze v i heir offers → Conts v (freeze v i heir offers)
+pub conts_freeze : (v : View) (i heir : ℕ) (offers : List Transfer) → MayFreeze v i heir offers
+    → Conts v (freeze v i heir offers)
 conts_freeze v i heir offers may g c (held j s w e q) = held j s (grind (arith, may.member)) e q
 conts_freeze v i heir offers may g c (sent t m e q) = ⊎_elim
-    (λ x. let o = may.each t x in held i o.sub (rw may.member tt) (let h : v.subs i t.grant ≡ Some o.sub = o.holds in cc) (sym (ap (λ (y : Transfer). y.content) o.is) ∙ q))
+    (λ x. let o = may.each t x in held i o.sub (rw may.member tt) (let h : v.subs i t.grant ≡ Some o.sub =
+    o.holds in cc) (sym (ap (λ (y : Transfer). y.content) o.is) ∙ q))
     (λ r. sent t r e q)
     (either offers v.transfers t m)
 
@@ -70,7 +77,8 @@ pub conts_remove : (v : View) (i : ℕ) (x : Grant) (aborted : List Grant) → C
 conts_remove v i x aborted g c (held j s w e q) = held j s w (grind (arith, e)) q
 conts_remove v i x aborted g c (sent t m e q) = sent t m e q
 
-pub conts_alter : (v : View) (i : ℕ) (g : Grant) (s : Sub) (c : Content) → (h : Grant) (d : Content) → Cont (alter v i g s c None [] []) h d → (Cont v h d) ⊎ ((h ≡ g) × (c ≡ d))
+pub conts_alter : (v : View) (i : ℕ) (g : Grant) (s : Sub) (c : Content) → (h : Grant) (d : Content)
+    → Cont (alter v i g s c None [] []) h d → (Cont v h d) ⊎ ((h ≡ g) × (c ≡ d))
 conts_alter v i g s c h d (held j r w e q) = ⊎_elim
     (λ both. let r2 : Sub = record { hop = s.hop; content = c } in
     let is : Some r2 ≡ Some r = grind (arith, e, both) in
@@ -79,7 +87,8 @@ conts_alter v i g s c h d (held j r w e q) = ⊎_elim
     (spot_or j i h g)
 conts_alter v i g s c h d (sent t m e q) = inl (sent t m e q)
 
-pub conts_mint : (v : View) (i thief seq : ℕ) (c : Content) → (h : Grant) (d : Content) → Cont (mint v i thief seq c) h d → (Cont v h d) ⊎ ((h ≡ (grant_of v i thief seq c).grant) × (c ≡ d))
+pub conts_mint : (v : View) (i thief seq : ℕ) (c : Content) → (h : Grant) (d : Content)
+    → Cont (mint v i thief seq c) h d → (Cont v h d) ⊎ ((h ≡ (grant_of v i thief seq c).grant) × (c ≡ d))
 conts_mint v i thief seq c h d (held j s w e q) = inl (held j s w e q)
 conts_mint v i thief seq c h d (sent t m e q) = ⊎_elim
     (λ x. inr (sym e ∙ ap (λ (y : Transfer). y.grant) x, sym (ap (λ (y : Transfer). y.content) x) ∙ q))
@@ -92,14 +101,26 @@ pub record Before (P : Content → Type 0) (d : Content) : Type 0 where
   pub there : P content
   pub records : (n : ℕ) (k : Grant) → d.granted n ≡ Some k → content.granted n ≡ Some k
 
-pub head_before : (v : View) (i : ℕ) (g : Grant) (s : Sub) (c : Content) → Live v i g s → ((n : ℕ) (k : Grant) → c.granted n ≡ Some k → s.content.granted n ≡ Some k) → (h : Grant) (d : Content) → Head (alter v i g s c None [] []) h d → Before (Head v h) d
+pub head_before : (v : View) (i : ℕ) (g : Grant) (s : Sub) (c : Content) → Live v i g s
+    → ((n : ℕ) (k : Grant) → c.granted n ≡ Some k → s.content.granted n ≡ Some k) → (h : Grant) (d : Content)
+    → Head (alter v i g s c None [] []) h d → Before (Head v h) d
 head_before v i g s c here fewer h d a = ⊎_elim
     (λ old. record { content = d; there = old; records = λ n k e. e })
-    (λ new. record { content = s.content; there = rw new.0 (live_at i s here refl); records = λ n k e. fewer n k (rw new.1 e) })
+    (λ new. record {
+      content = s.content;
+      there = rw new.0 (live_at i s here refl);
+      records = λ n k e. fewer n k (rw new.1 e);
+    })
     (heads_alter v i g s c h d a)
 
-pub cont_before : (v : View) (i : ℕ) (g : Grant) (s : Sub) (c : Content) → Live v i g s → ((n : ℕ) (k : Grant) → c.granted n ≡ Some k → s.content.granted n ≡ Some k) → (h : Grant) (d : Content) → Cont (alter v i g s c None [] []) h d → Before (Cont v h) d
+pub cont_before : (v : View) (i : ℕ) (g : Grant) (s : Sub) (c : Content) → Live v i g s
+    → ((n : ℕ) (k : Grant) → c.granted n ≡ Some k → s.content.granted n ≡ Some k) → (h : Grant) (d : Content)
+    → Cont (alter v i g s c None [] []) h d → Before (Cont v h) d
 cont_before v i g s c here fewer h d a = ⊎_elim
     (λ old. record { content = d; there = old; records = λ n k e. e })
-    (λ new. record { content = s.content; there = rw new.0 (live_cont v i g s here); records = λ n k e. fewer n k (rw new.1 e) })
+    (λ new. record {
+      content = s.content;
+      there = rw new.0 (live_cont v i g s here);
+      records = λ n k e. fewer n k (rw new.1 e);
+    })
     (conts_alter v i g s c h d a)

@@ -20,7 +20,8 @@ offer = offer_of 1 2 root held
 
 only_root : (g : Grant) (s : Sub) → filled_view.subs 1 g ≡ Some s → offer_of 1 2 g s ≡ offer
 only_root g s e = ⊎_elim
-    (λ (is : g ≡ root). let at : Some held ≡ Some s = rw is at e in let one : held ≡ s = some_same at in rw (is, ← one) refl)
+    (λ (is : g ≡ root). let at : Some held ≡ Some s = rw is at e in let one : held ≡ s =
+    some_same at in rw (is, ← one) refl)
     (λ other. absurd (grind (arith, e, other)))
     (grant_or g root)
 
@@ -29,7 +30,15 @@ is_offer t (inl e) = rw e (record { sub = held; holds = refl; is = refl })
 is_offer t (inr m) = absurd m
 
 may_freeze : MayFreeze filled_view 1 2 (offer ∷ [])
-may_freeze = record { member = refl; idle = refl; heir_used = inl refl; heir_worker = second_name; heir_other = λ e. omega (arith, e); each = is_offer; all = λ g s e. inl (only_root g s e) }
+may_freeze = record {
+  member = refl;
+  idle = refl;
+  heir_used = inl refl;
+  heir_worker = second_name;
+  heir_other = λ e. omega (arith, e);
+  each = is_offer;
+  all = λ g s e. inl (only_root g s e);
+}
 
 abbrev departing : View
 departing = freeze filled_view 1 2 (offer ∷ [])
@@ -42,16 +51,24 @@ released = remove inherited 1 root []
 
 inherited_reached : ReachedInTables inherited
 inherited_reached = by_act (by_act filled_reached (freezes 1 2 (offer ∷ []) may_freeze))
-    (takes_offer 2 offer 0 (record { sent = inl refl; to = refl; member = refl; above = tt; acks = λ a. elim [ inl e ↦ e | inr m ↦ absurd m ] }) refl)
+    (takes_offer 2 offer 0 (record {
+      sent = inl refl;
+      to = refl;
+      member = refl;
+      above = tt;
+      acks = λ a. elim [ inl e ↦ e | inr m ↦ absurd m ];
+    }) refl)
 
 released_reached : ReachedInTables released
-released_reached = by_act inherited_reached (releases 1 2 root held (record { leaving = refl; holds = refl; acked = inl refl }))
+released_reached = by_act inherited_reached
+    (releases 1 2 root held (record { leaving = refl; holds = refl; acked = inl refl }))
 
 nothing_held : (g : Grant) → released.subs 1 g ≡ None
 nothing_held g = ⊎_elim (λ (is : g ≡ root). rw is refl) (λ other. grind (arith, other)) (grant_or g root)
 
 -- the kid's thief has acknowledged it
-heard_all : (thief : ℕ) (r : Reply) (t : Transfer) → released.kept 1 thief ≡ Some r → r.given ≡ Some t → Free released 1 thief t
+heard_all : (thief : ℕ) (r : Reply) (t : Transfer) → released.kept 1 thief ≡ Some r → r.given ≡ Some t
+    → Free released 1 thief t
 heard_all thief r t e f = ⊎_elim
     (λ (is : thief ≡ 2).
     let at : Some (record { seq = 1; given = Some kids_grant }) ≡ Some r = rw is at e in
@@ -70,7 +87,12 @@ gone_reached = by_act (by_act released_reached
 
 -- the house's next roster
 abbrev pub shown : Roster
-shown = record { epoch = 1; version = 2; left = 1; status = λ i. if nat_eq i 1 then Left 2 else (if nat_eq i 2 then Listed else Unlisted) }
+shown = record {
+  epoch = 1;
+  version = 2;
+  left = 1;
+  status = λ i. if nat_eq i 1 then Left 2 else (if nat_eq i 2 then Listed else Unlisted);
+}
 
 shown_members : (i : ℕ) → (shown.status i ≡ Unlisted → ⊥) → (i ∈ gone.used) × (of_worker i ≡ true)
 shown_members i e = both_members i (λ f. e (grind (arith, f)))
@@ -86,7 +108,8 @@ why_left i h e = ⊎_elim
 
 heir_lives : (i h : ℕ) → shown.status i ≡ Left h → (both.status i ≡ Left h) ⊎ ((shown.status h ≡ Listed) × (0 < 1))
 heir_lives i h e = ⊎_elim
-    (λ (is : i ≡ 1). let at : Left 2 ≡ Left h = rw is at e in let heir : 2 ≡ h = cc in inr (rw (← heir) refl, omega arith))
+    (λ (is : i ≡ 1). let at : Left 2 ≡ Left h = rw is at e in let heir : 2 ≡ h =
+    cc in inr (rw (← heir) refl, omega arith))
     (λ other. absurd (grind (arith, e, other)))
     (same_or i 1)
 
@@ -95,7 +118,17 @@ left_view = publish gone shown
 
 pub left_reached : ReachedInTables left_view
 left_reached = by_act gone_reached
-    (publishes both shown (record { open_house = refl; epoch = refl; newer = omega arith; grows = record { listed = λ i e. grind (arith, e); dead = λ i e. grind (arith, e); left = λ i h e. grind (arith, e) }; members = shown_members; left = why_left; heir_lives = heir_lives; left_most = omega arith }))
+    (publishes both shown (record {
+      open_house = refl;
+      epoch = refl;
+      newer = omega arith;
+      grows =
+          record { listed = λ i e. grind (arith, e); dead = λ i e. grind (arith, e); left = λ i h e. grind (arith, e) };
+      members = shown_members;
+      left = why_left;
+      heir_lives = heir_lives;
+      left_most = omega arith;
+    }))
 
 -- the heir holds the sub, which came by its Offer
 abbrev pub heirs_sub : Sub

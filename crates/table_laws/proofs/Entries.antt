@@ -35,10 +35,12 @@ module _ {X : Type 0} where
 
   -- and all others
   pub at_other : (f : ℕ → ℕ → X) (i t j k : ℕ) (x : X) → (j ≡ i → k ≡ t → ⊥) → put_at f i t x j k ≡ f j k
-  at_other f i t j k x other = ⊎_elim (λ (p : j ≡ i). ⊎_elim (λ (q : k ≡ t). absurd (other p q)) (λ q. grind (arith, q)) (same_or k t)) (λ p. grind (arith, p)) (same_or j i)
+  at_other f i t j k x other = ⊎_elim (λ (p : j ≡ i). ⊎_elim (λ (q : k ≡ t). absurd (other p q)) (λ q. grind (arith, q))
+      (same_or k t)) (λ p. grind (arith, p)) (same_or j i)
 
   -- those of other rows by grant
-  pub grant_other : (f : ℕ → Grant → X) (i : ℕ) (g : Grant) (j : ℕ) (k : Grant) (x : X) → (j ≡ i → ⊥) → put_grant f i g x j k ≡ f j k
+  pub grant_other : (f : ℕ → Grant → X) (i : ℕ) (g : Grant) (j : ℕ) (k : Grant) (x : X) → (j ≡ i → ⊥)
+      → put_grant f i g x j k ≡ f j k
   grant_other f i g j k x other = grind (arith, other)
 
 -- a row that is made empty

@@ -12,7 +12,8 @@ ends_more : (r : Roster) (few most i : ℕ) → few ≤ most → EndsIn r few i 
 ends_more r few most i less (lives x j e) = lives most i e
 ends_more r few most i less (died x j e) = died most i e
 ends_more r few zero i less (passes x j heir e rest) = absurd (omega (arith, less))
-ends_more r few (suc most) i less (passes x j heir e rest) = passes most i heir e (ends_more r x most heir (omega (arith, less)) rest)
+ends_more r few (suc most) i less (passes x j heir e rest) =
+    passes most i heir e (ends_more r x most heir (omega (arith, less)) rest)
 
 -- in the house's next roster: who was live may have left to one who is live, which takes a step,
 -- and then more are shown left
@@ -21,7 +22,8 @@ module _ (v : View) (house roster : Roster) (may : MayPublish v house roster) wh
   one_step : (i h : ℕ) → roster.status i ≡ Left h → roster.status h ≡ Live → EndsIn roster 1 i
   one_step i h e live = passes 0 i h e (lives 0 h live)
 
-  was_live : (few most i : ℕ) → few + roster.left ≤ most + house.left → house.status i ≡ Live → (s : Status) → roster.status i ≡ s → EndsIn roster most i
+  was_live : (few most i : ℕ) → few + roster.left ≤ most + house.left → house.status i ≡ Live → (s : Status)
+      → roster.status i ≡ s → EndsIn roster most i
   was_live few most i less e Unlisted f = let bare = may.grows.listed i f in absurd (cc)
   was_live few most i less e Live f = lives most i f
   was_live few most i less e Dead f = died most i f
@@ -34,9 +36,11 @@ module _ (v : View) (house roster : Roster) (may : MayPublish v house roster) wh
   ends_next few most i less (lives x j e) = was_live few most i less e (roster.status i) refl
   ends_next few most i less (died x j e) = died most i (may.grows.dead i e)
   ends_next few zero i less (passes x j heir e rest) = let more = may.left_most in absurd (omega (arith, less, more))
-  ends_next few (suc most) i less (passes x j heir e rest) = passes most i heir (may.grows.left i heir e) (ends_next x most heir (omega (arith, less)) rest)
+  ends_next few (suc most) i less (passes x j heir e rest) =
+      passes most i heir (may.grows.left i heir e) (ends_next x most heir (omega (arith, less)) rest)
 
-  listed_next : AllEnd house → (i : ℕ) (s : Status) → roster.status i ≡ s → (s ≡ Unlisted → ⊥) → EndsIn roster roster.left i
+  listed_next : AllEnd house → (i : ℕ) (s : Status) → roster.status i ≡ s → (s ≡ Unlisted → ⊥)
+      → EndsIn roster roster.left i
   listed_next all i Unlisted e listed = absurd (listed refl)
   listed_next all i Live e listed = lives roster.left i e
   listed_next all i Dead e listed = died roster.left i e
@@ -63,7 +67,8 @@ heirs_kept (adopts i old roster may) h = assumption h
 heirs_kept (fails i may) h = assumption h
 heirs_kept (goes i said) h = assumption h
 heirs_kept (marks_lost i used worker lost) h = assumption h
-heirs_kept (opens i lost roster may) h = record { had_end = h.had_end; house_ends = λ x e j listed. absurd (listed (rw (← (some_same e)) (may.unlisted j))) }
+heirs_kept (opens i lost roster may) h =
+    record { had_end = h.had_end; house_ends = λ x e j listed. absurd (listed (rw (← (some_same e)) (may.unlisted j))) }
 heirs_kept (grants_root i thief seq c house new may begins) h = assumption h
 heirs_kept (closes_root k is) h = assumption h
 heirs_kept (commits i k o may) h = assumption h

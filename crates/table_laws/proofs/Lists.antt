@@ -39,13 +39,15 @@ same_or j i = grind arith
 
 pub grant_or : (g k : Grant) → (g ≡ k) ⊎ (g ≡ k → ⊥)
 grant_or g k = ⊎_elim
-    (λ a. ⊎_elim (λ b. let m : g.minter ≡ k.minter = a in let o : g.number ≡ k.number = b in inl (rw (m, o) refl)) (λ b. inr (λ e. b (ap (λ (x : Grant). x.number) e))) (same_or g.number k.number))
+    (λ a. ⊎_elim (λ b. let m : g.minter ≡ k.minter = a in let o : g.number ≡ k.number =
+    b in inl (rw (m, o) refl)) (λ b. inr (λ e. b (ap (λ (x : Grant). x.number) e))) (same_or g.number k.number))
     (λ a. inr (λ e. a (ap (λ (x : Grant). x.minter) e)))
     (same_or g.minter k.minter)
 
 -- one place of a table by name and grant, or another
 pub spot_or : (j i : ℕ) (g k : Grant) → ((j ≡ i) × (g ≡ k)) ⊎ (j ≡ i → g ≡ k → ⊥)
-spot_or j i g k = ⊎_elim (λ a. ⊎_elim (λ b. inl (a, b)) (λ b. inr (λ x. b)) (grant_or g k)) (λ a. inr (λ x y. a x)) (same_or j i)
+spot_or j i g k = ⊎_elim (λ a. ⊎_elim (λ b. inl (a, b)) (λ b. inr (λ x. b)) (grant_or g k)) (λ a. inr (λ x y. a x))
+    (same_or j i)
 
 -- above a hop, so above each below it
 pub above : (seen : Option ℕ) (h k : ℕ) → Above seen h → h < k → Above seen k

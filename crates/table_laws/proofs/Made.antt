@@ -22,7 +22,8 @@ there c s f j e = at (c.returns f) refl
     at (Some r) is = record { returns = r; is = is }
 
 -- after a fill each number was there before, and isn't the one that is gone
-pub filled_kept : {g : Grant} {c d : Content} {n f j : ℕ} {x : ℤ} {fill : Option Fill} → Filled g c d n f j x fill → (k : ℕ) (r : Return) → d.returns k ≡ Some r → (c.returns k ≡ Some r) × (k ≡ n → ⊥)
+pub filled_kept : {g : Grant} {c d : Content} {n f j : ℕ} {x : ℤ} {fill : Option Fill} → Filled g c d n f j x fill
+    → (k : ℕ) (r : Return) → d.returns k ≡ Some r → (c.returns k ≡ Some r) × (k ≡ n → ⊥)
 filled_kept {d = d} {n = n} change k r e = ⊎_elim
     (λ (is : k ≡ n). let gone = change.gone in let here : d.returns n ≡ Some r = rw is at e in absurd (cc))
     (λ other. (sym (change.kept k other) ∙ e, other))
@@ -30,12 +31,15 @@ filled_kept {d = d} {n = n} change k r e = ⊎_elim
 
 -- where number k of d, which returns to s, comes from, after frame n of c, which returned to r,
 -- joined: it stays as it was; it is the successor; or it is the kid of a slot
-pub data Made (c d : Content) (n : ℕ) (r : Return) (parts : List Part) (number : ℕ → ℕ) (k : ℕ) (s : Return) : Type 0 where
+pub data Made (c d : Content) (n : ℕ) (r : Return) (parts : List Part) (number : ℕ
+    → ℕ) (k : ℕ) (s : Return) : Type 0 where
   stays : k < c.next → (k ≡ n → ⊥) → c.returns k ≡ Some s → Made c d n r parts number k s
   succeeds : k ≡ c.next → s ≡ r → Made c d n r parts number k s
-  begins : (j hole t : ℕ) (own : List ℤ) → slice_get parts j ≡ Some (Kid hole t own) → k ≡ number j → s ≡ Local c.next j → Made c d n r parts number k s
+  begins : (j hole t : ℕ) (own : List ℤ) → slice_get parts j ≡ Some (Kid hole t own) → k ≡ number j → s ≡ Local c.next j
+      → Made c d n r parts number k s
 
-pub made : {c d : Content} {n u : ℕ} {r : Return} {parts : List Part} (change : Joined c d n u r parts) (k : ℕ) (s : Return) → d.returns k ≡ Some s → Made c d n r parts change.number k s
+pub made : {c d : Content} {n u : ℕ} {r : Return} {parts : List Part} (change : Joined c d n u r parts) (k : ℕ)
+    (s : Return) → d.returns k ≡ Some s → Made c d n r parts change.number k s
 made {c = c} {d = d} {n = n} {r = r} change k s e = ⊎_elim
     (λ less. ⊎_elim
     (λ (is : k ≡ n). let gone = change.gone in let here : d.returns n ≡ Some s = rw is at e in absurd (cc))

@@ -12,7 +12,8 @@ use Rattle.table_laws.proofs.Lists.{same, either, spot_or, some_same}
 use Rattle.table_laws.proofs.Sent.{sent_within, granted_within, granted_of, handed_by, held_sent, fresh}
 
 -- a new name: of a worker that joins, or of the clearinghouse
-pub names_new : (v : View) (i : ℕ) (m : Mode) → (i ∈ v.used → ⊥) → Names v → Names (record (start v i) { mode = put v.mode i m })
+pub names_new : (v : View) (i : ℕ) (m : Mode) → (i ∈ v.used → ⊥) → Names v
+    → Names (record (start v i) { mode = put v.mode i m })
 names_new v i m new n = record {
   up_used = λ j w. grind (arith, n.up_used);
   from_used = λ t p. inr (n.from_used t p);
@@ -44,7 +45,9 @@ names_new v i m new n = record {
 -- a joining worker is admitted
 pub names_admit : (v : View) (i : ℕ) → v.mode i ≡ Joining → Names v → Names (admit v i)
 names_admit v i is n =
-    let sub_granted : (j : ℕ) (g k : Grant) (s : Sub) (o : ℕ) → Works (put v.mode i Member j) → v.subs j g ≡ Some s → s.content.granted o ≡ Some k → Granted v.transfers k = λ j g k s o w e f. n.sub_granted j g k s o (grind arith) e f in
+    let sub_granted : (j : ℕ) (g k : Grant) (s : Sub) (o : ℕ) → Works (put v.mode i Member j) → v.subs j g ≡ Some s
+    → s.content.granted o ≡ Some k → Granted v.transfers k =
+    λ j g k s o w e f. n.sub_granted j g k s o (grind arith) e f in
     record {
       up_used = λ j w. grind (arith, n.up_used);
       from_used = n.from_used;
@@ -106,18 +109,23 @@ names_stop v i n = record {
 -- a Steal
 pub names_ask : (v : View) (i victim : ℕ) → MayAsk v i victim → Names v → Names (ask v i victim)
 names_ask v i victim may n =
-    let thief_used : (x : Steal) → x ∈ (ask v i victim).steals → x.thief ∈ v.used = λ x. elim [ inl e ↦ rw e (n.up_used i (rw may.member tt)) | inr m ↦ n.thief_used x m ] in
-    let victim_used : (x : Steal) → x ∈ (ask v i victim).steals → x.victim ∈ v.used = λ x. elim [ inl e ↦ rw e may.victim_used | inr m ↦ n.victim_used x m ] in
+    let thief_used : (x : Steal) → x ∈ (ask v i victim).steals
+    → x.thief ∈ v.used = λ x. elim [ inl e ↦ rw e (n.up_used i (rw may.member tt)) | inr m ↦ n.thief_used x m ] in
+    let victim_used : (x : Steal) → x ∈ (ask v i victim).steals
+    → x.victim ∈ v.used = λ x. elim [ inl e ↦ rw e may.victim_used | inr m ↦ n.victim_used x m ] in
     assumption (thief_used, victim_used, n)
 
 -- a Refuse is kept
 pub names_refuse : (v : View) (i thief seq : ℕ) → Names v → Names (keep_refuse v i thief seq)
 names_refuse v i thief seq n =
-    let kept_sent : (j k : ℕ) (r : Reply) (t : Transfer) → Works (v.mode j) → (keep_refuse v i thief seq).kept j k ≡ Some r → r.given ≡ Some t → t ∈ v.transfers = λ j k r t w e f. grind (arith, n.kept_sent) in
+    let kept_sent : (j k : ℕ) (r : Reply) (t : Transfer) → Works (v.mode j)
+    → (keep_refuse v i thief seq).kept j k ≡ Some r → r.given ≡ Some t
+    → t ∈ v.transfers = λ j k r t w e f. grind (arith, n.kept_sent) in
     assumption (kept_sent, n)
 
 -- a Grant
-pub names_mint : (v : View) (i thief seq : ℕ) (c : Content) → Works (v.mode i) → MayAnswer v i thief seq → Begins c i → Names v → Names (mint v i thief seq c)
+pub names_mint : (v : View) (i thief seq : ℕ) (c : Content) → Works (v.mode i) → MayAnswer v i thief seq → Begins c i
+    → Names v → Names (mint v i thief seq c)
 names_mint v i thief seq c works may begins n = record {
   up_used = n.up_used;
   from_used = λ t. elim [ inl e ↦ rw e (n.up_used i works) | inr m ↦ n.from_used t m ];
@@ -129,7 +137,11 @@ names_mint v i thief seq c works may begins n = record {
   settled_granted = λ g m. more (n.settled_granted g m);
   result_granted = λ x m. more (n.result_granted x m);
   sub_granted = λ j g k s o w e f. more (n.sub_granted j g k s o w e f);
-  sent_granted = λ t k o. elim [ inl e ↦ (λ f. let none = begins.bare o in let at : c.granted o ≡ Some k = rw e at f in absurd (cc)) | inr m ↦ λ f. more (n.sent_granted t k o m f) ];
+  sent_granted = λ t k o. elim [
+    | inl e ↦ (λ f. let none = begins.bare o in let at : c.granted o ≡ Some k =
+        rw e at f in absurd (cc))
+    | inr m ↦ λ f. more (n.sent_granted t k o m f)
+  ];
   root_granted = λ k e. more (n.root_granted k e);
   acked_sent = λ a m. sent_within (λ x p. inr p) (n.acked_sent a m);
   counted = λ t. elim [ inl e ↦ λ w. grind arith | inr m ↦ λ w. grind (arith, n.counted t m) ];
@@ -153,7 +165,8 @@ names_mint v i thief seq c works may begins n = record {
     more a = granted_within (λ x p. inr p) a
 
 -- a transfer is taken
-pub names_take : (v : View) (i : ℕ) (t : Transfer) (request : Option Request) (new : List Ack) → MayTake v i t new → Names v → Names (take v i t request new)
+pub names_take : (v : View) (i : ℕ) (t : Transfer) (request : Option Request) (new : List Ack) → MayTake v i t new
+    → Names v → Names (take v i t request new)
 names_take v i t request new may n = record {
   up_used = n.up_used;
   from_used = n.from_used;
@@ -172,7 +185,13 @@ names_take v i t request new may n = record {
       (spot_or j i g t.grant);
   sent_granted = n.sent_granted;
   root_granted = n.root_granted;
-  acked_sent = λ a m. ⊎_elim (λ l. rw (may.acks a l) record { transfer = t; sent = may.sent; grant = refl; hop = refl; to = refl }) (λ r. n.acked_sent a r) (either new v.acks a m);
+  acked_sent = λ a m. ⊎_elim (λ l. rw (may.acks a l) record {
+    transfer = t;
+    sent = may.sent;
+    grant = refl;
+    hop = refl;
+    to = refl;
+  }) (λ r. n.acked_sent a r) (either new v.acks a m);
   counted = n.counted;
   minted_by = n.minted_by;
   minted_for = n.minted_for;
@@ -190,23 +209,39 @@ names_take v i t request new may n = record {
 -- an OfferAck
 pub names_acknowledge : (v : View) (t : Transfer) → t ∈ v.transfers → Names v → Names (acknowledge v (ack_of t))
 names_acknowledge v t sent n =
-    let acked_sent : (a : Ack) → a ∈ (acknowledge v (ack_of t)).acks → SentTo v.transfers a.grant a.hop a.from = λ a. elim [ inl e ↦ rw e record { transfer = t; sent = sent; grant = refl; hop = refl; to = refl } | inr m ↦ n.acked_sent a m ] in
+    let acked_sent : (a : Ack) → a ∈ (acknowledge v (ack_of t)).acks
+    → SentTo v.transfers a.grant a.hop a.from =
+    λ a. elim [
+      | inl e ↦ rw e record { transfer = t; sent = sent; grant = refl; hop = refl; to = refl }
+      | inr m ↦ n.acked_sent a m
+    ] in
     assumption (acked_sent, n)
 
 -- a sub goes
-pub names_remove : (v : View) (i : ℕ) (g : Grant) (aborted : List Grant) → ((k : Grant) → k ∈ aborted → Granted v.transfers k) → Names v → Names (remove v i g aborted)
+pub names_remove : (v : View) (i : ℕ) (g : Grant) (aborted : List Grant)
+    → ((k : Grant) → k ∈ aborted → Granted v.transfers k) → Names v → Names (remove v i g aborted)
 names_remove v i g aborted granted n =
-    let settled_granted : (k : Grant) → k ∈ (aborted ++ v.settled) → Granted v.transfers k = λ k m. ⊎_elim (granted k) (n.settled_granted k) (either aborted v.settled k m) in
-    let sub_granted : (j : ℕ) (h k : Grant) (s : Sub) (o : ℕ) → Works (v.mode j) → (remove v i g aborted).subs j h ≡ Some s → s.content.granted o ≡ Some k → Granted v.transfers k = λ j h k s o w e f. n.sub_granted j h k s o w (grind (arith, e)) f in
-    let joins_empty : (j : ℕ) (h : Grant) → v.mode j ≡ Joining → (remove v i g aborted).subs j h ≡ None = λ j h e. grind (arith, n.joins_empty) in
-    let held_seen : (j : ℕ) (h : Grant) (s : Sub) → Works (v.mode j) → (remove v i g aborted).subs j h ≡ Some s → v.seen j h ≡ Some s.hop = λ j h s w e. grind (arith, n.held_seen) in
-    let held_by : (j : ℕ) (h : Grant) (s : Sub) → Works (v.mode j) → (remove v i g aborted).subs j h ≡ Some s → (v.mode j ≡ Member) ⊎ ((heir : ℕ) × (v.mode j ≡ Leaving heir)) = λ j h s w e. grind (arith, n.held_by) in
-    let frozen_offered : (j heir : ℕ) (h : Grant) (s : Sub) → v.mode j ≡ Leaving heir → (remove v i g aborted).subs j h ≡ Some s → offer_of j heir h s ∈ v.transfers = λ j heir h s e f. grind (arith, n.frozen_offered) in
+    let settled_granted : (k : Grant) → k ∈ (aborted ++ v.settled)
+    → Granted v.transfers k = λ k m. ⊎_elim (granted k) (n.settled_granted k) (either aborted v.settled k m) in
+    let sub_granted : (j : ℕ) (h k : Grant) (s : Sub) (o : ℕ) → Works (v.mode j)
+    → (remove v i g aborted).subs j h ≡ Some s → s.content.granted o ≡ Some k
+    → Granted v.transfers k = λ j h k s o w e f. n.sub_granted j h k s o w (grind (arith, e)) f in
+    let joins_empty : (j : ℕ) (h : Grant) → v.mode j ≡ Joining
+    → (remove v i g aborted).subs j h ≡ None = λ j h e. grind (arith, n.joins_empty) in
+    let held_seen : (j : ℕ) (h : Grant) (s : Sub) → Works (v.mode j) → (remove v i g aborted).subs j h ≡ Some s
+    → v.seen j h ≡ Some s.hop = λ j h s w e. grind (arith, n.held_seen) in
+    let held_by : (j : ℕ) (h : Grant) (s : Sub) → Works (v.mode j) → (remove v i g aborted).subs j h ≡ Some s
+    → (v.mode j ≡ Member) ⊎ ((heir : ℕ) × (v.mode j ≡ Leaving heir)) = λ j h s w e. grind (arith, n.held_by) in
+    let frozen_offered : (j heir : ℕ) (h : Grant) (s : Sub) → v.mode j ≡ Leaving heir
+    → (remove v i g aborted).subs j h ≡ Some s
+    → offer_of j heir h s ∈ v.transfers = λ j heir h s e f. grind (arith, n.frozen_offered) in
     assumption (settled_granted, sub_granted, joins_empty, held_seen, held_by, frozen_offered, n)
 
 -- a live sub has another content, whose records were granted
-pub names_alter : (v : View) (i : ℕ) (g : Grant) (s : Sub) (c : Content) (fill : Option Fill) (results : List Result) (gone : List Grant) → Live v i g s
-    → ((k : Grant) → k ∈ gone → Granted v.transfers k) → ((x : Result) → x ∈ results → x.grant ≡ g) → ((n : ℕ) (k : Grant) → c.granted n ≡ Some k → Granted v.transfers k)
+pub names_alter : (v : View) (i : ℕ) (g : Grant) (s : Sub) (c : Content) (fill : Option Fill) (results : List Result)
+    (gone : List Grant) → Live v i g s
+    → ((k : Grant) → k ∈ gone → Granted v.transfers k) → ((x : Result) → x ∈ results → x.grant ≡ g)
+    → ((n : ℕ) (k : Grant) → c.granted n ≡ Some k → Granted v.transfers k)
     → Names v → Names (alter v i g s c fill results gone)
 names_alter v i g s c fill results gone here gone_granted own records n = record {
   up_used = n.up_used;
@@ -217,7 +252,8 @@ names_alter v i g s c fill results gone here gone_granted own records n = record
   victim_used = n.victim_used;
   leaver_used = n.leaver_used;
   settled_granted = λ k m. ⊎_elim (gone_granted k) (n.settled_granted k) (either gone v.settled k m);
-  result_granted = λ x m. ⊎_elim (λ l. rw (own x l) (granted_of (held_sent v n i g s (rw here.member tt) here.holds))) (n.result_granted x) (either results v.results x m);
+  result_granted = λ x m. ⊎_elim (λ l. rw (own x l) (granted_of (held_sent v n i g s (rw here.member tt) here.holds)))
+      (n.result_granted x) (either results v.results x m);
   sub_granted = λ j h k r o w e f. ⊎_elim
       (λ both. let q : Sub = record { hop = s.hop; content = c } in
       let is : Some q ≡ Some r = grind (arith, e, both) in
@@ -244,11 +280,13 @@ names_alter v i g s c fill results gone here gone_granted own records n = record
 -- a ResultAck or an Abort
 pub names_settle : (v : View) (g : Grant) → Granted v.transfers g → Names v → Names (settle v g)
 names_settle v g granted n =
-    let settled_granted : (k : Grant) → k ∈ (settle v g).settled → Granted v.transfers k = λ k. elim [ inl e ↦ rw e granted | inr m ↦ n.settled_granted k m ] in
+    let settled_granted : (k : Grant) → k ∈ (settle v g).settled
+    → Granted v.transfers k = λ k. elim [ inl e ↦ rw e granted | inr m ↦ n.settled_granted k m ] in
     assumption (settled_granted, n)
 
 -- a Leave
 pub names_leave : (v : View) (i heir epoch : ℕ) → i ∈ v.used → Names v → Names (leave v i heir epoch)
 names_leave v i heir epoch used n =
-    let leaver_used : (l : Leave) → l ∈ (leave v i heir epoch).leaves → l.from ∈ v.used = λ l. elim [ inl e ↦ rw e used | inr m ↦ n.leaver_used l m ] in
+    let leaver_used : (l : Leave) → l ∈ (leave v i heir epoch).leaves
+    → l.from ∈ v.used = λ l. elim [ inl e ↦ rw e used | inr m ↦ n.leaver_used l m ] in
     assumption (leaver_used, n)

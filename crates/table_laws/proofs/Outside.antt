@@ -30,7 +30,8 @@ abbrev pub granted_twice : View
 granted_twice = record first { transfers = sent_to 2 ∷ sent_to 3 ∷ [] }
 
 pub not_names : Names granted_twice → ⊥
-not_names n = let same = n.one (sent_to 2) (sent_to 3) (inl refl) (inr (inl refl)) refl refl in let to : 2 ≡ 3 = ap (λ (t : Transfer). t.to) same in omega (arith, to)
+not_names n = let same = n.one (sent_to 2) (sent_to 3) (inl refl) (inr (inl refl)) refl refl in let to : 2 ≡ 3 =
+    ap (λ (t : Transfer). t.to) same in omega (arith, to)
 
 -- one slot, filled twice
 abbrev slot_fill : Fill
@@ -51,11 +52,17 @@ waiting = record { hop = 0; content = with_record }
 
 -- worker 1 holds it, as the root's, and nothing was ever sent
 abbrev pub holding : View
-holding = record first { mode = λ i. if nat_eq i 1 then Member else Gone; subs = λ i g. if same_grant g root then Some waiting else None }
+holding = record first {
+  mode = λ i. if nat_eq i 1 then Member else Gone;
+  subs = λ i g. if same_grant g root then Some waiting else None;
+}
 
 -- one that said Leave still holds it
 abbrev pub left_holding : View
-left_holding = record holding { mode = λ i. if nat_eq i 1 then Leaving 2 else Gone; leaves = record { from = 1; heir = 2; epoch = 1 } ∷ [] }
+left_holding = record holding {
+  mode = λ i. if nat_eq i 1 then Leaving 2 else Gone;
+  leaves = record { from = 1; heir = 2; epoch = 1 } ∷ [];
+}
 
 pub not_leavers : Leavers left_holding → ⊥
 not_leavers l = let empty = l.said_empty (record { from = 1; heir = 2; epoch = 1 }) root (inl refl) tt in cc
@@ -79,7 +86,8 @@ abbrev pub record_settled : View
 record_settled = record holding { settled = kid ∷ [] }
 
 pub not_kin : Kin record_settled → ⊥
-not_kin k = k.unsettled root kid with_record 2 (inl refl) (live_at 1 waiting (record { member = refl; holds = refl }) refl) refl
+not_kin k = k.unsettled root kid with_record 2 (inl refl)
+    (live_at 1 waiting (record { member = refl; holds = refl }) refl) refl
 
 -- a member waits on a Steal that it never sent
 abbrev pub waits_unasked : View
@@ -90,7 +98,8 @@ not_requests q = q.asked_sent 1 (record { victim = 2; seq = 1 }) tt refl
 
 -- a record of a grant that nobody has, and nobody is lost
 pub not_cases : Cases holding → ⊥
-not_cases c = nowhere (c.record_case root kid with_record 2 (live_at 1 waiting (record { member = refl; holds = refl }) refl) refl)
+not_cases c = nowhere (c.record_case root kid with_record 2
+    (live_at 1 waiting (record { member = refl; holds = refl }) refl) refl)
   where
     nowhere : Case holding root kid → ⊥
     nowhere (alive i s here) = let holds = here.holds in cc
@@ -132,7 +141,12 @@ not_epochs e = let past = e.kept_past 1 later_roster refl in omega (arith, past)
 
 -- two that left, each to the other
 abbrev in_circle : Roster
-in_circle = record { epoch = 1; version = 1; left = 2; status = λ i. if nat_eq i 1 then Left 2 else (if nat_eq i 2 then Left 1 else Unlisted) }
+in_circle = record {
+  epoch = 1;
+  version = 1;
+  left = 2;
+  status = λ i. if nat_eq i 1 then Left 2 else (if nat_eq i 2 then Left 1 else Unlisted);
+}
 
 abbrev pub circle : View
 circle = record first { rosters = in_circle ∷ [] }
@@ -141,7 +155,9 @@ circle = record first { rosters = in_circle ∷ [] }
 no_end : (most i : ℕ) → (i ≡ 1) ⊎ (i ≡ 2) → EndsIn in_circle most i → ⊥
 no_end most i is (lives x j e) = grind (arith, e, is)
 no_end most i is (died x j e) = grind (arith, e, is)
-no_end most i is (passes x j heir e rest) = no_end x heir (⊎_elim (λ (a : i ≡ 1). let at : Left 2 ≡ Left heir = rw a at e in inr (cc)) (λ (b : i ≡ 2). let at : Left 1 ≡ Left heir = rw b at e in inl (cc)) is) rest
+no_end most i is (passes x j heir e rest) =
+    no_end x heir (⊎_elim (λ (a : i ≡ 1). let at : Left 2 ≡ Left heir =
+    rw a at e in inr (cc)) (λ (b : i ≡ 2). let at : Left 1 ≡ Left heir = rw b at e in inl (cc)) is) rest
 
 pub not_heirs : Heirs circle → ⊥
 not_heirs h = no_end 2 1 (inl refl) (h.had_end in_circle (inl refl) 1 (λ e. cc))

@@ -14,7 +14,13 @@ use Rattle.table_laws.proofs.Sample.{root, kid, turned, heard, heard_reached}
 
 -- the record is a frame again
 redone : (v : View) → Cause sample_job v 1 root (regrant turned 2 (Some kid)) turned None
-redone v = redoes (record { fewer = λ n k e. cc; returns = λ n. refl; work = λ n. record { place = refl; thread = refl; slots = λ j. refl }; next = refl; outcome = refl }) refl
+redone v = redoes (record {
+  fewer = λ n k e. cc;
+  returns = λ n. refl;
+  work = λ n. record { place = refl; thread = refl; slots = λ j. refl };
+  next = refl;
+  outcome = refl;
+}) refl
 
 unsaid : Said heard.leaves 2 → ⊥
 unsaid said = said.sent
@@ -27,8 +33,21 @@ redone_view = alter failed 1 root (record { hop = 0; content = regrant turned 2 
 
 pub redone_reached : ReachedInTables redone_view
 redone_reached = by_act (by_act heard_reached (fails 2 (record { works = tt; worker = λ e. cc; unsaid = unsaid })))
-    (alters 1 root (record { hop = 0; content = regrant turned 2 (Some kid) }) turned None [] (kid ∷ []) (record { member = refl; holds = refl }) (cause_changes sample_job failed 1 root (regrant turned 2 (Some kid)) turned None (redone failed))
-    (record { host = refl; task = refl; fewer = λ n k e. cc; keeps = λ n k e. cc; result_own = λ x m. absurd m; result_host = λ x m. absurd m; result_outcome = λ x m. absurd m; had = λ k. elim [ inl e ↦ rw e (record { number = 2; is = refl }) | inr m ↦ absurd m ]; lost = λ k m r. let is = r.is in cc }))
+    (alters 1 root (record { hop = 0; content = regrant turned 2 (Some kid) }) turned None [] (kid ∷ [])
+    (record { member = refl; holds = refl })
+    (cause_changes sample_job failed 1 root (regrant turned 2 (Some kid)) turned None (redone failed))
+    (record {
+      host = refl;
+      task = refl;
+      fewer = λ n k e. cc;
+      keeps = λ n k e. cc;
+      result_own = λ x m. absurd m;
+      result_host = λ x m. absurd m;
+      result_outcome = λ x m. absurd m;
+      had = λ k. elim [ inl e ↦ rw e (record { number = 2; is = refl }) | inr m ↦ absurd m ];
+      lost = λ k m r. let is =
+          r.is in cc;
+    }))
 
 abbrev pub redone_sub : Sub
 redone_sub = record { hop = 0; content = turned }

@@ -28,7 +28,8 @@ rosters_kept (grants i g s m thief seq c here may begins frame) n l k = assumpti
 rosters_kept (takes_grant i t may hop asked) n l k = assumption k
 rosters_kept (hears_refuse i x refused thief asked) n l k = assumption k
 rosters_kept (gives_up i why) n l k = assumption k
-rosters_kept {v} (freezes i heir offers may) n l k = let moved = rosters_freeze v i heir may.member k in assumption moved
+rosters_kept {v} (freezes i heir offers may) n l k = let moved =
+    rosters_freeze v i heir may.member k in assumption moved
 rosters_kept (takes_offer i t hop may is) n l k = assumption k
 rosters_kept (acknowledges t there seen works) n l k = assumption k
 rosters_kept (releases i heir g s may) n l k = assumption k

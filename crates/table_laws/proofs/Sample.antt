@@ -37,7 +37,12 @@ abbrev pub nobody : Roster
 nobody = record { epoch = 1; version = 0; left = 0; status = λ i. Unlisted }
 
 abbrev pub both : Roster
-both = record { epoch = 1; version = 1; left = 0; status = λ i. if nat_eq i 1 then Listed else (if nat_eq i 2 then Listed else Unlisted) }
+both = record {
+  epoch = 1;
+  version = 1;
+  left = 0;
+  status = λ i. if nat_eq i 1 then Listed else (if nat_eq i 2 then Listed else Unlisted);
+}
 
 -- the task of a thread at a place, without numbers: the first one joins thread 1 with a kid of
 -- thread 2
@@ -52,7 +57,17 @@ kids_task = job (1 ∷ []) 2
 
 -- a Grant's content: one frame
 abbrev pub begun : ℕ → Task → Content
-begun i t = record { host = i; task = t; next = 1; place = λ n. t.place; thread = λ n. t.thread; returns = λ n. if nat_eq n 0 then Some Whole else None; slots = λ n j. Absent; granted = λ n. None; outcome = None }
+begun i t = record {
+  host = i;
+  task = t;
+  next = 1;
+  place = λ n. t.place;
+  thread = λ n. t.thread;
+  returns = λ n. if nat_eq n 0 then Some Whole else None;
+  slots = λ n j. Absent;
+  granted = λ n. None;
+  outcome = None;
+}
 
 pub begun_sound : (i : ℕ) (t : Task) → Sound (begun i t)
 begun_sound i t = record {
@@ -67,7 +82,14 @@ begun_sound i t = record {
 }
 
 pub begins : (i : ℕ) (place : List ℕ) (t : ℕ) → Begins (begun i (job place t)) i
-begins i place t = record { host = refl; bare = λ n. refl; sound = begun_sound i (job place t); only = λ n r e. grind arith; holds = record { place = refl; thread = refl; numbers = λ j. refl }; active = refl }
+begins i place t = record {
+  host = refl;
+  bare = λ n. refl;
+  sound = begun_sound i (job place t);
+  only = λ n r e. grind arith;
+  holds = record { place = refl; thread = refl; numbers = λ j. refl };
+  active = refl;
+}
 
 -- the places and threads of the root's frames: the first task, its successor and its kid
 abbrev pub places : ℕ → List ℕ
@@ -78,7 +100,17 @@ threads n = if nat_eq n 0 then 0 else (if nat_eq n 1 then 1 else 2)
 
 -- after the root's turn: frame 1 awaits frame 2
 abbrev pub turned : Content
-turned = record { host = house; task = first_task; next = 3; place = places; thread = threads; returns = λ n. if nat_eq n 1 then Some Whole else (if nat_eq n 2 then Some (Local 1 0) else None); slots = λ n j. if nat_eq n 1 && nat_eq j 0 then Empty else Absent; granted = λ n. None; outcome = None }
+turned = record {
+  host = house;
+  task = first_task;
+  next = 3;
+  place = places;
+  thread = threads;
+  returns = λ n. if nat_eq n 1 then Some Whole else (if nat_eq n 2 then Some (Local 1 0) else None);
+  slots = λ n j. if nat_eq n 1 && nat_eq j 0 then Empty else Absent;
+  granted = λ n. None;
+  outcome = None;
+}
 
 abbrev pub root : Grant
 root = record { minter = house; number = 1 }
@@ -92,11 +124,25 @@ started = start (start (open_house first house [] nobody) 1) 2
 
 pub started_run : Run sample_job started
 started_run = by_right (by_right (by_right (at_start 0 None (λ o e. cc))
-    (opens house [] nobody (record { new = λ m. m; house = house_name; name = refl; epoch = omega arith; rosters_older = λ r m. absurd m; leaves_older = λ l m. absurd m; unlisted = λ j. refl; lost_old = λ j m. absurd m; lost_joined = λ j m. absurd m; lost_all = λ j m. absurd m }))
+    (opens house [] nobody (record {
+      new = λ m. m;
+      house = house_name;
+      name = refl;
+      epoch = omega arith;
+      rosters_older = λ r m. absurd m;
+      leaves_older = λ l m. absurd m;
+      unlisted = λ j. refl;
+      lost_old = λ j m. absurd m;
+      lost_joined = λ j m. absurd m;
+      lost_all = λ j m. absurd m;
+    }))
     tt)
     (starts 1 (elim [ inl e ↦ absurd (omega (arith, e)) | inr m ↦ m ]) first_name)
     tt)
-    (starts 2 (elim [ inl e ↦ absurd (omega (arith, e)) | inr m ↦ elim m [ inl e ↦ absurd (omega (arith, e)) | inr x ↦ x ] ]) second_name)
+    (starts 2 (elim [
+      | inl e ↦ absurd (omega (arith, e))
+      | inr m ↦ elim m [ inl e ↦ absurd (omega (arith, e)) | inr x ↦ x ]
+    ]) second_name)
     tt
 
 -- both are workers, and have started
@@ -114,7 +160,16 @@ joined = adopt (admit (adopt (admit (publish started both) 1) 1 both) 2) 2 both
 
 pub joined_run : Run sample_job joined
 joined_run = by_right (by_right (by_right started_run
-    (publishes nobody both (record { open_house = refl; epoch = refl; newer = omega arith; grows = record { listed = λ i e. refl; dead = λ i e. cc; left = λ i h e. cc }; members = both_members; left = λ i h e. grind arith; heir_lives = λ i h e. absurd (grind (arith, e)); left_most = omega arith }))
+    (publishes nobody both (record {
+      open_house = refl;
+      epoch = refl;
+      newer = omega arith;
+      grows = record { listed = λ i e. refl; dead = λ i e. cc; left = λ i h e. cc };
+      members = both_members;
+      left = λ i h e. grind arith;
+      heir_lives = λ i h e. absurd (grind (arith, e));
+      left_most = omega arith;
+    }))
     tt)
     (admits 1 both refl (inl refl))
     tt)
@@ -123,7 +178,8 @@ joined_run = by_right (by_right (by_right started_run
 
 -- the first worker takes the root and turns it
 abbrev pub rooted : View
-rooted = take (grant_root (ask joined 1 house) house 1 1 (begun house first_task)) 1 (grant_of (ask joined 1 house) house 1 1 (begun house first_task)) None []
+rooted = take (grant_root (ask joined 1 house) house 1 1 (begun house first_task)) 1
+    (grant_of (ask joined 1 house) house 1 1 (begun house first_task)) None []
 
 pub first_fits : FitsMeaning sample_job [] 0 (λ j. given [] j)
 first_fits = record { thread = refl; slots = λ j. tt }
@@ -132,9 +188,11 @@ pub rooted_run : Run sample_job rooted
 rooted_run = by_right (by_right (by_right joined_run
     (asks 1 house (record { member = refl; idle = refl; victim_used = inr (inr (inl refl)) }))
     tt)
-    (grants_root house 1 1 (begun house first_task) refl (record { unrecorded = refl; unstored = refl; place = refl }) (record { asked = inl refl; due = λ a. a; listed = inl refl }) (begins house [] 0))
+    (grants_root house 1 1 (begun house first_task) refl (record { unrecorded = refl; unstored = refl; place = refl })
+    (record { asked = inl refl; due = λ a. a; listed = inl refl }) (begins house [] 0))
     first_fits)
-    (takes_grant 1 (grant_of (ask joined 1 house) house 1 1 (begun house first_task)) (record { sent = inl refl; to = refl; member = refl; above = tt; acks = λ a m. absurd m }) refl refl)
+    (takes_grant 1 (grant_of (ask joined 1 house) house 1 1 (begun house first_task))
+    (record { sent = inl refl; to = refl; member = refl; above = tt; acks = λ a m. absurd m }) refl refl)
     tt
 
 abbrev pub forked : View
@@ -153,7 +211,8 @@ turn_joins = record {
   slots = row;
   number = λ j. 2;
   kid = kid_at;
-  only = λ k s above e. let is : k ≡ 2 = grind (arith, above, e) in record { slot = 0; hole = 1; thread = 2; numbers = []; part = refl; is = is };
+  only = λ k s above e. let is : k ≡ 2 =
+      grind (arith, above, e) in record { slot = 0; hole = 1; thread = 2; numbers = []; part = refl; is = is };
   bare = λ k l e. grind (arith, e);
   next = omega arith;
   active = refl;
@@ -163,22 +222,51 @@ turn_joins = record {
     row zero = refl
     row (suc j) = grind arith
 
-    kid_at : (j hole t : ℕ) (numbers : List ℤ) → slice_get parts_of j ≡ Some (Kid hole t numbers) → KidAt (begun house first_task) turned 0 2 j hole t numbers
+    kid_at : (j hole t : ℕ) (numbers : List ℤ) → slice_get parts_of j ≡ Some (Kid hole t numbers)
+        → KidAt (begun house first_task) turned 0 2 j hole t numbers
     kid_at zero hole t numbers e = let h : 1 ≡ hole = cc in let x : 2 ≡ t = cc in let own : [] ≡ numbers = cc in
-        rw (← h, ← x, ← own) (record { above = omega arith; below = omega arith; returns = refl; place = refl; thread = refl; slots = λ l. refl })
+        rw (← h, ← x, ← own) (record {
+          above = omega arith;
+          below = omega arith;
+          returns = refl;
+          place = refl;
+          thread = refl;
+          slots = λ l. refl;
+        })
     kid_at (suc j) hole t numbers e = cc
 
 pub forks : (v : View) → Cause sample_job v 1 root (begun house first_task) turned None
-forks v = joins 0 1 parts_of parts_of (record { frame = record { returns = Whole; there = refl; unstolen = refl }; numbers = []; holds = λ j. refl; ends = refl }) (refl, tt) (omega arith) turn_joins refl
+forks v = joins 0 1 parts_of parts_of
+    (record {
+      frame = record { returns = Whole; there = refl; unstolen = refl };
+      numbers = [];
+      holds = λ j. refl;
+      ends = refl;
+    }) (refl, tt) (omega arith) turn_joins refl
 
 pub forked_run : Run sample_job forked
 forked_run = by_right rooted_run
-    (alters 1 root (record { hop = 0; content = begun house first_task }) turned None [] [] (record { member = refl; holds = refl }) (cause_changes sample_job rooted 1 root (begun house first_task) turned None (forks rooted))
-    (record { host = refl; task = refl; fewer = λ n k e. cc; keeps = λ n k e. cc; result_own = λ x m. absurd m; result_host = λ x m. absurd m; result_outcome = λ x m. absurd m; had = λ k m. absurd m; lost = λ k m. absurd m }))
+    (alters 1 root (record { hop = 0; content = begun house first_task }) turned None [] []
+    (record { member = refl; holds = refl })
+    (cause_changes sample_job rooted 1 root (begun house first_task) turned None (forks rooted))
+    (record {
+      host = refl;
+      task = refl;
+      fewer = λ n k e. cc;
+      keeps = λ n k e. cc;
+      result_own = λ x m. absurd m;
+      result_host = λ x m. absurd m;
+      result_outcome = λ x m. absurd m;
+      had = λ k m. absurd m;
+      lost = λ k m. absurd m;
+    }))
     (forks rooted)
 
 pub kid_ready : MaySteal turned 2 kids_task
-kid_ready = record { frame = record { returns = Local 1 0; there = refl; unstolen = refl }; holds = record { place = refl; thread = refl; numbers = λ j. refl } }
+kid_ready = record {
+  frame = record { returns = Local 1 0; there = refl; unstolen = refl };
+  holds = record { place = refl; thread = refl; numbers = λ j. refl };
+}
 
 -- the second worker steals the kid, takes it and says so
 abbrev pub stolen : View
@@ -194,9 +282,17 @@ pub heard_run : Run sample_job heard
 heard_run = by_right (by_right (by_right (by_right forked_run
     (asks 2 1 (record { member = refl; idle = refl; victim_used = inr (inl refl) }))
     tt)
-    (grants 1 root (record { hop = 0; content = turned }) 2 2 1 (begun 1 kids_task) (record { member = refl; holds = refl }) (record { asked = inl refl; due = λ a. a; listed = inr (both, refl, refl) }) (begins 1 (1 ∷ []) 2) kid_ready)
+    (grants 1 root (record { hop = 0; content = turned }) 2 2 1 (begun 1 kids_task)
+    (record { member = refl; holds = refl })
+    (record { asked = inl refl; due = λ a. a; listed = inr (both, refl, refl) }) (begins 1 (1 ∷ []) 2) kid_ready)
     tt)
-    (takes_grant 2 kids_grant (record { sent = inl refl; to = refl; member = refl; above = tt; acks = λ a m. absurd m }) refl refl)
+    (takes_grant 2 kids_grant (record {
+      sent = inl refl;
+      to = refl;
+      member = refl;
+      above = tt;
+      acks = λ a m. absurd m;
+    }) refl refl)
     tt)
     (acknowledges kids_grant (inl refl) (λ a. omega (arith, a)) tt)
     tt

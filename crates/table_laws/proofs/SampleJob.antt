@@ -55,7 +55,8 @@ abbrev pub sample_job : Meaning
 sample_job = record { thread = thread_at; slot = slot_at; value = value_at; ends = end_of; gives = gives_of }
 
 -- what the successor gives is what it got
-gives_it : (numbers : List ℤ) (v : ℤ) → SlotFits (Some (Some (pos 7))) (given numbers 0) → number_sent (send_first numbers) ≡ Some v → Some (pos 7) ≡ Some v
+gives_it : (numbers : List ℤ) (v : ℤ) → SlotFits (Some (Some (pos 7))) (given numbers 0)
+    → number_sent (send_first numbers) ≡ Some v → Some (pos 7) ≡ Some v
 gives_it [] v fits e = absurd fits
 gives_it (w ∷ numbers) v fits e = let is : w ≡ v = some_same e in rw (← is) fits
 
@@ -65,10 +66,14 @@ joins_not [] u parts e = cc
 joins_not (v ∷ numbers) u parts e = cc
 
 -- at each of its places the value is what the thread gives
-given_value : (place : List ℕ) (t : ℕ) (numbers : List ℤ) (v : ℤ) → Gives sample_job place t numbers v → value_at place ≡ Some v
-given_value [] t numbers v from = let is : 0 ≡ t = some_same from.fits.thread in let gives : number_sent (end_of 0 numbers) ≡ Some v = rw (← is) at from.gives in gives
-given_value (zero ∷ []) t numbers v from = let is : 1 ≡ t = some_same from.fits.thread in gives_it numbers v (from.fits.slots 0) (rw (← is) at from.gives)
-given_value (suc zero ∷ []) t numbers v from = let is : 2 ≡ t = some_same from.fits.thread in let gives : number_sent (end_of 2 numbers) ≡ Some v = rw (← is) at from.gives in gives
+given_value : (place : List ℕ) (t : ℕ) (numbers : List ℤ) (v : ℤ) → Gives sample_job place t numbers v
+    → value_at place ≡ Some v
+given_value [] t numbers v from = let is : 0 ≡ t =
+    some_same from.fits.thread in let gives : number_sent (end_of 0 numbers) ≡ Some v = rw (← is) at from.gives in gives
+given_value (zero ∷ []) t numbers v from = let is : 1 ≡ t =
+    some_same from.fits.thread in gives_it numbers v (from.fits.slots 0) (rw (← is) at from.gives)
+given_value (suc zero ∷ []) t numbers v from = let is : 2 ≡ t =
+    some_same from.fits.thread in let gives : number_sent (end_of 2 numbers) ≡ Some v = rw (← is) at from.gives in gives
 given_value (suc (suc i) ∷ []) t numbers v from = let none : None ≡ Some t = from.fits.thread in cc
 given_value (i ∷ j ∷ place) t numbers v from = let none : None ≡ Some t = from.fits.thread in cc
 
@@ -78,10 +83,15 @@ record First (place : List ℕ) (u : ℕ) (parts : List Part) : Type 0 where
   thread : u ≡ 1
   parts_are : parts ≡ parts_of
 
-only_first : (place : List ℕ) (t u : ℕ) (numbers : List ℤ) (parts : List Part) → Runs sample_job place t numbers (Joins u parts) → First place u parts
-only_first [] t u numbers parts run = let is : 0 ≡ t = some_same run.fits.thread in let ends : Some (Joins 1 parts_of) ≡ Some (Joins u parts) = rw (← is) at run.ends in record { root = refl; thread = cc; parts_are = cc }
-only_first (zero ∷ []) t u numbers parts run = let is : 1 ≡ t = some_same run.fits.thread in absurd (joins_not numbers u parts (rw (← is) at run.ends))
-only_first (suc zero ∷ []) t u numbers parts run = let is : 2 ≡ t = some_same run.fits.thread in let ends : end_of 2 numbers ≡ Some (Joins u parts) = rw (← is) at run.ends in cc
+only_first : (place : List ℕ) (t u : ℕ) (numbers : List ℤ) (parts : List Part)
+    → Runs sample_job place t numbers (Joins u parts) → First place u parts
+only_first [] t u numbers parts run = let is : 0 ≡ t =
+    some_same run.fits.thread in let ends : Some (Joins 1 parts_of) ≡ Some (Joins u parts) =
+    rw (← is) at run.ends in record { root = refl; thread = cc; parts_are = cc }
+only_first (zero ∷ []) t u numbers parts run = let is : 1 ≡ t =
+    some_same run.fits.thread in absurd (joins_not numbers u parts (rw (← is) at run.ends))
+only_first (suc zero ∷ []) t u numbers parts run = let is : 2 ≡ t =
+    some_same run.fits.thread in let ends : end_of 2 numbers ≡ Some (Joins u parts) = rw (← is) at run.ends in cc
 only_first (suc (suc i) ∷ []) t u numbers parts run = let none : None ≡ Some t = run.fits.thread in cc
 only_first (i ∷ j ∷ place) t u numbers parts run = let none : None ≡ Some t = run.fits.thread in cc
 
@@ -118,11 +128,15 @@ pub sample_serial : IsSerial sample_job
 sample_serial = record {
   gives = given_value;
   joined = λ place t u numbers parts run room. let first = only_first place t u numbers parts run in rw first.root refl;
-  deep = λ place t u numbers parts run deep. let first = only_first place t u numbers parts run in let root = first.root in absurd (grind (arith, deep, root));
-  successor = λ place t u numbers parts run room. let first = only_first place t u numbers parts run in rw (first.root, first.thread, first.parts_are) fits_next;
-  kid = λ place t u numbers parts j hole x own run room e. let first = only_first place t u numbers parts run in let kid = only_kid j hole x own (rw first.parts_are at e) in
+  deep = λ place t u numbers parts run deep. let first = only_first place t u numbers parts run in let root =
+      first.root in absurd (grind (arith, deep, root));
+  successor = λ place t u numbers parts run room. let first =
+      only_first place t u numbers parts run in rw (first.root, first.thread, first.parts_are) fits_next;
+  kid = λ place t u numbers parts j hole x own run room e. let first =
+      only_first place t u numbers parts run in let kid = only_kid j hole x own (rw first.parts_are at e) in
       rw (first.root, kid.hole_is, kid.thread, kid.numbers) fits_kid;
-  kid_value = λ place t u numbers parts j hole x own run room e. let first = only_first place t u numbers parts run in let kid = only_kid j hole x own (rw first.parts_are at e) in
+  kid_value = λ place t u numbers parts j hole x own run room e. let first =
+      only_first place t u numbers parts run in let kid = only_kid j hole x own (rw first.parts_are at e) in
       rw (first.root, kid.slot, kid.hole_is) refl;
   lacking = λ place j e. absurd (never place j e);
 }

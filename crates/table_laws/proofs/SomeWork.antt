@@ -31,12 +31,14 @@ look c f zero = inr (λ n j less e. absurd (omega (arith, less)))
 look c f (suc bound) = ⊎_elim (λ found. inl found) (λ rest. at rest (c.returns bound) refl) (look c f bound)
   where
     further : Free c f bound → ((j : ℕ) → c.returns bound ≡ Some (Local f j) → ⊥) → Free c f (suc bound)
-    further rest last n j less e = ⊎_elim (λ (is : n ≡ bound). last j (rw is at e)) (λ other. rest n j (omega (arith, less, other)) e) (same_or n bound)
+    further rest last n j less e = ⊎_elim (λ (is : n ≡ bound). last j (rw is at e))
+        (λ other. rest n j (omega (arith, less, other)) e) (same_or n bound)
 
     at : Free c f bound → (o : Option Return) → c.returns bound ≡ o → Debt c f ⊎ Free c f (suc bound)
     at rest None e = inr (further rest (λ j x. cc))
     at rest (Some Whole) e = inr (further rest (λ j x. cc))
-    at rest (Some (Local g j)) e = ⊎_elim (λ (is : g ≡ f). inl (record { number = bound; slot = j; owes = rw is at e })) (λ other. inr (further rest (λ k x. other (same_frame g j f k (sym e ∙ x))))) (same_or g f)
+    at rest (Some (Local g j)) e = ⊎_elim (λ (is : g ≡ f). inl (record { number = bound; slot = j; owes = rw is at e }))
+        (λ other. inr (further rest (λ k x. other (same_frame g j f k (sym e ∙ x))))) (same_or g f)
 
 -- what an active content has: a record, or a ready frame
 data Has (c : Content) : Type 0 where
@@ -48,9 +50,12 @@ up : (c : Content) → Sound c → (fuel n : ℕ) (r : Return) → c.returns n �
 up c s zero n r e most = let less = s.below n r e in absurd (omega (arith, less, most))
 up c s (suc fuel) n r e most = by (λ m x f more. up c s fuel m x f more) (c.granted n) refl (look c n c.next)
   where
-    by : ((m : ℕ) (x : Return) → c.returns m ≡ Some x → c.next ≤ m + fuel → Has c) → (o : Option Grant) → c.granted n ≡ o → Debt c n ⊎ Free c n c.next → Has c
+    by : ((m : ℕ) (x : Return) → c.returns m ≡ Some x → c.next ≤ m + fuel → Has c) → (o : Option Grant)
+        → c.granted n ≡ o → Debt c n ⊎ Free c n c.next → Has c
     by again (Some k) f found = has_record n k f
-    by again None f (inl debt) = let later = s.later debt.number n debt.slot debt.owes in again debt.number (Local n debt.slot) debt.owes (omega (arith, later, most))
+    by again None f (inl debt) = let later =
+        s.later debt.number n debt.slot debt.owes in again debt.number (Local n debt.slot) debt.owes
+        (omega (arith, later, most))
     by again None f (inr free) = has_ready (record {
       frame = n;
       returns = r;
@@ -63,7 +68,9 @@ active_has : (c : Content) → Sound c → c.outcome ≡ None → Has c
 active_has c s active = let d = s.whole active in up c s c.next d.number Whole d.owes (omega arith)
 
 -- what a live sub of a wanted grant leads to: work, or a record, which is wanted and later
-on : (v : View) → Fills v → Later v → (fuel : ℕ) → ((k : Grant) → Wanted v k → length v.transfers < born v.transfers k + fuel → Working v) → (g : Grant) → Wanted v g → (h : HasHolder v g) → length v.transfers < born v.transfers g + suc fuel → Working v
+on : (v : View) → Fills v → Later v → (fuel : ℕ)
+    → ((k : Grant) → Wanted v k → length v.transfers < born v.transfers k + fuel → Working v) → (g : Grant) → Wanted v g
+    → (h : HasHolder v g) → length v.transfers < born v.transfers g + suc fuel → Working v
 on v f l fuel again g wanted h less = at h.sub.content.outcome refl
   where
     has : Has h.sub.content → Working v
@@ -77,9 +84,15 @@ on v f l fuel again g wanted h less = at h.sub.content.outcome refl
     at None e = has (active_has h.sub.content (f.subs_sound h.name g h.sub (rw h.live.member tt) h.live.holds) e)
 
 -- from a wanted grant to a record of its holder, and on, each later than the one before
-search_work : (v : View) → Fills v → Later v → ((g : Grant) → Wanted v g → HasHolder v g) → (fuel : ℕ) (g : Grant) → Wanted v g → length v.transfers < born v.transfers g + fuel → Working v
-search_work v f l holders zero g wanted less = let most = born_within v.transfers g in absurd (omega (arith, most, less))
-search_work v f l holders (suc fuel) g wanted less = on v f l fuel (λ k w more. search_work v f l holders fuel k w more) g wanted (holders g wanted) less
+search_work : (v : View) → Fills v → Later v → ((g : Grant) → Wanted v g → HasHolder v g) → (fuel : ℕ) (g : Grant)
+    → Wanted v g → length v.transfers < born v.transfers g + fuel → Working v
+search_work v f l holders zero g wanted less = let most =
+    born_within v.transfers g in absurd (omega (arith, most, less))
+search_work v f l holders (suc fuel) g wanted less =
+    on v f l fuel (λ k w more. search_work v f l holders fuel k w more) g wanted (holders g wanted) less
 
-pub work_somewhere : (v : View) (k : Grant) → ReachedInTables v → v.root ≡ Some k → ((g : Grant) → Wanted v g → HasHolder v g) → Working v
-work_somewhere v k reached e holders = search_work v (fills_reached reached) (later_reached reached) holders (suc (length v.transfers)) k (as_root k e) (omega arith)
+pub work_somewhere : (v : View) (k : Grant) → ReachedInTables v → v.root ≡ Some k
+    → ((g : Grant) → Wanted v g → HasHolder v g) → Working v
+work_somewhere v k reached e holders =
+    search_work v (fills_reached reached) (later_reached reached) holders (suc (length v.transfers)) k (as_root k e)
+    (omega arith)

@@ -18,7 +18,8 @@ local_slot f j h l e = cc
 
 -- one slot, or another
 slot_or : (a b f j : ℕ) → ((a ≡ f) × (b ≡ j)) ⊎ (a ≡ f → b ≡ j → ⊥)
-slot_or a b f j = ⊎_elim (λ x. ⊎_elim (λ y. inl (x, y)) (λ y. inr (λ z. y)) (same_or b j)) (λ x. inr (λ y z. x y)) (same_or a f)
+slot_or a b f j = ⊎_elim (λ x. ⊎_elim (λ y. inl (x, y)) (λ y. inr (λ z. y)) (same_or b j)) (λ x. inr (λ y z. x y))
+    (same_or a f)
 
 -- numbers leave no slot empty
 pub given_full : (numbers : List ℤ) (j : ℕ) → given numbers j ≡ Empty → ⊥
@@ -35,7 +36,8 @@ active c s n r e = at c.outcome refl
     at (Some o) is = let none = s.over o n is in cc
 
 -- the end of all
-pub ends_changes : (g : Grant) (c d : Content) (o : Option ℤ) (fill : Option Fill) → Ends c d o fill → Changes g c d fill
+pub ends_changes : (g : Grant) (c d : Content) (o : Option ℤ) (fill : Option Fill) → Ends c d o fill
+    → Changes g c d fill
 ends_changes g c d o fill end = record {
   sound = λ s. record {
     below = λ n r e. let none = end.none n in cc;
@@ -54,13 +56,15 @@ ends_changes g c d o fill end = record {
 }
 
 -- a value comes to a slot
-module _ (g : Grant) (c d : Content) (n f j : ℕ) (x : ℤ) (fill : Option Fill) (change : Filled g c d n f j x fill) (owed : c.returns n ≡ Some (Local f j)) (full : (l : ℕ) → c.slots n l ≡ Empty → ⊥) where
+module _ (g : Grant) (c d : Content) (n f j : ℕ) (x : ℤ) (fill : Option Fill) (change : Filled g c d n f j x fill)
+    (owed : c.returns n ≡ Some (Local f j)) (full : (l : ℕ) → c.slots n l ≡ Empty → ⊥) where
   -- a slot that is empty was empty, and is neither the filled one nor of the number that is gone
   was_empty : (a b : ℕ) → d.slots a b ≡ Empty → (c.slots a b ≡ Empty) × (a ≡ f → b ≡ j → ⊥) × (a ≡ n → ⊥)
   was_empty a b e = ⊎_elim
       (λ (is : a ≡ n). let bare : d.slots a b ≡ Absent = rw is (change.bare b) in absurd (cc))
       (λ other. ⊎_elim
-      (λ both. let now : put_at c.slots f j (Full x) a b ≡ Full x = rw (both.0, both.1) (at_here c.slots f j (Full x)) in let put = change.slots a b other in absurd (cc))
+      (λ both. let now : put_at c.slots f j (Full x) a b ≡ Full x =
+      rw (both.0, both.1) (at_here c.slots f j (Full x)) in let put = change.slots a b other in absurd (cc))
       (λ apart. (sym (at_other c.slots f j a b (Full x) apart) ∙ sym (change.slots a b other) ∙ e, apart, other))
       (slot_or a b f j))
       (same_or a n)
@@ -82,7 +86,8 @@ module _ (g : Grant) (c d : Content) (n f j : ℕ) (x : ℤ) (fill : Option Fill
   fill_sound : Sound c → Sound d
   fill_sound s = record {
     below = λ k r e. rw change.next (s.below k r (filled_kept change k r e).0);
-    debtor = λ a b e. let was = was_empty a b e in debtor_stays (Local a b) (λ is. was.1 (local_frame a b f j is) (local_slot a b f j is)) (s.debtor a b was.0);
+    debtor = λ a b e. let was = was_empty a b e in debtor_stays (Local a b)
+        (λ is. was.1 (local_frame a b f j is) (local_slot a b f j is)) (s.debtor a b was.0);
     one = λ k l r e h. s.one k l r (filled_kept change k r e).0 (filled_kept change l r h).0;
     empty = λ k a b e. let old = filled_kept change k (Local a b) e in
         still_empty a b (s.empty k a b old.0) (λ p q. old.1 (s.one k n (Local f j) (rw (p, q) at old.0) owed));
@@ -93,7 +98,8 @@ module _ (g : Grant) (c d : Content) (n f j : ℕ) (x : ℤ) (fill : Option Fill
         (λ (is : k ≡ n). rw is (change.bare l))
         (λ other. let none = sym (change.kept k other) ∙ e in
         let bare = s.bare k l none in
-        change.slots k l other ∙ at_other c.slots f j k l (Full x) (λ p q. let empty : c.slots k l ≡ Empty = rw (p, q) (awaited s) in cc) ∙ bare)
+        change.slots k l other ∙ at_other c.slots f j k l (Full x) (λ p q. let empty : c.slots k l ≡ Empty =
+        rw (p, q) (awaited s) in cc) ∙ bare)
         (same_or k n);
   }
 
@@ -105,7 +111,11 @@ module _ (g : Grant) (c d : Content) (n f j : ℕ) (x : ℤ) (fill : Option Fill
       (slot_or a b f j))
 
   fill_closed : Sound c → (a b : ℕ) → Closed c a b → Closed d a b
-  fill_closed s a b old = record { old = rw change.next old.old; full = λ r e. let was = filled_kept change a r e in full_stays a b was.1 (old.full r was.0) }
+  fill_closed s a b old = record {
+    old = rw change.next old.old;
+    full = λ r e. let was =
+        filled_kept change a r e in full_stays a b was.1 (old.full r was.0);
+  }
 
   closed_now : Sound c → Closed d f j
   closed_now s = record {
@@ -119,5 +129,6 @@ module _ (g : Grant) (c d : Content) (n f j : ℕ) (x : ℤ) (fill : Option Fill
     closed = fill_closed;
     own = λ y e. let is = some_same (sym change.is ∙ e) in ap (λ (z : Fill). z.grant) (sym is);
     closes = λ s y e. let is = some_same (sym change.is ∙ e) in rw (← is) (closed_now s);
-    fresh = λ s y e. let is = some_same (sym change.is ∙ e) in rw (← is) (λ a. let frame = there c s f j (awaited s) in rw (awaited s) at (a.full frame.returns frame.is));
+    fresh = λ s y e. let is = some_same (sym change.is ∙ e) in rw (← is) (λ a. let frame =
+        there c s f j (awaited s) in rw (awaited s) at (a.full frame.returns frame.is));
   }

@@ -21,11 +21,14 @@ awaits_kid : (parts : List Part) (j : ℕ) → begun parts j ≡ Empty → Await
 awaits_kid [] j e = cc
 awaits_kid (Given v ∷ parts) zero e = cc
 awaits_kid (Kid hole t numbers ∷ parts) zero e = record { hole = hole; thread = t; numbers = numbers; part = refl }
-awaits_kid (Given v ∷ parts) (suc j) e = let rest = awaits_kid parts j e in record { hole = rest.hole; thread = rest.thread; numbers = rest.numbers; part = rest.part }
-awaits_kid (Kid hole t numbers ∷ parts) (suc j) e = let rest = awaits_kid parts j e in record { hole = rest.hole; thread = rest.thread; numbers = rest.numbers; part = rest.part }
+awaits_kid (Given v ∷ parts) (suc j) e = let rest =
+    awaits_kid parts j e in record { hole = rest.hole; thread = rest.thread; numbers = rest.numbers; part = rest.part }
+awaits_kid (Kid hole t numbers ∷ parts) (suc j) e = let rest =
+    awaits_kid parts j e in record { hole = rest.hole; thread = rest.thread; numbers = rest.numbers; part = rest.part }
 
 -- and the slot that awaits one is empty
-kid_empty : (parts : List Part) (j hole t : ℕ) (numbers : List ℤ) → slice_get parts j ≡ Some (Kid hole t numbers) → begun parts j ≡ Empty
+kid_empty : (parts : List Part) (j hole t : ℕ) (numbers : List ℤ) → slice_get parts j ≡ Some (Kid hole t numbers)
+    → begun parts j ≡ Empty
 kid_empty [] j hole t numbers e = cc
 kid_empty (Given v ∷ parts) zero hole t numbers e = cc
 kid_empty (Kid h u own ∷ parts) zero hole t numbers e = refl
@@ -33,13 +36,21 @@ kid_empty (Given v ∷ parts) (suc j) hole t numbers e = kid_empty parts j hole 
 kid_empty (Kid h u own ∷ parts) (suc j) hole t numbers e = kid_empty parts j hole t numbers e
 
 -- frame n joins
-module _ (g : Grant) (c d : Content) (n u : ℕ) (r : Return) (parts : List Part) (change : Joined c d n u r parts) (owed : c.returns n ≡ Some r) (full : (l : ℕ) → c.slots n l ≡ Empty → ⊥) where
+module _ (g : Grant) (c d : Content) (n u : ℕ) (r : Return) (parts : List Part) (change : Joined c d n u r parts)
+    (owed : c.returns n ≡ Some r) (full : (l : ℕ) → c.slots n l ≡ Empty → ⊥) where
   -- the debtor of what an old frame awaits, or of the whole: it stays, or the successor stands in
   -- its place
   debtor_next : Sound c → (s : Return) → Debtor c.returns s → Debtor d.returns s
   debtor_next sound s a = ⊎_elim
-      (λ (is : a.number ≡ n). record { number = c.next; owes = let own : c.returns n ≡ Some s = rw is at a.owes in change.successor ∙ sym owed ∙ own })
-      (λ other. record { number = a.number; owes = (change.kept a.number (sound.below a.number s a.owes) other).0 ∙ a.owes })
+      (λ (is : a.number ≡ n). record {
+        number = c.next;
+        owes = let own : c.returns n ≡ Some s =
+            rw is at a.owes in change.successor ∙ sym owed ∙ own;
+      })
+      (λ other. record {
+        number = a.number;
+        owes = (change.kept a.number (sound.below a.number s a.owes) other).0 ∙ a.owes;
+      })
       (same_or a.number n)
 
   -- the slots of an old frame that awaits something are as they were
@@ -48,8 +59,10 @@ module _ (g : Grant) (c d : Content) (n u : ℕ) (r : Return) (parts : List Part
       (change.kept a (s.below a frame.returns frame.is) (λ is. full b (rw is at e))).1.slots b ∙ e
 
   -- who awaits something has a debtor
-  debtor_of : Sound c → (a b : ℕ) (s : Return) → d.slots a b ≡ Empty → Made c d n r parts change.number a s → Debtor d.returns (Local a b)
-  debtor_of sound a b s e (stays less other old) = debtor_next sound (Local a b) (sound.debtor a b (sym ((change.kept a less other).1.slots b) ∙ e))
+  debtor_of : Sound c → (a b : ℕ) (s : Return) → d.slots a b ≡ Empty → Made c d n r parts change.number a s
+      → Debtor d.returns (Local a b)
+  debtor_of sound a b s e (stays less other old) =
+      debtor_next sound (Local a b) (sound.debtor a b (sym ((change.kept a less other).1.slots b) ∙ e))
   debtor_of sound a b s e (succeeds is to) =
       let kid = awaits_kid parts b (sym (change.slots b) ∙ rw is at e) in
       let at = change.kid b kid.hole kid.thread kid.numbers kid.part in
@@ -67,17 +80,21 @@ module _ (g : Grant) (c d : Content) (n u : ℕ) (r : Return) (parts : List Part
 
   -- a kid's return is no old one
   not_old : Sound c → (k j : ℕ) → c.returns k ≡ Some (Local c.next j) → ⊥
-  not_old sound k j e = let less = sound.below k (Local c.next j) e in let back = sound.later k c.next j e in omega (arith, less, back)
+  not_old sound k j e = let less = sound.below k (Local c.next j) e in let back =
+      sound.later k c.next j e in omega (arith, less, back)
 
-  one_of : Sound c → (k l : ℕ) (s : Return) → Made c d n r parts change.number k s → Made c d n r parts change.number l s → k ≡ l
+  one_of : Sound c → (k l : ℕ) (s : Return) → Made c d n r parts change.number k s
+      → Made c d n r parts change.number l s → k ≡ l
   one_of sound k l s (stays less other old) (stays more too also) = sound.one k l s old also
   one_of sound k l s (stays less other old) (succeeds is to) = absurd (other (sound.one k n s old (rw to owed)))
   one_of sound k l s (stays less other old) (begins j hole t own part is to) = absurd (not_old sound k j (rw to at old))
   one_of sound k l s (succeeds is to) (stays less other old) = absurd (other (sound.one l n s old (rw to owed)))
   one_of sound k l s (succeeds is to) (succeeds also too) = is ∙ sym also
-  one_of sound k l s (succeeds is to) (begins j hole t own part also too) = absurd (not_old sound n j (owed ∙ rw (← to, ← too) refl))
+  one_of sound k l s (succeeds is to) (begins j hole t own part also too) =
+      absurd (not_old sound n j (owed ∙ rw (← to, ← too) refl))
   one_of sound k l s (begins j hole t own part is to) (stays less other old) = absurd (not_old sound l j (rw to at old))
-  one_of sound k l s (begins j hole t own part is to) (succeeds also too) = absurd (not_old sound n j (owed ∙ rw (← too, ← to) refl))
+  one_of sound k l s (begins j hole t own part is to) (succeeds also too) =
+      absurd (not_old sound n j (owed ∙ rw (← too, ← to) refl))
   one_of sound k l s (begins j hole t own part is to) (begins i hole2 t2 own2 part2 also too) =
       let slot : j ≡ i = local_slot c.next j c.next i (sym to ∙ too) in
       let last : l ≡ change.number j = rw slot also in
@@ -94,7 +111,8 @@ module _ (g : Grant) (c d : Content) (n u : ℕ) (r : Return) (parts : List Part
   later_of sound k a b (succeeds is to) =
       let old : c.returns n ≡ Some (Local a b) = rw to owed in
       let back = sound.later n a b old in let less = sound.below n (Local a b) old in omega (arith, back, less, is)
-  later_of sound k a b (begins j hole t own part is to) = let above = (change.kid j hole t own part).above in rw (is, local_frame a b c.next j to) above
+  later_of sound k a b (begins j hole t own part is to) = let above =
+      (change.kid j hole t own part).above in rw (is, local_frame a b c.next j to) above
 
   below_of : Sound c → (k : ℕ) (s : Return) → Made c d n r parts change.number k s → k < d.next
   below_of sound k s (stays less other old) = let next = change.next in omega (arith, less, next)
@@ -116,12 +134,17 @@ module _ (g : Grant) (c d : Content) (n u : ℕ) (r : Return) (parts : List Part
   closed_of : (a b : ℕ) (q : Return) → Closed c a b → Made c d n r parts change.number a q → IsFull (d.slots a b)
   closed_of a b q old (stays less other was) = rw ((change.kept a less other).1.slots b) (old.full q was)
   closed_of a b q old (succeeds is to) = let less = old.old in absurd (omega (arith, less, is))
-  closed_of a b q old (begins j hole t own part is to) = let less = old.old in let above = (change.kid j hole t own part).above in absurd (omega (arith, less, above, is))
+  closed_of a b q old (begins j hole t own part is to) = let less = old.old in let above =
+      (change.kid j hole t own part).above in absurd (omega (arith, less, above, is))
 
   pub join_changes : Changes g c d None
   join_changes = record {
     sound = join_sound;
-    closed = λ s a b old. record { old = let less = old.old in let next = change.next in omega (arith, less, next); full = λ q e. closed_of a b q old (made change a q e) };
+    closed = λ s a b old. record {
+      old = let less = old.old in let next =
+          change.next in omega (arith, less, next);
+      full = λ q e. closed_of a b q old (made change a q e);
+    };
     own = λ x e. cc;
     closes = λ s x e. cc;
     fresh = λ s x e. cc;
@@ -140,7 +163,10 @@ stay_changes g c d change = record {
     over = λ o n e. change.returns n ∙ s.over o n (sym change.outcome ∙ e);
     bare = λ n j e. (change.work n).slots j ∙ s.bare n j (sym (change.returns n) ∙ e);
   };
-  closed = λ s f j a. record { old = rw change.next a.old; full = λ r e. rw ((change.work f).slots j) (a.full r (was f r e)) };
+  closed = λ s f j a. record {
+    old = rw change.next a.old;
+    full = λ r e. rw ((change.work f).slots j) (a.full r (was f r e));
+  };
   own = λ x e. cc;
   closes = λ s x e. cc;
   fresh = λ s x e. cc;
@@ -153,25 +179,33 @@ stay_changes g c d change = record {
     now r a = record { number = a.number; owes = change.returns a.number ∙ a.owes }
 
 -- a value comes to where it is awaited
-arrive_changes : (g : Grant) (c d : Content) (n : ℕ) (r : Return) (x : ℤ) (fill : Option Fill) → Arrives g c d n r x fill → c.returns n ≡ Some r → ((l : ℕ) → c.slots n l ≡ Empty → ⊥) → Changes g c d fill
+arrive_changes : (g : Grant) (c d : Content) (n : ℕ) (r : Return) (x : ℤ) (fill : Option Fill)
+    → Arrives g c d n r x fill → c.returns n ≡ Some r → ((l : ℕ) → c.slots n l ≡ Empty → ⊥) → Changes g c d fill
 arrive_changes g c d n Whole x fill end e full = ends_changes g c d (Some x) fill end
 arrive_changes g c d n (Local f j) x fill change e full = fill_changes g c d n f j x fill change e full
 
 -- who holds numbers has no empty slot
-holds_full : (c : Content) (n : ℕ) (numbers : List ℤ) → ((j : ℕ) → c.slots n j ≡ given numbers j) → (l : ℕ) → c.slots n l ≡ Empty → ⊥
+holds_full : (c : Content) (n : ℕ) (numbers : List ℤ) → ((j : ℕ) → c.slots n j ≡ given numbers j) → (l : ℕ)
+    → c.slots n l ≡ Empty → ⊥
 holds_full c n numbers holds l e = given_full numbers l (sym (holds l) ∙ e)
 
 -- whatever the cause
-pub cause_changes : (m : Meaning) (v : View) (i : ℕ) (g : Grant) (c d : Content) (fill : Option Fill) → Cause m v i g c d fill → Changes g c d fill
-cause_changes m v i g c d fill (sends n x from change) = arrive_changes g c d n from.frame.returns x fill change from.frame.there (holds_full c n from.numbers from.holds)
-cause_changes m v i g c d fill (joins n u parts xs turn stand room change none) = rw none (join_changes g c d n u turn.frame.returns xs change turn.frame.there (holds_full c n turn.numbers turn.holds))
+pub cause_changes : (m : Meaning) (v : View) (i : ℕ) (g : Grant) (c d : Content) (fill : Option Fill)
+    → Cause m v i g c d fill → Changes g c d fill
+cause_changes m v i g c d fill (sends n x from change) =
+    arrive_changes g c d n from.frame.returns x fill change from.frame.there (holds_full c n from.numbers from.holds)
+cause_changes m v i g c d fill (joins n u parts xs turn stand room change none) =
+    rw none (join_changes g c d n u turn.frame.returns xs change turn.frame.there
+    (holds_full c n turn.numbers turn.holds))
 cause_changes m v i g c d fill (is_deep n u parts turn room change) = ends_changes g c d None fill change
-cause_changes m v i g c d fill (hears n k r x numbers granted e holds told change) = arrive_changes g c d n r x fill change e (holds_full c n numbers holds)
+cause_changes m v i g c d fill (hears n k r x numbers granted e holds told change) =
+    arrive_changes g c d n r x fill change e (holds_full c n numbers holds)
 cause_changes m v i g c d fill (hears_deep n k r granted e told change) = ends_changes g c d None fill change
 cause_changes m v i g c d fill (redoes change none) = rw none (stay_changes g c d change)
 
 -- a record that is there was there, and keeps its task
-pub cause_records : (m : Meaning) (v : View) (i : ℕ) (g : Grant) (c d : Content) (fill : Option Fill) → Cause m v i g c d fill → (o : ℕ) (k : Grant) → d.granted o ≡ Some k → (c.granted o ≡ Some k) × SameWork c d o
+pub cause_records : (m : Meaning) (v : View) (i : ℕ) (g : Grant) (c d : Content) (fill : Option Fill)
+    → Cause m v i g c d fill → (o : ℕ) (k : Grant) → d.granted o ≡ Some k → (c.granted o ≡ Some k) × SameWork c d o
 cause_records m v i g c d fill cause o k e = by cause
   where
     ended : (x : Option ℤ) → Ends c d x fill → (c.granted o ≡ Some k) × SameWork c d o
@@ -181,15 +215,22 @@ cause_records m v i g c d fill cause o k e = by cause
     filled n f j x change = ⊎_elim
         (λ (is : o ≡ n). let none : d.granted o ≡ None = rw is change.ungranted in absurd (cc))
         (λ other. let old = sym (change.granted o other) ∙ e in
-        let apart : o ≡ f → ⊥ = λ is. let frame : c.granted o ≡ None = rw is change.frame in absurd (cc) in
-        (old, record { place = change.places o; thread = change.threads o; slots = λ l. change.slots o l other ∙ at_other c.slots f j o l (Full x) (λ is too. apart is) }))
+        let apart : o ≡ f → ⊥ = λ is. let frame : c.granted o ≡ None = rw is change.frame in absurd (cc) in (
+          old,
+          record {
+            place = change.places o;
+            thread = change.threads o;
+            slots = λ l. change.slots o l other ∙ at_other c.slots f j o l (Full x) (λ is too. apart is);
+          },
+        ))
         (same_or o n)
 
     arrived : (n : ℕ) (r : Return) (x : ℤ) → Arrives g c d n r x fill → (c.granted o ≡ Some k) × SameWork c d o
     arrived n Whole x end = ended (Some x) end
     arrived n (Local f j) x change = filled n f j x change
 
-    joined : (n u : ℕ) (r : Return) (parts : List Part) → Joined c d n u r parts → (c.granted o ≡ Some k) × SameWork c d o
+    joined : (n u : ℕ) (r : Return) (parts : List Part) → Joined c d n u r parts
+        → (c.granted o ≡ Some k) × SameWork c d o
     joined n u r parts change = ⊎_elim
         (λ less. ⊎_elim
         (λ (is : o ≡ n). let none = change.ungranted o (inr is) in absurd (cc))

@@ -16,25 +16,33 @@ use Rattle.task_syntax.proofs.PrintFine.{tokens_fine, threads_fine}
 
 below_by_test : (xs : List ℕ) → list_all is_ascii xs ≡ true → AllByRecursion (λ b. b < 128) xs
 below_by_test [] h = tt
-below_by_test (x ∷ xs) h = let parts = and_parts (is_ascii x) (list_all is_ascii xs) h in (ltb-true x 128 parts.0, below_by_test xs parts.1)
+below_by_test (x ∷ xs) h = let parts =
+    and_parts (is_ascii x) (list_all is_ascii xs) h in (ltb-true x 128 parts.0, below_by_test xs parts.1)
 
 pub printed_reads_back : (p : Program) → length (printed p) ≤ 65536 → ReadsBack p (printed p)
 printed_reads_back p short text r =
     let each = threads_fine r.program.threads (tokens_fine 0 0 text) in
     let again = lines_tokens p.threads 0 each in
-    let read = threads_again r.program.threads (tokens 0 0 (printed p)) (record { kind = kind.End; offset = again.0 } ∷ []) again.1 in
+    let read = threads_again r.program.threads (tokens 0 0 (printed p))
+    (record { kind = kind.End; offset = again.0 } ∷ []) again.1 in
     let q : Program = record { threads = read.tree; length = again.0 } in (
       q,
       record {
         short = short;
         ascii = All-from_recursion (λ b. b < 128) (printed p) (below_by_test (printed p) (lines_ascii p.threads each));
-        program = record { ends = record { kind = kind.End; offset = again.0 } ∷ []; threads = read.read; end = record { front = refl } };
+        program = record {
+          ends = record { kind = kind.End; offset = again.0 } ∷ [];
+          threads = read.read;
+          end = record { front = refl };
+        };
       },
       read.same,
     )
 
 -- a text that was finished, behind nothing else than what was printed
-pub ok_reads_back : {V E : Type 0} (items : V → List ℕ) (a b : Text) (r : Result V E) (p : Program) → a ≡ Ok [] → Adds a b (printed p) → IfOk r (λ v. b ≡ Ok (items v)) → IfOk r (λ v. length (items v) ≤ 65536) → IfOk r (λ v. ReadsBack p (items v))
+pub ok_reads_back : {V E : Type 0} (items : V → List ℕ) (a b : Text) (r : Result V E) (p : Program) → a ≡ Ok []
+    → Adds a b (printed p) → IfOk r (λ v. b ≡ Ok (items v)) → IfOk r (λ v. length (items v) ≤ 65536)
+    → IfOk r (λ v. ReadsBack p (items v))
 ok_reads_back items a b (Err e) p first wrote text short = tt
 ok_reads_back items a b (Ok v) p first wrote text short =
     let is : items v ≡ printed p = rw (first, text) at wrote in

@@ -13,7 +13,8 @@ use Rattle.task_syntax.specs.Parts.{Joins, joins, IsEnd, branches, sends, contin
 use Rattle.task_syntax.specs.Refusals.{IsInfix}
 
 -- one more item behind others
-pub many_end : {A : Type 0} {R : List Token → List Token → A → Type 0} {from m to : List Token} {xs : List A} {x : A} → Many R from m xs → R m to x → Many R from to (xs ++ x ∷ [])
+pub many_end : {A : Type 0} {R : List Token → List Token → A → Type 0} {from m to : List Token} {xs : List A} {x : A}
+    → Many R from m xs → R m to x → Many R from to (xs ++ x ∷ [])
 many_end none r = more r none
 many_end (more q qs) r = more q (many_end qs r)
 
@@ -22,18 +23,24 @@ pub begins_at : {k : _} {at : ℕ} {from to : List Token} → BeginsAt k at from
 begins_at b = record { at = _; front = b.front }
 
 -- what is read where tighter operators are wanted is read where looser ones may be, too
-pub looser : {parens low high : ℕ} {from to : List Token} {e : Expr} → low ≤ high → ReadsExpr parens high from to e → ReadsExpr parens low from to e
+pub looser : {parens low high : ℕ} {from to : List Token} {e : Expr} → low ≤ high → ReadsExpr parens high from to e
+    → ReadsExpr parens low from to e
 looser h (number b) = number b
 looser h (variable x) = variable x
 looser h (grouped p o r c) = grouped p o r c
 looser h (infixed l a op b low) = infixed (omega (arith, h, l)) a op b low
 
 -- an operator between what was read and a tighter operand
-pub infix_reads : {parens loosest tightest at : ℕ} {from m n to : List Token} {op : Operator} {a b e : Expr} → ReadsExpr parens tightest from m a → IsInfix loosest tightest op at m n → ReadsExpr parens (level_of op + 1) n to b → Joins op a b e → ReadsExpr parens (level_of op) from to e
+pub infix_reads : {parens loosest tightest at : ℕ} {from m n to : List Token} {op : Operator} {a b e : Expr}
+    → ReadsExpr parens tightest from m a → IsInfix loosest tightest op at m n
+    → ReadsExpr parens (level_of op + 1) n to b → Joins op a b e → ReadsExpr parens (level_of op) from to e
 infix_reads left op right (joins low) = infixed (omega arith) (looser op.loose left) (begins_at op.begins) right low
 
 -- a block is its braces, its `let`s and its end
-pub block_reads : {deep inside close : ℕ} {from a b c to : List Token} {ls : List Let} {end : End} → deep ≡ inside + 1 → IsMark sign.OpenBrace from a → Many IsLet a b ls → IsEnd inside b c end → BeginsAt (kind.Mark sign.CloseBrace) close c to → IsBlock deep from to (record { lets = ls; end = end; close = close })
+pub block_reads : {deep inside close : ℕ} {from a b c to : List Token} {ls : List Let} {end : End} → deep ≡ inside + 1
+    → IsMark sign.OpenBrace from a → Many IsLet a b ls → IsEnd inside b c end
+    → BeginsAt (kind.Mark sign.CloseBrace) close c to
+    → IsBlock deep from to (record { lets = ls; end = end; close = close })
 block_reads d o lets (branches i v b e f) shut = ends_in_if d o lets i v b e f shut
 block_reads d o lets (sends s) shut = ends_in_send (omega (arith, d)) o lets s shut
 block_reads d o lets (continues n us) shut = ends_in_next (omega (arith, d)) o lets n us shut

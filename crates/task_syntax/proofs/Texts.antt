@@ -23,7 +23,8 @@ not_before bs i j h k all high =
     let low : get_or (take j bs) i 0 < 128 = All-get_or (λ (b : ℕ). b < 128) (take j bs) i 0 inside all in
     omega (arith, same)
 
-same_place : (bs : List ℕ) (i j : ℕ) → i < length bs → j < length bs → All (λ b. b < 128) (take i bs) → All (λ b. b < 128) (take j bs) → 128 ≤ get_or bs i 0 → 128 ≤ get_or bs j 0 → i ≡ j
+same_place : (bs : List ℕ) (i j : ℕ) → i < length bs → j < length bs → All (λ b. b < 128) (take i bs)
+    → All (λ b. b < 128) (take j bs) → 128 ≤ get_or bs i 0 → 128 ≤ get_or bs j 0 → i ≡ j
 same_place bs i j hi hj ai aj bi bj =
     elim (cases_lt i j) [
       | inl h ↦ absurd (not_before bs i j h hj aj bi)

@@ -11,7 +11,8 @@ none_here names all left rest line front none is =
     sym (ap (λ (ls : List (List ℕ)). names ++ names_of_lines ls) front
     ∙ ap (λ (o : Option (List ℕ)). names ++ with_name o (names_of_lines rest)) none) ∙ is
 
-pub one_here : (names more all left rest : List (List ℕ)) (line name : List ℕ) → left ≡ line ∷ rest → sent_in line ≡ Some name
+pub one_here : (names more all left rest : List (List ℕ)) (line name : List ℕ) → left ≡ line ∷ rest
+    → sent_in line ≡ Some name
     → more ≡ names ++ name ∷ [] → names ++ names_of_lines left ≡ all → more ++ names_of_lines rest ≡ all
 unfolding with_name
 one_here names more all left rest line name front some new is =

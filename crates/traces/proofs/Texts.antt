@@ -30,16 +30,19 @@ graphic_inner b h = grind (arith, nat_tests)
 plain_inner : (w : List ℕ) → plain w ≡ true → one_line w ≡ true
 plain_inner [] h = refl
 plain_inner (b ∷ bs) h =
-    both (inner b) (one_line bs) (graphic_inner b (left_of (nat_lt 32 b) (nat_lt b 128) (left_of (graphic b) (plain bs) h)))
+    both (inner b) (one_line bs) (graphic_inner b
+    (left_of (nat_lt 32 b) (nat_lt b 128) (left_of (graphic b) (plain bs) h)))
     (plain_inner bs (right_of (graphic b) (plain bs) h))
 
 all_inner : (ws : List (List ℕ)) → list_all plain ws ≡ true → list_all one_line ws ≡ true
 all_inner [] h = refl
-all_inner (w ∷ ws) h = both (one_line w) (list_all one_line ws) (plain_inner w (left_of (plain w) (list_all plain ws) h)) (all_inner ws (right_of (plain w) (list_all plain ws) h))
+all_inner (w ∷ ws) h = both (one_line w) (list_all one_line ws)
+    (plain_inner w (left_of (plain w) (list_all plain ws) h)) (all_inner ws (right_of (plain w) (list_all plain ws) h))
 
 -- the comment of a name
 
-words_plain : (labels : List (List ℕ)) (name : List ℕ) (a n : ℕ) → IsRightName labels name a n → list_all plain (sent_words name (label_at labels a) n) ≡ true
+words_plain : (labels : List (List ℕ)) (name : List ℕ) (a n : ℕ) → IsRightName labels name a n
+    → list_all plain (sent_words name (label_at labels a) n) ≡ true
 words_plain labels name a n right =
     let number = both (plain (decimal n)) true (plain_number n right.fits) refl in
     let label = both (plain (label_at labels a)) (plain (decimal n) && true) right.plain_label number in
@@ -50,25 +53,30 @@ skipped_by line ascii skip =
     ap (λ (v : Bool). cond v (cond (is_skipped line) Skipped (by_event (event_of 64 (words line)))) Refused) ascii
     ∙ ap (λ (v : Bool). cond v Skipped (by_event (event_of 64 (words line)))) skip
 
-comment_skipped : (labels : List (List ℕ)) (name : List ℕ) (a n : ℕ) → IsRightName labels name a n → line_of 64 (spaced (sent_words name (label_at labels a) n)) ≡ Skipped
+comment_skipped : (labels : List (List ℕ)) (name : List ℕ) (a n : ℕ) → IsRightName labels name a n
+    → line_of 64 (spaced (sent_words name (label_at labels a) n)) ≡ Skipped
 comment_skipped labels name a n right =
     skipped_by (spaced (sent_words name (label_at labels a) n))
     (spaced_ascii (codes "#") (codes "sent" ∷ name ∷ label_at labels a ∷ decimal n ∷ []) (words_plain labels name a n right)) refl
 
-comment_named : (labels : List (List ℕ)) (name : List ℕ) (a n : ℕ) → IsRightName labels name a n → sent_in (spaced (sent_words name (label_at labels a) n)) ≡ Some name
+comment_named : (labels : List (List ℕ)) (name : List ℕ) (a n : ℕ) → IsRightName labels name a n
+    → sent_in (spaced (sent_words name (label_at labels a) n)) ≡ Some name
 unfolding name_behind
 comment_named labels name a n right =
     ap (name_behind (codes "sent")) (spaced_words (codes "#") (codes "sent" ∷ name ∷ label_at labels a ∷ decimal n ∷ []) (words_plain labels name a n right)) ∙ right.is_name
 
 -- the line of an event names no packet, since it doesn't begin with a number sign
 
-other_first : (verb p : List ℕ) (c : ℕ) (ps : List (List ℕ)) → nat_eq c 35 ≡ false → name_behind verb ((c ∷ p) ∷ ps) ≡ None
+other_first : (verb p : List ℕ) (c : ℕ) (ps : List (List ℕ)) → nat_eq c 35 ≡ false
+    → name_behind verb ((c ∷ p) ∷ ps) ≡ None
 unfolding name_behind
 other_first verb p c [] h = refl
 other_first verb p c (b ∷ []) h = refl
-other_first verb p c (b ∷ name ∷ ws) h = ap (λ (v : Bool). cond ((v && bytes_eq p []) && bytes_eq b verb) (named name) None) h
+other_first verb p c (b ∷ name ∷ ws) h =
+    ap (λ (v : Bool). cond ((v && bytes_eq p []) && bytes_eq b verb) (named name) None) h
 
-other_onto : (verb : List ℕ) (c : ℕ) (ps : List (List ℕ)) → nat_eq c 35 ≡ false → name_behind verb (onto_first c ps) ≡ None
+other_onto : (verb : List ℕ) (c : ℕ) (ps : List (List ℕ)) → nat_eq c 35 ≡ false
+    → name_behind verb (onto_first c ps) ≡ None
 other_onto verb c [] h = other_first verb [] c [] h
 other_onto verb c (p ∷ ps) h = other_first verb p c ps h
 
@@ -94,12 +102,15 @@ event_unnamed (Cut c) = letter 99 (drop 1 (written (Cut c))) refl refl
 -- the events of the lines, of which the first is the n-th
 
 comment_lines : (labels : List (List ℕ)) (name : List ℕ) (a n : ℕ) (rest : List ℕ) → IsRightName labels name a n
-    → lines (ended (spaced (sent_words name (label_at labels a) n)) ++ rest) ≡ spaced (sent_words name (label_at labels a) n) ∷ lines rest
+    → lines (ended (spaced (sent_words name (label_at labels a) n)) ++ rest)
+    ≡ spaced (sent_words name (label_at labels a) n) ∷ lines rest
 comment_lines labels name a n rest right =
     ended_line (spaced (sent_words name (label_at labels a) n)) rest
-    (one_spaced (sent_words name (label_at labels a) n) (all_inner (sent_words name (label_at labels a) n) (words_plain labels name a n right)))
+    (one_spaced (sent_words name (label_at labels a) n)
+    (all_inner (sent_words name (label_at labels a) n) (words_plain labels name a n right)))
 
-lines_read : (labels : List (List ℕ)) (k : ℕ) (es : List Entry) → AreRight labels es → events_from 64 k (lines (lines_of labels es)) ≡ Ok (events_of es)
+lines_read : (labels : List (List ℕ)) (k : ℕ) (es : List Entry) → AreRight labels es
+    → events_from 64 k (lines (lines_of labels es)) ≡ Ok (events_of es)
 unfolding line_of_entry
 lines_read labels k [] right = refl
 lines_read labels k (entry.Event e ∷ es) right =
@@ -108,11 +119,13 @@ lines_read labels k (entry.Event e ∷ es) right =
     ∙ ap (with_event e) (lines_read labels (k + 1) es right.1)
 lines_read labels k (entry.Sent name a n ∷ es) right =
     ap (events_from 64 k) (comment_lines labels name a n (lines_of labels es) right.0)
-    ∙ ap (λ (l : Line). by_line k l (events_from 64 (k + 1) (lines (lines_of labels es)))) (comment_skipped labels name a n right.0)
+    ∙ ap (λ (l : Line). by_line k l (events_from 64 (k + 1) (lines (lines_of labels es))))
+    (comment_skipped labels name a n right.0)
     ∙ lines_read labels (k + 1) es right.1
 
 -- and their names
-lines_named : (labels : List (List ℕ)) (es : List Entry) → AreRight labels es → names_of_lines (lines (lines_of labels es)) ≡ sent_of es
+lines_named : (labels : List (List ℕ)) (es : List Entry) → AreRight labels es
+    → names_of_lines (lines (lines_of labels es)) ≡ sent_of es
 unfolding line_of_entry with_name name_behind
 lines_named labels [] right = refl
 lines_named labels (entry.Event e ∷ es) right =
@@ -121,34 +134,43 @@ lines_named labels (entry.Event e ∷ es) right =
     ∙ lines_named labels es right.1
 lines_named labels (entry.Sent name a n ∷ es) right =
     ap names_of_lines (comment_lines labels name a n (lines_of labels es) right.0)
-    ∙ ap (λ (o : Option (List ℕ)). with_name o (names_of_lines (lines (lines_of labels es)))) (comment_named labels name a n right.0)
+    ∙ ap (λ (o : Option (List ℕ)). with_name o (names_of_lines (lines (lines_of labels es))))
+    (comment_named labels name a n right.0)
     ∙ ap (λ (ns : List (List ℕ)). name ∷ ns) (lines_named labels es right.1)
 
 -- so it is of a text that is this one
-pub events_are_read : (labels : List (List ℕ)) (text : List ℕ) (es : List Entry) → text ≡ text_of labels es → AreRight labels es → script text ≡ Ok (events_of es)
+pub events_are_read : (labels : List (List ℕ)) (text : List ℕ) (es : List Entry) → text ≡ text_of labels es
+    → AreRight labels es → script text ≡ Ok (events_of es)
 events_are_read labels text es is right =
     ap script is
     ∙ (ap (λ (ls : List (List ℕ)). events_from (places ls) 1 ls) (ended_line (codes "# nodes 64") (lines_of labels es) refl) ∙ lines_read labels 2 es right)
 
-pub names_are_read : (labels : List (List ℕ)) (text : List ℕ) (es : List Entry) → text ≡ text_of labels es → AreRight labels es → names_in text ≡ sent_of es
+pub names_are_read : (labels : List (List ℕ)) (text : List ℕ) (es : List Entry) → text ≡ text_of labels es
+    → AreRight labels es → names_in text ≡ sent_of es
 unfolding with_name name_behind
 names_are_read labels text es is right =
     ap names_in is ∙ (ap names_of_lines (ended_line (codes "# nodes 64") (lines_of labels es) refl) ∙ lines_named labels es right)
 
 -- a text grows by the line of the next entry, and is whole when none is left
 
-pub text_goes_on : (labels : List (List ℕ)) (text more whole : List ℕ) (left rest : List Entry) (e : Entry) → left ≡ e ∷ rest → text ++ lines_of labels left ≡ whole
+pub text_goes_on : (labels : List (List ℕ)) (text more whole : List ℕ) (left rest : List Entry) (e : Entry)
+    → left ≡ e ∷ rest → text ++ lines_of labels left ≡ whole
     → more ≡ text ++ line_of_entry labels e → more ++ lines_of labels rest ≡ whole
 text_goes_on labels text more whole left rest e front is one =
     ap (λ (t : List ℕ). t ++ lines_of labels rest) one
-    ∙ (append_assoc text (line_of_entry labels e) (lines_of labels rest) ∙ (sym (ap (λ (es : List Entry). text ++ lines_of labels es) front) ∙ is))
+    ∙ (append_assoc text (line_of_entry labels e) (lines_of labels rest)
+    ∙ (sym (ap (λ (es : List Entry). text ++ lines_of labels es) front) ∙ is))
 
-pub text_ends : (labels : List (List ℕ)) (text whole : List ℕ) (left : List Entry) → left ≡ [] → text ++ lines_of labels left ≡ whole → text ≡ whole
-text_ends labels text whole left none is = sym (append-nil text) ∙ (sym (ap (λ (es : List Entry). text ++ lines_of labels es) none) ∙ is)
+pub text_ends : (labels : List (List ℕ)) (text whole : List ℕ) (left : List Entry) → left ≡ []
+    → text ++ lines_of labels left ≡ whole → text ≡ whole
+text_ends labels text whole left none is =
+    sym (append-nil text) ∙ (sym (ap (λ (es : List Entry). text ++ lines_of labels es) none) ∙ is)
 
-pub right_goes_on : (labels : List (List ℕ)) (left rest : List Entry) (e : Entry) (All : Type 0) → left ≡ e ∷ rest → (AreRight labels left → All)
+pub right_goes_on : (labels : List (List ℕ)) (left rest : List Entry) (e : Entry) (All : Type 0) → left ≡ e ∷ rest
+    → (AreRight labels left → All)
     → IsRightEntry labels e → AreRight labels rest → All
 right_goes_on labels left rest e All front is one others = is (rw front (one, others))
 
-pub right_ends : (labels : List (List ℕ)) (entries left : List Entry) → left ≡ [] → (AreRight labels left → AreRight labels entries) → AreRight labels entries
+pub right_ends : (labels : List (List ℕ)) (entries left : List Entry) → left ≡ []
+    → (AreRight labels left → AreRight labels entries) → AreRight labels entries
 right_ends labels entries left none is = is (rw none tt)

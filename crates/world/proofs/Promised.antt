@@ -38,7 +38,8 @@ module _ (job : JobOf) where
   }
 
   -- an event that finds no memory
-  out_of_memory_safe : (e : Event) (w : WorldOf) (o : StepResult) → SafeWorld job w → LacksMemory job e w o → SafeWorld job o.world
+  out_of_memory_safe : (e : Event) (w : WorldOf) (o : StepResult) → SafeWorld job w → LacksMemory job e w o
+      → SafeWorld job o.world
   out_of_memory_safe (Start a word) w o s (can, is) = rw is s
   out_of_memory_safe (AtNode a e) w o s (there, is) = rw is s
   out_of_memory_safe (AtHouse e) w o s (applies, is) = rw is (stopped_safe w _ s)
@@ -46,7 +47,8 @@ module _ (job : JobOf) where
   out_of_memory_safe (Crash a) w o s never = absurd never
   out_of_memory_safe HouseCrash w o s never = absurd never
 
-  behind_safe : (e : Event) (w : WorldOf) (o : StepResult) → SafeWorld job w → LacksMemoryBehind e w o → SafeWorld job o.world
+  behind_safe : (e : Event) (w : WorldOf) (o : StepResult) → SafeWorld job w → LacksMemoryBehind e w o
+      → SafeWorld job o.world
   behind_safe (Start a word) w o s never = absurd never
   behind_safe (AtNode a e) w o s (up, there, is) = rw is s
   behind_safe (AtHouse e) w o s never = absurd never
@@ -55,26 +57,35 @@ module _ (job : JobOf) where
   behind_safe HouseCrash w o s never = absurd never
 
   -- where a run stops
-  pub stop_safe : (e : Event) (last : WorldOf) (v : WorldOn) → SafeWorld job last → StopsIn job e last v → SafeWorld job v.world
+  pub stop_safe : (e : Event) (last : WorldOf) (v : WorldOn) → SafeWorld job last → StopsIn job e last v
+      → SafeWorld job v.world
   stop_safe e last v s (o, inl lacks_memory, is) = rw is (out_of_memory_safe e last o s lacks_memory)
   stop_safe e last v s (o, inr lacks_memory, is) = rw is (behind_safe e last o s lacks_memory.1)
 
-  pub reading_safe : (e : Event) (last : WorldOf) (v : WorldOn) → SafeWorld job last → StopsReading job e last v → SafeWorld job v.world
+  pub reading_safe : (e : Event) (last : WorldOf) (v : WorldOn) → SafeWorld job last → StopsReading job e last v
+      → SafeWorld job v.world
   reading_safe e last v s (inl stops) = stop_safe e last v s stops
   reading_safe e last v s (inr (cut, is)) = rw is s
 
-  module _ (Stops : Event → (last : WorldOf) → (on : WorldOn) → Type 0) (stays : (e : Event) (last : WorldOf) (v : WorldOn) → SafeWorld job last → Stops e last v → SafeWorld job v.world) where
-    end_safe : (events : List Event) (done : ℕ) (stopped : Option NoMemory) (last : WorldOf) (v : WorldOn) → SafeWorld job last → EndsIn Stops events done stopped last v → SafeWorld job v.world
+  module _ (Stops : Event → (last : WorldOf) → (on : WorldOn)
+      → Type 0) (stays : (e : Event) (last : WorldOf) (v : WorldOn) → SafeWorld job last → Stops e last v
+      → SafeWorld job v.world) where
+    end_safe : (events : List Event) (done : ℕ) (stopped : Option NoMemory) (last : WorldOf) (v : WorldOn)
+        → SafeWorld job last → EndsIn Stops events done stopped last v → SafeWorld job v.world
     end_safe events done None last v s (all, is) = rw is s
     end_safe events done (Some lacks) last v s (e, there, stops) = stays e last v s stops
 
-    pub promised : (events : List Event) (done : ℕ) (stopped : Option NoMemory) (v : WorldOn) → IsJob job → IsRunTo Stops job events done stopped v → IsSafeRunTo Stops job events done stopped v
+    pub promised : (events : List Event) (done : ℕ) (stopped : Option NoMemory) (v : WorldOn) → IsJob job
+        → IsRunTo Stops job events done stopped v → IsSafeRunTo Stops job events done stopped v
     promised events done stopped v ok run =
         let can = can_begin job run.disk run.formatted in
         let last : WorldOf = last_of (first_over run.disk) run.worlds in
         record {
           run = run;
           safe = all_safe job ok run.disk run.entries run.worlds can run.runs;
-          last = end_safe events done stopped last v (each_safe job ok run.disk run.entries run.worlds can run.runs last (last_there (first_over run.disk) run.worlds)) run.ends;
-          openings = openings_find job ok (first_over run.disk) run.entries run.worlds run.runs (first_sound job run.disk can);
+          last = end_safe events done stopped last v
+              (each_safe job ok run.disk run.entries run.worlds can run.runs last
+              (last_there (first_over run.disk) run.worlds)) run.ends;
+          openings = openings_find job ok (first_over run.disk) run.entries run.worlds run.runs
+              (first_sound job run.disk can);
         }

@@ -30,8 +30,10 @@ pub record IsUnderWay (job : JobOf) (past : List Event) (v : WorldOf) : Type 0 w
   pub at : last_of (first_over disk) worlds ≡ v
 
 -- at first none did
-pub first_under_way : (job : JobOf) (d : Device) (v : WorldOf) → IsFormattedFor job d → v ≡ first_over d → IsUnderWay job [] v
-first_under_way job d v formatted is = record { disk = d; formatted = formatted; entries = []; worlds = []; runs = ends; carried = refl; at = sym is }
+pub first_under_way : (job : JobOf) (d : Device) (v : WorldOf) → IsFormattedFor job d → v ≡ first_over d
+    → IsUnderWay job [] v
+first_under_way job d v formatted is =
+    record { disk = d; formatted = formatted; entries = []; worlds = []; runs = ends; carried = refl; at = sym is }
 
 -- one more
 pub on_under_way : (job : JobOf) (past : List Event) (v w : WorldOf) (e : Event) (o : StepResult)
@@ -49,30 +51,54 @@ on_under_way job past v w e o u step is =
     }
 
 -- one of them stops the run
-pub run_stops : (Stops : Event → (last : WorldOf) → (on : WorldOn) → Type 0) (job : JobOf) (events past : List Event) (done : ℕ) (lacks : NoMemory) (e : Event) (w : WorldOf) (v : WorldOn)
-    → IsUnderWay job past w → past ≡ take done events → slice_get events done ≡ Some e → Stops e w v → IsRunTo Stops job events done (Some lacks) v
+pub run_stops : (Stops : Event → (last : WorldOf) → (on : WorldOn)
+    → Type 0) (job : JobOf) (events past : List Event) (done : ℕ) (lacks : NoMemory) (e : Event) (w : WorldOf)
+    (v : WorldOn)
+    → IsUnderWay job past w → past ≡ take done events → slice_get events done ≡ Some e → Stops e w v
+    → IsRunTo Stops job events done (Some lacks) v
 run_stops Stops job events past done lacks e w v u front next stops =
-    record { disk = u.disk; formatted = u.formatted; entries = u.entries; worlds = u.worlds; runs = u.runs; carried = u.carried ∙ front; ends = (e, next, rw u.at stops) }
+    record {
+      disk = u.disk;
+      formatted = u.formatted;
+      entries = u.entries;
+      worlds = u.worlds;
+      runs = u.runs;
+      carried = u.carried ∙ front;
+      ends = (e, next, rw u.at stops);
+    }
 
 -- it finds no memory, as a step tells it
 
-pub out_of_memory_stops : (job : JobOf) (e : Event) (on : WorldOn) (o : StepResult) (v : WorldOn) → on.job ≡ job → IsOutOfMemory e on v.is_placed o → v.world ≡ o.world → StopsIn job e on.world v
+pub out_of_memory_stops : (job : JobOf) (e : Event) (on : WorldOn) (o : StepResult) (v : WorldOn) → on.job ≡ job
+    → IsOutOfMemory e on v.is_placed o → v.world ≡ o.world → StopsIn job e on.world v
 out_of_memory_stops job e on o v same (inl s) is = (o, inl (rw (← same) s), is)
 out_of_memory_stops job e on o v same (inr s) is = (o, inr (s.1, s.2), is)
 
-pub one_out_of_memory : (job : JobOf) (events past : List Event) (done : ℕ) (lacks : NoMemory) (e : Event) (on : WorldOn) (o : StepResult) (v : WorldOn)
-    → on.job ≡ job → IsUnderWay job past on.world → past ≡ take done events → slice_get events done ≡ Some e → IsOutOfMemory e on v.is_placed o → v.world ≡ o.world → IsRunTo (StopsIn job) job events done (Some lacks) v
-one_out_of_memory job events past done lacks e on o v same u front next s is = run_stops (StopsIn job) job events past done lacks e on.world v u front next (out_of_memory_stops job e on o v same s is)
+pub one_out_of_memory : (job : JobOf) (events past : List Event) (done : ℕ) (lacks : NoMemory) (e : Event)
+    (on : WorldOn) (o : StepResult) (v : WorldOn)
+    → on.job ≡ job → IsUnderWay job past on.world → past ≡ take done events → slice_get events done ≡ Some e
+    → IsOutOfMemory e on v.is_placed o → v.world ≡ o.world → IsRunTo (StopsIn job) job events done (Some lacks) v
+one_out_of_memory job events past done lacks e on o v same u front next s is =
+    run_stops (StopsIn job) job events past done lacks e on.world v u front next
+    (out_of_memory_stops job e on o v same s is)
 
 -- so it is of a replay
-pub script_out_of_memory : (job : JobOf) (events past : List Event) (done : ℕ) (lacks : NoMemory) (e : Event) (on : WorldOn) (o : StepResult) (v : WorldOn)
-    → on.job ≡ job → IsUnderWay job past on.world → past ≡ take done events → slice_get events done ≡ Some e → IsOutOfMemory e on v.is_placed o → v.world ≡ o.world → IsRunTo (StopsReading job) job events done (Some lacks) v
-script_out_of_memory job events past done lacks e on o v same u front next s is = run_stops (StopsReading job) job events past done lacks e on.world v u front next (inl (out_of_memory_stops job e on o v same s is))
+pub script_out_of_memory : (job : JobOf) (events past : List Event) (done : ℕ) (lacks : NoMemory) (e : Event)
+    (on : WorldOn) (o : StepResult) (v : WorldOn)
+    → on.job ≡ job → IsUnderWay job past on.world → past ≡ take done events → slice_get events done ≡ Some e
+    → IsOutOfMemory e on v.is_placed o → v.world ≡ o.world
+    → IsRunTo (StopsReading job) job events done (Some lacks) v
+script_out_of_memory job events past done lacks e on o v same u front next s is =
+    run_stops (StopsReading job) job events past done lacks e on.world v u front next
+    (inl (out_of_memory_stops job e on o v same s is))
 
 -- a Cut finds none
-pub bytes_out_of_memory : (job : JobOf) (events past : List Event) (done : ℕ) (lacks : NoMemory) (e : Event) (w : WorldOn)
-    → IsUnderWay job past w.world → past ≡ take done events → slice_get events done ≡ Some e → is_cut e ≡ true → IsRunTo (StopsReading job) job events done (Some lacks) w
-bytes_out_of_memory job events past done lacks e w u front next cut = run_stops (StopsReading job) job events past done lacks e w.world w u front next (inr (cut, refl))
+pub bytes_out_of_memory : (job : JobOf) (events past : List Event) (done : ℕ) (lacks : NoMemory) (e : Event)
+    (w : WorldOn)
+    → IsUnderWay job past w.world → past ≡ take done events → slice_get events done ≡ Some e → is_cut e ≡ true
+    → IsRunTo (StopsReading job) job events done (Some lacks) w
+bytes_out_of_memory job events past done lacks e w u front next cut =
+    run_stops (StopsReading job) job events past done lacks e w.world w u front next (inr (cut, refl))
 
 pub next_under_way : (job : JobOf) (past : List Event) (own : JobOf) (v w : WorldOf) (e : Event) (o : StepResult)
     → own ≡ job → IsUnderWay job past v → Step own e v o → w ≡ o.world → IsUnderWay job (past ++ e ∷ []) w
@@ -80,8 +106,10 @@ next_under_way job past own v w e o same u step is = on_under_way job past v w e
 
 -- events by their number
 
-pub take_next : (events : List Event) (k : ℕ) (e : Event) → k < length events → e ≡ get_or events k e → take (k + 1) events ≡ take k events ++ e ∷ []
-take_next events k e within is = rw (add-one k) (take-suc events k e within ∙ ap (λ x. take k events ++ x ∷ []) (sym is))
+pub take_next : (events : List Event) (k : ℕ) (e : Event) → k < length events → e ≡ get_or events k e
+    → take (k + 1) events ≡ take k events ++ e ∷ []
+take_next events k e within is = rw (add-one k)
+    (take-suc events k e within ∙ ap (λ x. take k events ++ x ∷ []) (sym is))
 
 -- events of which some are left
 
@@ -92,25 +120,33 @@ get_behind : (past left : List Event) (e : Event) → slice_get (past ++ e ∷ l
 get_behind [] left e = refl
 get_behind (x ∷ past) left e = get_behind past left e
 
-pub get_left : (past left new : List Event) (e : Event) (done : ℕ) → length past ≡ done → left ≡ e ∷ new → slice_get (past ++ left) done ≡ Some e
+pub get_left : (past left new : List Event) (e : Event) (done : ℕ) → length past ≡ done → left ≡ e ∷ new
+    → slice_get (past ++ left) done ≡ Some e
 get_left past left new e done is next = rw (← is, next) (get_behind past new e)
 
 one_past : (past left new : List Event) (e : Event) → left ≡ e ∷ new → past ++ left ≡ (past ++ e ∷ []) ++ new
 one_past past left new e next = ap (λ x. past ++ x) next ∙ sym (append_assoc past (e ∷ []) new)
 
-length_past : (past : List Event) (e : Event) (done more : ℕ) → length past ≡ done → more ≡ done + 1 → length (past ++ e ∷ []) ≡ more
+length_past : (past : List Event) (e : Event) (done more : ℕ) → length past ≡ done → more ≡ done + 1
+    → length (past ++ e ∷ []) ≡ more
 length_past past e done more is one = omega (arith, is, one, length-append past (e ∷ []))
 
 -- a script goes on by one more event
 
-pub script_goes_on : (job own : JobOf) (text : List ℕ) (past left new : List Event) (e : Event) (done more : ℕ) (v w : WorldOf) (o : StepResult)
+pub script_goes_on : (job own : JobOf) (text : List ℕ) (past left new : List Event) (e : Event) (done more : ℕ)
+    (v w : WorldOf) (o : StepResult)
     → own ≡ job → script text ≡ Ok (past ++ left) → length past ≡ done → IsUnderWay job past v
     → left ≡ e ∷ new → Step own e v o → w ≡ o.world → more ≡ done + 1
     → (longer : List Event) × (script text ≡ Ok (longer ++ new)) × (length longer ≡ more) × IsUnderWay job longer w
-script_goes_on job own text past left new e done more v w o same is at u next step led one =
-    (past ++ e ∷ [], is ∙ ap Ok (one_past past left new e next), length_past past e done more at one, next_under_way job past own v w e o same u step led)
+script_goes_on job own text past left new e done more v w o same is at u next step led one = (
+  past ++ e ∷ [],
+  is ∙ ap Ok (one_past past left new e next),
+  length_past past e done more at one,
+  next_under_way job past own v w e o same u step led,
+)
 
-pub cut_left : (left : List Event) → is_cut_next left ≡ true → (e : Event) × (new : List Event) × (left ≡ e ∷ new) × (is_cut e ≡ true)
+pub cut_left : (left : List Event) → is_cut_next left ≡ true
+    → (e : Event) × (new : List Event) × (left ≡ e ∷ new) × (is_cut e ≡ true)
 cut_left [] cut = absurd cc
 cut_left (e ∷ new) cut = (e, new, refl, cut)
 
@@ -130,7 +166,11 @@ count_line n Refused r = omega arith
 count_lines : (most n : ℕ) (ls : List (List ℕ)) → count (events_from most n ls) ≤ length ls
 unfolding count
 count_lines most n [] = omega arith
-count_lines most n (l ∷ ls) = omega (arith, count_lines most (n + 1) ls, count_line n (line_of most l) (events_from most (n + 1) ls))
+count_lines most n (l ∷ ls) = omega (
+  arith,
+  count_lines most (n + 1) ls,
+  count_line n (line_of most l) (events_from most (n + 1) ls),
+)
 
 pub script_length : (text : List ℕ) (es : List Event) → script text ≡ Ok es → length es ≤ length text + 1
 unfolding count
@@ -139,14 +179,16 @@ script_length text es is =
     let same : count (script text) ≡ length es = ap count is in
     omega (arith, least, same, length_parts 10 text)
 
-pub room_left : (text : List ℕ) (past left new : List Event) (e : Event) (done : ℕ) → script text ≡ Ok (past ++ left) → left ≡ e ∷ new → length past ≡ done → done ≤ length text
+pub room_left : (text : List ℕ) (past left new : List Event) (e : Event) (done : ℕ) → script text ≡ Ok (past ++ left)
+    → left ≡ e ∷ new → length past ≡ done → done ≤ length text
 room_left text past left new e done is next at =
     let most = script_length text (past ++ left) is in
     let one : length left ≡ length (e ∷ new) = ap length next in
     omega (arith, most, one, at, length-append past left)
 
 -- and ends where no event is left
-pub script_ends : (job : JobOf) (text : List ℕ) (past left : List Event) (done : ℕ) (stopped : Option NoMemory) (v : WorldOn)
+pub script_ends : (job : JobOf) (text : List ℕ) (past left : List Event) (done : ℕ) (stopped : Option NoMemory)
+    (v : WorldOn)
     → script text ≡ Ok (past ++ left) → left ≡ [] → length past ≡ done → stopped ≡ None → IsUnderWay job past v.world
     → (events : List Event) × (script text ≡ Ok events) × IsRunTo (StopsReading job) job events done stopped v
 script_ends job text past left done stopped v is none at on u =

@@ -166,7 +166,7 @@ impl<'a> RunEnd<'a> {
         match self.world.step(alloc, event, None) {
             Ok(told) => {
                 self.done += 1;
-                watch.sees(alloc, event, told, &self.world);
+                watch.see(alloc, event, told, &self.world);
                 true
             }
             Err(lacks) => {

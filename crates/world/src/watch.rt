@@ -8,7 +8,7 @@ use world_steps::{EventAnswer, World};
 /// it.
 pub trait Watch {
     /// An event was carried out. It sees what was told of the event, and the world after it.
-    fn sees(&mut self, alloc: Global, event: &Event, told: EventAnswer, world: &World<'_>);
+    fn see(&mut self, alloc: Global, event: &Event, told: EventAnswer, world: &World<'_>);
 }
 
 /// Nobody looks on.
@@ -16,14 +16,14 @@ pub trait Watch {
 pub struct Unwatched;
 
 impl Watch for Unwatched {
-    fn sees(&mut self, _alloc: Global, _event: &Event, _told: EventAnswer, _world: &World<'_>) {}
+    fn see(&mut self, _alloc: Global, _event: &Event, _told: EventAnswer, _world: &World<'_>) {}
 }
 
 /// Who looks on only where there is somebody.
 impl<W: Watch> Watch for Option<W> {
-    fn sees(&mut self, alloc: Global, event: &Event, told: EventAnswer, world: &World<'_>) {
+    fn see(&mut self, alloc: Global, event: &Event, told: EventAnswer, world: &World<'_>) {
         if let Some(watch) = self {
-            watch.sees(alloc, event, told, world);
+            watch.see(alloc, event, told, world);
         }
     }
 }
@@ -36,8 +36,8 @@ pub struct Both<A: Drop, B: Drop> {
 }
 
 impl<A: Watch + Drop, B: Watch + Drop> Watch for Both<A, B> {
-    fn sees(&mut self, alloc: Global, event: &Event, told: EventAnswer, world: &World<'_>) {
-        self.first.sees(alloc, event, told, world);
-        self.second.sees(alloc, event, told, world);
+    fn see(&mut self, alloc: Global, event: &Event, told: EventAnswer, world: &World<'_>) {
+        self.first.see(alloc, event, told, world);
+        self.second.see(alloc, event, told, world);
     }
 }

@@ -16,12 +16,14 @@ pub under_fit : (task : Task) (saved : List SavedValue) → IsTrue (saved_fit ta
 under_fit task [] = refl
 under_fit task (x ∷ saved) = by_test (is_under task.place x.place) refl (under_fit task saved)
   where
-    by_test : (b : Bool) → is_under task.place x.place ≡ b → IsTrue (saved_fit task (saved_under task.place saved)) → IsTrue (saved_fit task (cond b (x ∷ saved_under task.place saved) (saved_under task.place saved)))
+    by_test : (b : Bool) → is_under task.place x.place ≡ b → IsTrue (saved_fit task (saved_under task.place saved))
+        → IsTrue (saved_fit task (cond b (x ∷ saved_under task.place saved) (saved_under task.place saved)))
     by_test true e rest = and_from (is_under task.place x.place) (saved_fit task (saved_under task.place saved)) e rest
     by_test false e rest = rest
 
 -- those that go with the task at the root
-pub root_fit : (task : Task) (saved : List SavedValue) → task.place ≡ [] → AreBelowRoot saved → IsTrue (saved_fit task saved)
+pub root_fit : (task : Task) (saved : List SavedValue) → task.place ≡ [] → AreBelowRoot saved
+    → IsTrue (saved_fit task saved)
 root_fit task [] at below = refl
 root_fit task (x ∷ saved) at below =
     let here : IsTrue (is_under task.place x.place) = rw at below.0 in
@@ -34,11 +36,13 @@ saved_below (step ∷ before) saved = rw (lt-ltb 0 (length (step ∷ before)) (o
 
 -- one more
 module _ (P : SavedValue → Type 0) where
-  put_each : (x : SavedValue) (saved : List SavedValue) → P x → AllByRecursion P saved → AllByRecursion P (keyed.put place_of place_cmp x saved)
+  put_each : (x : SavedValue) (saved : List SavedValue) → P x → AllByRecursion P saved
+      → AllByRecursion P (keyed.put place_of place_cmp x saved)
   put_each x [] own all = (own, tt)
   put_each x (y ∷ saved) own all = by_order (place_cmp x.place y.place) (put_each x saved own all.1)
     where
-      by_order : (r : Ordering) → AllByRecursion P (keyed.put place_of place_cmp x saved) → AllByRecursion P (match_ordering r (x ∷ y ∷ saved) (x ∷ saved) (y ∷ keyed.put place_of place_cmp x saved))
+      by_order : (r : Ordering) → AllByRecursion P (keyed.put place_of place_cmp x saved)
+          → AllByRecursion P (match_ordering r (x ∷ y ∷ saved) (x ∷ saved) (y ∷ keyed.put place_of place_cmp x saved))
       by_order Less rest = (own, all)
       by_order Equal rest = (own, all.1)
       by_order Greater rest = (all.0, rest)
@@ -48,8 +52,11 @@ module _ (P : SavedValue → Type 0) where
   take_each (suc n) [] all = tt
   take_each (suc n) (x ∷ saved) all = (all.0, take_each n saved all.1)
 
-  put_saved_each : (x : SavedValue) (saved : List SavedValue) → P x → AllByRecursion P saved → AllByRecursion P (put_saved x saved)
+  put_saved_each : (x : SavedValue) (saved : List SavedValue) → P x → AllByRecursion P saved
+      → AllByRecursion P (put_saved x saved)
   put_saved_each x saved own all = take_each 64 (keyed.put place_of place_cmp x saved) (put_each x saved own all)
 
-pub put_below : (x : SavedValue) (saved : List SavedValue) → IsTrue (is_saved_place x.place) → AreBelowRoot saved → AreBelowRoot (put_saved x saved)
-put_below x saved is below = put_saved_each (λ (y : SavedValue). IsTrue (is_under [] y.place)) x saved (saved_below x.place is) below
+pub put_below : (x : SavedValue) (saved : List SavedValue) → IsTrue (is_saved_place x.place) → AreBelowRoot saved
+    → AreBelowRoot (put_saved x saved)
+put_below x saved is below = put_saved_each (λ (y : SavedValue). IsTrue (is_under [] y.place)) x saved
+    (saved_below x.place is) below

@@ -49,7 +49,8 @@ ready_of_held n g k f e = by_sub (sub_in g (live_subs n)) refl e
     by_where (Leaving r heir) s m = absurd m
     by_where Ended s m = absurd m
 
-    by_ready : (s : SubOf) → s ∈ n.subs → (o : Option Ready) → ready_in k s.content ≡ o → (o >>= (λ x. Some (record { sub = s; ready = x }))) ≡ Some f → IsReadyIn n f
+    by_ready : (s : SubOf) → s ∈ n.subs → (o : Option Ready) → ready_in k s.content ≡ o
+        → (o >>= (λ x. Some (record { sub = s; ready = x }))) ≡ Some f → IsReadyIn n f
     by_ready s held None ready is = cc
     by_ready s held (Some x) ready is =
         let same : record { sub = s; ready = x } ≡ f = cc in
@@ -57,7 +58,8 @@ ready_of_held n g k f e = by_sub (sub_in g (live_subs n)) refl e
 
     by_sub : (o : Option SubOf) → sub_in g (live_subs n) ≡ o → ready_of_sub k o ≡ Some f → IsReadyIn n f
     by_sub None there is = cc
-    by_sub (Some s) there is = by_ready s (by_where n.state s (found_among _ s (live_subs n) there)) (ready_in k s.content) refl is
+    by_sub (Some s) there is = by_ready s (by_where n.state s (found_among _ s (live_subs n) there))
+        (ready_in k s.content) refl is
 
 -- what is chosen, if anything is
 abbrev pub IsChosen : NodeOf → Option ReadyFrame → Type 0
@@ -69,23 +71,44 @@ chosen_is n (Some c) f e = ready_of_held n c.grant c.frame f e
 
 module _ (job : JobOf) (n : NodeOf) (right : NodeIsRight job n) where
   -- a thief is answered
-  answers_right : (thief seq : ℕ) (b : Body) → BodyIsRight job b → (k : NodeOf) → NodeIsRight job k → StepIsRight job (answers job thief seq b k)
+  answers_right : (thief seq : ℕ) (b : Body) → BodyIsRight job b → (k : NodeOf) → NodeIsRight job k
+      → StepIsRight job (answers job thief seq b k)
   answers_right thief seq b is k held = record {
-    after = record { subs = held.subs; replies = replies_put job (record { thief = thief; seq = seq; packet = packet job thief b }) k.replies is held.replies };
+    after = record {
+      subs = held.subs;
+      replies =
+          replies_put job (record { thief = thief; seq = seq; packet = packet job thief b }) k.replies is held.replies;
+    };
     sent = one_sent job (packet job thief b) is;
     fills = λ f m. absurd m;
   }
 
   -- by a Grant
-  grants_right : (thief seq : ℕ) (f : ReadyFrame) → IsReadyIn n f → NextGrantIsFresh n → StepIsRight job (grants job thief seq f.sub f.ready n)
+  grants_right : (thief seq : ℕ) (f : ReadyFrame) → IsReadyIn n f → NextGrantIsFresh n
+      → StepIsRight job (grants job thief seq f.sub f.ready n)
   grants_right thief seq f ready fresh =
       let whole = right.subs f.sub ready.held in
       let held = whole.content in
       let left : SubOf = with_content f.sub (granted_out (next_grant n) thief f.ready f.sub.content) in
-      let new : IsRight job left.content = granted_right job f.sub.content ready.number (next_grant n) thief f.ready held ready.ready (fresh f.sub ready.held) in
+      let new : IsRight job left.content =
+      granted_right job f.sub.content ready.number (next_grant n) thief f.ready held ready.ready
+      (fresh f.sub ready.held) in
       let k : NodeOf = record n { minted = n.minted + 1; subs = put_sub left n.subs } in
-      answers_right thief seq (body.Grant (record { seq = seq; grant = next_grant n; task = task_of f.ready; saved = saved_under f.ready.frame.place f.sub.saved })) (granted_task job f.sub.content ready.number f.ready held.agrees ready.ready, under_agrees job f.ready.frame.place f.sub.saved whole.saved, under_fit (task_of f.ready) f.sub.saved) k
-      (record { subs = put_right job left n.subs (record { content = new; saved = whole.saved }) right.subs; replies = right.replies })
+      answers_right thief seq (body.Grant
+      (record {
+        seq = seq;
+        grant = next_grant n;
+        task = task_of f.ready;
+        saved = saved_under f.ready.frame.place f.sub.saved;
+      })) (
+        granted_task job f.sub.content ready.number f.ready held.agrees ready.ready,
+        under_agrees job f.ready.frame.place f.sub.saved whole.saved,
+        under_fit (task_of f.ready) f.sub.saved,
+      ) k
+      (record {
+        subs = put_right job left n.subs (record { content = new; saved = whole.saved }) right.subs;
+        replies = right.replies;
+      })
 
   module _ (o : Option ReadyFrame) (chosen : IsChosen n o) (fresh : NextGrantIsFresh n) where
     served_right : (b : Steal) → AnswerIsRight job (served job b o n)
@@ -93,11 +116,15 @@ module _ (job : JobOf) (n : NodeOf) (right : NodeIsRight job n) where
       where
         by_choice : (x : Option ReadyFrame) → IsChosen n x → AnswerIsRight job (served job b x n)
         by_choice None is = answers_right b.from b.seq (body.Refuse (record { seq = b.seq })) tt n right
-        by_choice (Some f) is = by_test job (nat_lt (n.minted + 1) (2 ^ 64)) _ _ (grants_right b.from b.seq f (is f refl) fresh) tt
+        by_choice (Some f) is = by_test job (nat_lt (n.minted + 1) (2 ^ 64)) _ _
+            (grants_right b.from b.seq f (is f refl) fresh) tt
 
     pub stolen_right : (r : Roster) (b : Steal) → AnswerIsRight job (stolen job r b o n)
     stolen_right r b = by_test job (is_live b.from r.members) _ _ (by_kept (reply_in b.from n.replies) refl) tt
       where
-        by_kept : (x : Option Reply) → reply_in b.from n.replies ≡ x → AnswerIsRight job (by_reply x b.seq Ignored (λ reply. Does (sends (reply ∷ []) n)) (served job b o n))
+        by_kept : (x : Option Reply) → reply_in b.from n.replies ≡ x
+            → AnswerIsRight job (by_reply x b.seq Ignored (λ reply. Does (sends (reply ∷ []) n)) (served job b o n))
         by_kept None e = served_right b
-        by_kept (Some reply) e = in_order job (nat_cmp b.seq reply.seq) _ _ _ tt (sends_one job reply.packet n (right.replies reply (found_among _ reply n.replies e)) right) (served_right b)
+        by_kept (Some reply) e = in_order job (nat_cmp b.seq reply.seq) _ _ _ tt
+            (sends_one job reply.packet n (right.replies reply (found_among _ reply n.replies e)) right)
+            (served_right b)

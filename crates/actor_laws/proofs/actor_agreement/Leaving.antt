@@ -27,12 +27,14 @@ use Rattle.actor_laws.proofs.actor_agreement.Steps.{by_test, in_state, sends_one
 
 -- the Grants of some answers that agree
 module _ (job : JobOf) where
-  given_right : (p : PacketOf) (o : Option Grant) → BodyIsRight job p.body → (g : Given) → g ∈ given p o → BodyIsRight job g.packet.body
+  given_right : (p : PacketOf) (o : Option Grant) → BodyIsRight job p.body → (g : Given) → g ∈ given p o
+      → BodyIsRight job g.packet.body
   given_right p None is g m = absurd m
   given_right p (Some x) is g (inl e) = rw e is
   given_right p (Some x) is g (inr m) = absurd m
 
-  all_given_right : (replies : List Reply) → RepliesAreRight job replies → (g : Given) → g ∈ all_given replies → BodyIsRight job g.packet.body
+  all_given_right : (replies : List Reply) → RepliesAreRight job replies → (g : Given) → g ∈ all_given replies
+      → BodyIsRight job g.packet.body
   all_given_right [] right g m = absurd m
   all_given_right (r ∷ replies) right g m = ⊎_elim
       (λ k. given_right r.packet (given_by r.packet.body) (right r (inl refl)) g k)
@@ -50,7 +52,8 @@ module _ (job : JobOf) where
   grants_right : (replies : List Reply) → RepliesAreRight job replies → AllRight job (grants_in replies)
   grants_right replies right p m =
       let x = mapped (λ (g : Given). g.packet) (with_given (all_given replies) []) p m in
-      let among : x.item ∈ all_given replies = ⊎_elim (λ k. k) (λ k. absurd k) (sorted_among (all_given replies) [] x.item x.there) in
+      let among : x.item ∈ all_given replies =
+      ⊎_elim (λ k. k) (λ k. absurd k) (sorted_among (all_given replies) [] x.item x.there) in
       rw (x.is) (all_given_right replies right x.item among)
 
 module _ (job : JobOf) (n : NodeOf) (right : NodeIsRight job n) where
@@ -72,20 +75,28 @@ module _ (job : JobOf) (n : NodeOf) (right : NodeIsRight job n) where
   pub taken_right : (r : Roster) (heir : ℕ) (b : OfferAck) → AnswerIsRight job (taken job r heir b n)
   taken_right r heir b =
       by_test job (is_released heir b (sub_in b.grant n.subs)) _ _
-      (left_right r heir (record n { subs = without_sub b.grant n.subs }) (record { subs = without_right job b.grant n.subs right.subs; replies = right.replies }))
+      (left_right r heir (record n { subs = without_sub b.grant n.subs })
+      (record { subs = without_right job b.grant n.subs right.subs; replies = right.replies }))
       (by_test job (nat_eq b.hop 0 && list_any (confirms b) (awaited r n)) _ _
-      (left_right r heir (record n { confirmed = put_confirmed (record { thief = b.from; grant = b.grant }) n.confirmed }) (record { subs = right.subs; replies = right.replies }))
+      (left_right r heir (record n {
+        confirmed = put_confirmed (record { thief = b.from; grant = b.grant }) n.confirmed;
+      })
+      (record { subs = right.subs; replies = right.replies }))
       tt)
 
   -- it departs
   departs_right : (r : Roster) (heir : ℕ) → StepIsRight job (calls.whole_departs job r heir n)
   departs_right r heir =
       let gone : NodeOf = record n { state = Leaving r heir; assemblies = [] } in
-      sends_right job (calls.wholes job heir n ++ leaves job r heir gone) gone (both_sent job (calls.wholes job heir n) (leaves job r heir gone) (offers_of_all heir) (leaves_right r heir gone)) (record { subs = right.subs; replies = right.replies })
+      sends_right job (calls.wholes job heir n ++ leaves job r heir gone) gone
+      (both_sent job (calls.wholes job heir n) (leaves job r heir gone) (offers_of_all heir)
+      (leaves_right r heir gone)) (record { subs = right.subs; replies = right.replies })
 
   pub depart_right : (heir : ℕ) → AnswerIsRight job (calls.whole_depart job heir n)
   unfolding calls.whole_depart
-  depart_right heir = in_state job n.state _ _ _ _ tt (λ r. by_refusal (refusal (move_to job heir n) (is_some n.asker.pending) r.members n.subs) (calls.whole_departs job r heir n) (departs_right r heir)) (λ r x. tt) tt
+  depart_right heir = in_state job n.state _ _ _ _ tt
+      (λ r. by_refusal (refusal (move_to job heir n) (is_some n.asker.pending) r.members n.subs)
+      (calls.whole_departs job r heir n) (departs_right r heir)) (λ r x. tt) tt
     where
       by_refusal : (o : Option FreezeError) (s : StepOf) → StepIsRight job s → AnswerIsRight job (calls.frozen job o s)
       by_refusal None s is = is
@@ -96,9 +107,14 @@ module _ (job : JobOf) (n : NodeOf) (right : NodeIsRight job n) where
   member_packets r =
       let first : AllRight job (beat job n.incarnation r ∷ []) = one_sent job (beat job n.incarnation r) tt in
       let asked : AllRight job (calls.pending_steal job n n.asker.pending) = by_pending n.asker.pending in
-      let told : AllRight job (flat_map (results job n.incarnation) n.subs) = each_sent job (results job n.incarnation) (results_right job n.incarnation) n.subs in
-      let rest : AllRight job (calls.pending_steal job n n.asker.pending ++ flat_map (results job n.incarnation) n.subs) = both_sent job (calls.pending_steal job n n.asker.pending) (flat_map (results job n.incarnation) n.subs) asked told in
-      both_sent job (beat job n.incarnation r ∷ []) (calls.pending_steal job n n.asker.pending ++ flat_map (results job n.incarnation) n.subs) first rest
+      let told : AllRight job (flat_map (results job n.incarnation) n.subs) =
+      each_sent job (results job n.incarnation) (results_right job n.incarnation) n.subs in
+      let rest : AllRight job (calls.pending_steal job n n.asker.pending
+      ++ flat_map (results job n.incarnation) n.subs) =
+      both_sent job (calls.pending_steal job n n.asker.pending)
+      (flat_map (results job n.incarnation) n.subs) asked told in
+      both_sent job (beat job n.incarnation r ∷ [])
+      (calls.pending_steal job n n.asker.pending ++ flat_map (results job n.incarnation) n.subs) first rest
     where
       by_pending : (o : Option Request) → AllRight job (calls.pending_steal job n o)
       by_pending None = none_sent job
@@ -106,11 +122,19 @@ module _ (job : JobOf) (n : NodeOf) (right : NodeIsRight job n) where
 
   leaving_packets : (r : Roster) (heir : ℕ) → AllRight job (calls.whole_leaving_resend job n r heir)
   leaving_packets r heir =
-      let granted : AllRight job (grants_in (awaited r n)) = grants_right job (awaited r n) (λ x m. right.replies x (filtered _ x n.replies m)) in
-      let first : AllRight job (calls.wholes job heir n ++ grants_in (awaited r n)) = both_sent job (calls.wholes job heir n) (grants_in (awaited r n)) (offers_of_all heir) granted in
-      let rest : AllRight job ((calls.wholes job heir n ++ grants_in (awaited r n)) ++ leaves job r heir n) = both_sent job (calls.wholes job heir n ++ grants_in (awaited r n)) (leaves job r heir n) first (leaves_right r heir n) in
-      both_sent job (beat job n.incarnation r ∷ []) ((calls.wholes job heir n ++ grants_in (awaited r n)) ++ leaves job r heir n) (one_sent job (beat job n.incarnation r) tt) rest
+      let granted : AllRight job (grants_in (awaited r n)) =
+      grants_right job (awaited r n) (λ x m. right.replies x (filtered _ x n.replies m)) in
+      let first : AllRight job (calls.wholes job heir n ++ grants_in (awaited r n)) =
+      both_sent job (calls.wholes job heir n) (grants_in (awaited r n)) (offers_of_all heir) granted in
+      let rest : AllRight job ((calls.wholes job heir n ++ grants_in (awaited r n)) ++ leaves job r heir n) =
+      both_sent job (calls.wholes job heir n ++ grants_in (awaited r n)) (leaves job r heir n) first
+      (leaves_right r heir n) in
+      both_sent job (beat job n.incarnation r ∷ [])
+      ((calls.wholes job heir n ++ grants_in (awaited r n)) ++ leaves job r heir n)
+      (one_sent job (beat job n.incarnation r) tt) rest
 
   pub resend_right : AnswerIsRight job (calls.whole_resend job n)
   unfolding calls.whole_resend
-  resend_right = in_state job n.state _ _ _ _ (sends_one job (calls.join job n.incarnation) n tt right) (λ r. sends_right job (calls.member_resend job n r) n (member_packets r) right) (λ r heir. sends_right job (calls.whole_leaving_resend job n r heir) n (leaving_packets r heir) right) tt
+  resend_right = in_state job n.state _ _ _ _ (sends_one job (calls.join job n.incarnation) n tt right)
+      (λ r. sends_right job (calls.member_resend job n r) n (member_packets r) right)
+      (λ r heir. sends_right job (calls.whole_leaving_resend job n r heir) n (leaving_packets r heir) right) tt

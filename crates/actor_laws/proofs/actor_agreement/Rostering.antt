@@ -25,25 +25,37 @@ module _ (job : JobOf) (n : NodeOf) (right : NodeIsRight job n) where
   ends = quiet_right job (ended n) (ended_right job n)
 
   pub joins_right : (r : Roster) → AnswerIsRight job (joins r n)
-  joins_right r = by_listed job (status_in n.incarnation r.members) _ _ _ (quiet_right job _ (stands (Member r))) ends tt
+  joins_right r = by_listed job (status_in n.incarnation r.members) _ _ _
+      (quiet_right job _ (stands (Member r))) ends tt
 
   -- one that is kept, if it is newer
-  roster_right : (old new : Roster) (kept : Answer) → AnswerIsRight job kept → AnswerIsRight job (by_roster old new n kept)
+  roster_right : (old new : Roster) (kept : Answer) → AnswerIsRight job kept
+      → AnswerIsRight job (by_roster old new n kept)
   roster_right old new kept is =
       in_order job (nat_cmp new.epoch old.epoch) _ _ _ tt
-      (by_test job (nat_lt old.version new.version) _ _ (by_listed job (status_in n.incarnation new.members) _ _ _ is ends tt) tt)
+      (by_test job (nat_lt old.version new.version) _ _
+      (by_listed job (status_in n.incarnation new.members) _ _ _ is ends tt) tt)
       ends
 
   recovers_by_right : (new : Roster) → StepIsRight job (recovers_by job new n)
   recovers_by_right new =
       let first : StepOf = recovers job new.members (grants_of_subs n.subs) (record n { state = Member new }) in
-      let a = recovers_right job new.members (grants_of_subs n.subs) (record n { state = Member new }) (stands (Member new)) in
-      then_right job first (λ m. quiet (record m { asker = settle_request new.members m.asker; assemblies = of_living new.members m.assemblies })) a
-      (quiet_right job (record first.after { asker = settle_request new.members first.after.asker; assemblies = of_living new.members first.after.assemblies }) (record { subs = a.after.subs; replies = a.after.replies }))
+      let a = recovers_right job new.members (grants_of_subs n.subs) (record n { state = Member new })
+      (stands (Member new)) in
+      then_right job first (λ m. quiet (record m {
+        asker = settle_request new.members m.asker;
+        assemblies = of_living new.members m.assemblies;
+      })) a
+      (quiet_right job (record first.after {
+        asker = settle_request new.members first.after.asker;
+        assemblies = of_living new.members first.after.assemblies;
+      }) (record { subs = a.after.subs; replies = a.after.replies }))
 
   pub member_roster_right : (old new : Roster) → AnswerIsRight job (member_roster job old new n)
   member_roster_right old new = roster_right old new _ (recovers_by_right new)
 
-  pub leaving_roster_right : (old : Roster) (heir : ℕ) (new : Roster) → AnswerIsRight job (leaving_roster job old heir new n)
+  pub leaving_roster_right : (old : Roster) (heir : ℕ) (new : Roster)
+      → AnswerIsRight job (leaving_roster job old heir new n)
   leaving_roster_right old heir new =
-      roster_right old new _ (by_test job (not (is_empty n.subs) && not (is_live heir new.members)) _ _ ends (quiet_right job _ (stands (Leaving new heir))))
+      roster_right old new _ (by_test job (not (is_empty n.subs) && not (is_live heir new.members)) _ _ ends
+      (quiet_right job _ (stands (Leaving new heir))))

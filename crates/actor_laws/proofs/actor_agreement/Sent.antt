@@ -28,7 +28,8 @@ module _ (job : JobOf) where
   both_sent ps qs a b p m = ⊎_elim (λ x. a p x) (λ x. b p x) (either ps qs p m)
 
   -- packets for each item
-  pub each_sent : {X : Type 0} (f : X → List PacketOf) → ((x : X) → AllRight job (f x)) → (xs : List X) → AllRight job (flat_map f xs)
+  pub each_sent : {X : Type 0} (f : X → List PacketOf) → ((x : X) → AllRight job (f x)) → (xs : List X)
+      → AllRight job (flat_map f xs)
   each_sent f all [] = none_sent
   each_sent f all (x ∷ xs) = both_sent (f x) (flat_map f xs) (all x) (each_sent f all xs)
 
@@ -47,11 +48,14 @@ module _ (job : JobOf) where
       by_progress (Finished o) = one_sent _ tt
 
   -- Offers of what is right
-  pub offers_right : (number i heir : ℕ) (subs : List SubOf) → ((s : SubOf) → s ∈ subs → SubIsRight job s) → AllRight job (map (offer number i heir) subs)
+  pub offers_right : (number i heir : ℕ) (subs : List SubOf) → ((s : SubOf) → s ∈ subs → SubIsRight job s)
+      → AllRight job (map (offer number i heir) subs)
   offers_right number i heir [] right p m = absurd m
   offers_right number i heir (s ∷ subs) right p (inl e) = rw e (right s (inl refl)).content
   offers_right number i heir (s ∷ subs) right p (inr m) = offers_right number i heir subs (λ x y. right x (inr y)) p m
 
   -- the last answers to thieves, with one more
-  pub replies_put : (new : Reply) (replies : List Reply) → BodyIsRight job new.packet.body → RepliesAreRight job replies → RepliesAreRight job (put_reply new replies)
-  replies_put new replies right all r m = ⊎_elim (λ same. rw same right) (λ was. all r was) (put_among name_of_reply new r replies m)
+  pub replies_put : (new : Reply) (replies : List Reply) → BodyIsRight job new.packet.body → RepliesAreRight job replies
+      → RepliesAreRight job (put_reply new replies)
+  replies_put new replies right all r m =
+      ⊎_elim (λ same. rw same right) (λ was. all r was) (put_among name_of_reply new r replies m)

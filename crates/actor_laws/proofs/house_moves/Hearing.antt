@@ -47,7 +47,8 @@ nobody [] all = refl
 nobody (x ∷ ms) all = absurd (listed x.status (ap status_of (sym first) ∙ all x.incarnation))
   where
     first : status_in x.incarnation (x ∷ ms) ≡ Some x.status
-    first = ap (λ r. cond (is_eq r) (Some x) (item_in name_of_member (x.incarnation, 0) ms) >>= (λ y. Some y.status)) (equal_to_itself (name_of_member x))
+    first = ap (λ r. cond (is_eq r) (Some x) (item_in name_of_member (x.incarnation, 0) ms) >>= (λ y. Some y.status))
+        (equal_to_itself (name_of_member x))
 
     listed : (s : Status) → status_of (Some s) ≡ tables.Unlisted → ⊥
     listed member.Live e = cc
@@ -70,9 +71,12 @@ module _ (i moment : ℕ) where
       by_test false = refl
 
   -- what is said of each stays
-  heard_same : (j : ℕ) (ws : List Enlisted) → AreInOrder name_of_enlisted ws → status_in j (map member_of (moves.changed (λ w. record w { heard = moment }) i ws)) ≡ status_in j (map member_of ws)
+  heard_same : (j : ℕ) (ws : List Enlisted) → AreInOrder name_of_enlisted ws
+      → status_in j (map member_of (moves.changed (λ w. record w { heard = moment }) i ws))
+      ≡ status_in j (map member_of ws)
   heard_same j ws rising =
-      ap (λ xs. status_in j (map member_of xs)) (changed_everywhere name_of_enlisted (λ x. record x { heard = moment }) (λ x. refl) (i, 0) ws rising)
+      ap (λ xs. status_in j (map member_of xs))
+      (changed_everywhere name_of_enlisted (λ x. record x { heard = moment }) (λ x. refl) (i, 0) ws rising)
       ∙ mapped_status (hear_at i moment) same_name j ws
       ∙ by_item (item_in name_of_enlisted (j, 0) ws)
       ∙ sym (kept_found j ws)
@@ -84,48 +88,99 @@ module _ (i moment : ℕ) where
   -- so as many live
   heard_live : (ws : List Enlisted) → living (map (hear_at i moment) ws) ≡ living ws
   heard_live [] = refl
-  heard_live (w ∷ ws) = let here : one_if (says_live (Some (hear_at i moment w).status)) ≡ one_if (says_live (Some w.status)) = ap (λ x. one_if (says_live (Some x))) (same_status w) in let rest = heard_live ws in omega (arith, here, rest)
+  heard_live (w ∷ ws) = let here : one_if (says_live (Some (hear_at i moment w).status))
+      ≡ one_if (says_live (Some w.status)) = ap (λ x. one_if (says_live (Some x))) (same_status w) in let rest =
+      heard_live ws in omega (arith, here, rest)
 
 module _ (job : JobOf) (v : View) (run : Run (tables_meaning job) v) (h : HouseOf) (s : OpenShown v h) where
   -- somebody is heard
   pub hears_shown : (i : ℕ) → AreInOrder name_of_enlisted h.workers → OpenShown v (moves.hears i h)
   hears_shown i rising =
-      let everywhere = changed_everywhere name_of_enlisted (λ x. record x { heard = h.moment }) (λ x. refl) (i, 0) h.workers rising in
-      let long : length (moves.hears i h).workers ≡ length h.workers = ap length everywhere ∙ length-map h.workers (hear_at i h.moment) in
-      let live : living (moves.hears i h).workers ≡ living h.workers = ap living everywhere ∙ heard_live i h.moment h.workers in
-      let members : length (members_of (moves.hears i h)) ≡ length (moves.hears i h).workers = length-map (moves.hears i h).workers member_of in
+      let everywhere = changed_everywhere name_of_enlisted (λ x. record x { heard = h.moment }) (λ x. refl)
+      (i, 0) h.workers rising in
+      let long : length (moves.hears i h).workers ≡ length h.workers =
+      ap length everywhere ∙ length-map h.workers (hear_at i h.moment) in
+      let live : living (moves.hears i h).workers ≡ living h.workers =
+      ap living everywhere ∙ heard_live i h.moment h.workers in
+      let members : length (members_of (moves.hears i h)) ≡ length (moves.hears i h).workers =
+      length-map (moves.hears i h).workers member_of in
       let old = s.room in
-      record { mode = s.mode; roster = s.roster; is = s.is; shows = record { epoch = s.shows.epoch; version = s.shows.version; members = record { status = λ j. s.shows.members.status j ∙ ap status_of (sym (heard_same i h.moment j h.workers rising)); few = omega (arith, long, members, old) } }; room = omega (arith, long, live, old); minted = s.minted; replies = s.replies; said = s.said; root = s.root; stored = s.stored; epoch = s.epoch; only = s.only }
+      record {
+        mode = s.mode;
+        roster = s.roster;
+        is = s.is;
+        shows =
+            record {
+              epoch = s.shows.epoch;
+              version = s.shows.version;
+              members =
+                  record {
+                    status = λ j. s.shows.members.status j
+                        ∙ ap status_of (sym (heard_same i h.moment j h.workers rising));
+                    few = omega (arith, long, members, old);
+                  };
+            };
+        room = omega (arith, long, live, old);
+        minted = s.minted;
+        replies = s.replies;
+        said = s.said;
+        root = s.root;
+        stored = s.stored;
+        epoch = s.epoch;
+        only = s.only;
+      }
 
   -- somebody is told who is listed
   told_shown : (i : ℕ) → RosterShown v.rosters (roster_of h)
   told_shown i = record {
     roster = s.roster;
     shows = s.shows;
-    had = ⊎_elim (λ m. inl m) (λ all. inr (nobody (members_of h) (λ j. sym (s.shows.members.status j) ∙ all j))) ((rosters_reached (run_reached run)).house_had s.roster s.is);
+    had = ⊎_elim (λ m. inl m) (λ all. inr (nobody (members_of h) (λ j. sym (s.shows.members.status j) ∙ all j)))
+        ((rosters_reached (run_reached run)).house_had s.roster s.is);
   }
 
 -- a step that tells a worker who is listed
-pub tells_shown : (job : JobOf) (v : View) (run : Run (tables_meaning job) v) (i : ℕ) (h k : HouseOf) → name_of h ≡ name_of k → OpenShown v k → HouseStepShown job v h (moves.tells job i k)
-tells_shown job v run i h k name s = record { view = v; run = λ x. x; since = λ base x. x; keeps = all_kept v; others = λ j apart. all_same v j; used = refl; same_name = name; after = s; sent = one_shown v (moves.roster_for job i k) (told_shown job v run k s i); transfers = λ t m. inl m; fills = refl; keeps_transfers = λ k e. cc }
+pub tells_shown : (job : JobOf) (v : View) (run : Run (tables_meaning job) v) (i : ℕ) (h k : HouseOf)
+    → name_of h ≡ name_of k → OpenShown v k → HouseStepShown job v h (moves.tells job i k)
+tells_shown job v run i h k name s =
+    record {
+      view = v;
+      run = λ x. x;
+      since = λ base x. x;
+      keeps = all_kept v;
+      others = λ j apart. all_same v j;
+      used = refl;
+      same_name = name;
+      after = s;
+      sent = one_shown v (moves.roster_for job i k) (told_shown job v run k s i);
+      transfers = λ t m. inl m;
+      fills = refl;
+      keeps_transfers = λ k e. cc;
+    }
 
-module _ (job : JobOf) (v : View) (run : Run (tables_meaning job) v) (h : HouseOf) (s : OpenShown v h) (rising : AreInOrder name_of_enlisted h.workers) where
+module _ (job : JobOf) (v : View) (run : Run (tables_meaning job) v) (h : HouseOf) (s : OpenShown v h)
+    (rising : AreInOrder name_of_enlisted h.workers) where
   -- a Join
   pub joined_shown : (i : ℕ) → i ∈ v.used → of_worker i ≡ true → HouseAnswerShown job v h (cases.joined job i h)
   unfolding cases.by_status
   joined_shown i used worker = by_what (status_in i (members_of h)) refl
     where
-      by_what : (o : Option Status) → status_in i (members_of h) ≡ o → HouseAnswerShown job v h (cases.by_status o (house.Does (moves.tells job i (moves.hears i h))) (house.Does (moves.tells job i h)) (cases.new_joined job i h))
+      by_what : (o : Option Status) → status_in i (members_of h) ≡ o
+          → HouseAnswerShown job v h (cases.by_status o (house.Does (moves.tells job i (moves.hears i h)))
+          (house.Does (moves.tells job i h)) (cases.new_joined job i h))
       by_what None e = new_joined_shown job v run h s i e used worker
-      by_what (Some member.Live) e = tells_shown job v run i h (moves.hears i h) refl (hears_shown job v run h s i rising)
+      by_what (Some member.Live) e = tells_shown job v run i h (moves.hears i h) refl
+          (hears_shown job v run h s i rising)
       by_what (Some member.Dead) e = tells_shown job v run i h h refl s
       by_what (Some (member.Left heir)) e = tells_shown job v run i h h refl s
 
   -- a Beat
-  answered_shown : (b : Beat) (k : HouseOf) → name_of h ≡ name_of k → OpenShown v k → HouseAnswerShown job v h (cases.answered_beat job b k)
+  answered_shown : (b : Beat) (k : HouseOf) → name_of h ≡ name_of k → OpenShown v k
+      → HouseAnswerShown job v h (cases.answered_beat job b k)
   answered_shown b k name shown = by_version (nat_lt b.version k.version)
     where
-      by_version : (x : Bool) → HouseAnswerShown job v h (cond x (house.Does (moves.tells job b.from k)) (house.Does (house.sends [] k)))
+      by_version : (x : Bool) → HouseAnswerShown job v h
+          (cond x (house.Does (moves.tells job b.from k)) (house.Does (house.sends [] k)))
       by_version true = tells_shown job v run b.from h k name shown
       by_version false = quietly job v h k name shown
 
@@ -133,9 +188,12 @@ module _ (job : JobOf) (v : View) (run : Run (tables_meaning job) v) (h : HouseO
   unfolding cases.by_status
   own_beat_shown b = by_what (status_in b.from (members_of h))
     where
-      by_what : (o : Option Status) → HouseAnswerShown job v h (cases.by_status o (cases.answered_beat job b (moves.hears b.from h)) (cases.answered_beat job b h) house.Ignored)
+      by_what : (o : Option Status) → HouseAnswerShown job v h
+          (cases.by_status o (cases.answered_beat job b (moves.hears b.from h))
+          (cases.answered_beat job b h) house.Ignored)
       by_what None = tt
-      by_what (Some member.Live) = answered_shown b (moves.hears b.from h) refl (hears_shown job v run h s b.from rising)
+      by_what (Some member.Live) = answered_shown b (moves.hears b.from h) refl
+          (hears_shown job v run h s b.from rising)
       by_what (Some member.Dead) = answered_shown b h refl s
       by_what (Some (member.Left heir)) = answered_shown b h refl s
 
@@ -146,6 +204,7 @@ module _ (job : JobOf) (v : View) (run : Run (tables_meaning job) v) (h : HouseO
       by_other true = tells_shown job v run b.from h h refl s
       by_other false = tt
 
-      by_own : (x : Bool) → HouseAnswerShown job v h (cond x (cases.own_beat job b h) (cond (is_house to) (house.Does (moves.tells job b.from h)) house.Ignored))
+      by_own : (x : Bool) → HouseAnswerShown job v h
+          (cond x (cases.own_beat job b h) (cond (is_house to) (house.Does (moves.tells job b.from h)) house.Ignored))
       by_own true = own_beat_shown b
       by_own false = by_other (is_house to)

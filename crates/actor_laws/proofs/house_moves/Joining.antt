@@ -28,7 +28,8 @@ use Rattle.actor_laws.specs.house_moves.Steps.{HouseStepShown, HouseAnswerShown,
 use Rattle.actor_laws.proofs.house_moves.Listed.{kept_found, status_kept}
 use Rattle.actor_laws.proofs.house_moves.Publishing.{IsNext, next_roster, publishes_shown, tells_next}
 
-module _ (job : JobOf) (v : View) (run : Run (tables_meaning job) v) (h : HouseOf) (s : OpenShown v h) (i : ℕ) (unlisted : status_in i (members_of h) ≡ None) (used : i ∈ v.used) (worker : of_worker i ≡ true) where
+module _ (job : JobOf) (v : View) (run : Run (tables_meaning job) v) (h : HouseOf) (s : OpenShown v h) (i : ℕ)
+    (unlisted : status_in i (members_of h) ≡ None) (used : i ∈ v.used) (worker : of_worker i ≡ true) where
   abbrev new : Enlisted
   new = record { incarnation = i; status = member.Live; heard = h.moment }
 
@@ -39,7 +40,9 @@ module _ (job : JobOf) (v : View) (run : Run (tables_meaning job) v) (h : HouseO
   here = kept_found i ws ∙ ap status_kept (put_is_found name_of_enlisted new h.workers)
 
   beside : (j : ℕ) → (j ≡ i → ⊥) → status_in j (map member_of ws) ≡ status_in j (members_of h)
-  beside j other = kept_found j ws ∙ ap status_kept (put_stays name_of_enlisted (j, 0) new h.workers (λ z. other (ap (λ (k : ℕ × ℕ). k.0) z))) ∙ sym (kept_found j h.workers)
+  beside j other = kept_found j ws ∙ ap status_kept
+      (put_stays name_of_enlisted (j, 0) new h.workers (λ z. other (ap (λ (k : ℕ × ℕ). k.0) z)))
+      ∙ sym (kept_found j h.workers)
 
   absent : item_in name_of_enlisted (i, 0) h.workers ≡ None
   absent = by_item (item_in name_of_enlisted (i, 0) h.workers) (sym (kept_found i h.workers) ∙ unlisted)
@@ -51,20 +54,26 @@ module _ (job : JobOf) (v : View) (run : Run (tables_meaning job) v) (h : HouseO
   -- what was said of others is said of them
   stays : (j : ℕ) (x : Status) → status_in j (members_of h) ≡ Some x → status_in j (map member_of ws) ≡ Some x
   stays j x e = ⊎_elim
-      (λ (same : j ≡ i). let none : status_in j (members_of h) ≡ None = rw same unlisted in let two : None ≡ Some x = sym none ∙ e in cc)
+      (λ (same : j ≡ i). let none : status_in j (members_of h) ≡ None = rw same unlisted in let two : None ≡ Some x =
+      sym none ∙ e in cc)
       (λ other. beside j other ∙ e)
       (same_or j i)
 
-  stood : (j : ℕ) (o : Option Status) → status_in j (map member_of ws) ≡ o → (o ≡ Some member.Live → ⊥) → status_in j (members_of h) ≡ o
+  stood : (j : ℕ) (o : Option Status) → status_in j (map member_of ws) ≡ o → (o ≡ Some member.Live → ⊥)
+      → status_in j (members_of h) ≡ o
   stood j o e other = ⊎_elim
-      (λ (same : j ≡ i). let live : status_in j (map member_of ws) ≡ Some member.Live = rw same here in absurd (other (sym e ∙ live)))
+      (λ (same : j ≡ i). let live : status_in j (map member_of ws) ≡ Some member.Live =
+      rw same here in absurd (other (sym e ∙ live)))
       (λ apart. sym (beside j apart) ∙ e)
       (same_or j i)
 
   next : IsNext v h ws 0
   next =
-      let longer : length ws ≡ 1 + length h.workers = sum_put name_of_enlisted (λ w. 1) length (λ w rest. omega arith) new h.workers absent in
-      let more : living ws ≡ 1 + living h.workers = sum_put name_of_enlisted (λ w. one_if (says_live (Some w.status))) living (λ w rest. refl) new h.workers absent in
+      let longer : length ws ≡ 1 + length h.workers =
+      sum_put name_of_enlisted (λ w. 1) length (λ w rest. omega arith) new h.workers absent in
+      let more : living ws ≡ 1 + living h.workers =
+      sum_put name_of_enlisted (λ w. one_if (says_live (Some w.status))) living
+      (λ w rest. refl) new h.workers absent in
       record {
         unlisted = λ j e. stood j None e (λ z. cc);
         dead = λ j e. stays j member.Dead e;
@@ -78,11 +87,14 @@ module _ (job : JobOf) (v : View) (run : Run (tables_meaning job) v) (h : HouseO
       }
 
   lists_shown : HouseStepShown job v h (moves.tells job i (moves.lists i h))
-  lists_shown = publishes_shown job v run h s ws 0 next (moves.roster_for job i (moves.lists i h) ∷ []) (one_shown (publish v (next_roster job v run h s ws 0 next)) (moves.roster_for job i (moves.lists i h)) (tells_next job v run h s ws 0 next i))
+  lists_shown = publishes_shown job v run h s ws 0 next (moves.roster_for job i (moves.lists i h) ∷ [])
+      (one_shown (publish v (next_roster job v run h s ws 0 next)) (moves.roster_for job i (moves.lists i h))
+      (tells_next job v run h s ws 0 next i))
 
   pub new_joined_shown : HouseAnswerShown job v h (cases.new_joined job i h)
   new_joined_shown = by_room (nat_lt (length h.workers) 4096)
     where
-      by_room : (b : Bool) → HouseAnswerShown job v h (cond b (house.Does (moves.tells job i (moves.lists i h))) (house.Refused error.RosterFull))
+      by_room : (b : Bool) → HouseAnswerShown job v h
+          (cond b (house.Does (moves.tells job i (moves.lists i h))) (house.Refused error.RosterFull))
       by_room false = tt
       by_room true = lists_shown

@@ -16,9 +16,11 @@ abbrev pub lives : Enlisted → Bool
 lives w = says_live (Some w.status)
 
 -- nobody comes to life
-pub no_more_live : (f : Enlisted → Enlisted) → ((w : Enlisted) → one_if (lives (f w)) ≤ one_if (lives w)) → (ws : List Enlisted) → living (map f ws) ≤ living ws
+pub no_more_live : (f : Enlisted → Enlisted) → ((w : Enlisted) → one_if (lives (f w)) ≤ one_if (lives w))
+    → (ws : List Enlisted) → living (map f ws) ≤ living ws
 no_more_live f less [] = omega arith
-no_more_live f less (w ∷ ws) = let rest : living (map f ws) ≤ living ws = no_more_live f less ws in omega (arith, less w, rest)
+no_more_live f less (w ∷ ws) = let rest : living (map f ws) ≤ living ws =
+    no_more_live f less ws in omega (arith, less w, rest)
 
 module _ (limit now : ℕ) where
   pub declare_dead_less : (w : Enlisted) → one_if (lives (declared_dead limit now w)) ≤ one_if (lives w)
@@ -50,13 +52,20 @@ module _ (i : ℕ) (s : Status) (gone : says_live (Some s) ≡ false) where
       by_test true = omega (arith, none)
       by_test false = omega arith
 
-  pub one_fewer : (ws : List Enlisted) → says_live (status_in i (map member_of ws)) ≡ true → living (map say_at ws) + 1 ≤ living ws
+  pub one_fewer : (ws : List Enlisted) → says_live (status_in i (map member_of ws)) ≡ true
+      → living (map say_at ws) + 1 ≤ living ws
   one_fewer [] live = cc
-  one_fewer (w ∷ ws) live = by_test (one_fewer ws) (no_more_live say_at say_less ws) (has_key name_of_enlisted name_cmp (i, 0) w) live
+  one_fewer (w ∷ ws) live = by_test (one_fewer ws) (no_more_live say_at say_less ws)
+      (has_key name_of_enlisted name_cmp (i, 0) w) live
     where
-      by_test : (says_live (status_in i (map member_of ws)) ≡ true → living (map say_at ws) + 1 ≤ living ws) → living (map say_at ws) ≤ living ws → (b : Bool) → says_live (cond b (Some (member_of w)) (item_in name_of_member (i, 0) (map member_of ws)) >>= (λ m. Some m.status)) ≡ true → one_if (lives (cond b (record w { status = s }) w)) + living (map say_at ws) + 1 ≤ one_if (lives w) + living ws
+      by_test : (says_live (status_in i (map member_of ws)) ≡ true → living (map say_at ws) + 1 ≤ living ws)
+          → living (map say_at ws) ≤ living ws → (b : Bool)
+          → says_live (cond b (Some (member_of w)) (item_in name_of_member (i, 0) (map member_of ws)) >>=
+          (λ m. Some m.status)) ≡ true → one_if (lives (cond b (record w { status = s }) w)) + living
+          (map say_at ws) + 1 ≤ one_if (lives w) + living ws
       by_test rest less true at =
           let none : one_if (says_live (Some s)) ≡ 0 = ap one_if gone in
           let one : one_if (lives w) ≡ 1 = ap one_if at in
           omega (arith, none, one, less)
-      by_test rest less false at = let behind : living (map say_at ws) + 1 ≤ living ws = rest at in omega (arith, behind)
+      by_test rest less false at = let behind : living (map say_at ws) + 1 ≤ living ws =
+          rest at in omega (arith, behind)

@@ -20,7 +20,11 @@ pub data Goes (v : View) (h : HouseOf) (ws : List Enlisted) (more i : ℕ) : Sta
   dies : Goes v h ws more i member.Live member.Dead
   leaves_to : (heir : ℕ) → NewlyLeft v h ws more i heir → Goes v h ws more i member.Live (member.Left heir)
 
-module _ (v : View) (h : HouseOf) (f : Enlisted → Enlisted) (names : (w : Enlisted) → name_of_enlisted (f w) ≡ name_of_enlisted w) (more : ℕ) (goes : (i : ℕ) (w : Enlisted) → item_in name_of_enlisted (i, 0) h.workers ≡ Some w → Goes v h (map f h.workers) more i w.status (f w).status) (fewer : living (map f h.workers) + more ≤ living h.workers) where
+module _ (v : View) (h : HouseOf) (f : Enlisted → Enlisted) (names : (w : Enlisted)
+    → name_of_enlisted (f w) ≡ name_of_enlisted w) (more : ℕ) (goes : (i : ℕ) (w : Enlisted)
+    → item_in name_of_enlisted (i, 0) h.workers ≡ Some w
+    → Goes v h (map f h.workers) more i w.status (f w).status)
+    (fewer : living (map f h.workers) + more ≤ living h.workers) where
   abbrev ws : List Enlisted
   ws = map f h.workers
 
@@ -42,7 +46,8 @@ module _ (v : View) (h : HouseOf) (f : Enlisted → Enlisted) (names : (w : Enli
   still_unlisted (Some w) e = cc
 
   -- who didn't live stays what it was
-  stays : (i : ℕ) (z : Status) → (z ≡ member.Live → ⊥) → (o : Option Enlisted) → item i ≡ o → status_kept o ≡ Some z → status_kept (option_map f o) ≡ Some z
+  stays : (i : ℕ) (z : Status) → (z ≡ member.Live → ⊥) → (o : Option Enlisted) → item i ≡ o → status_kept o ≡ Some z
+      → status_kept (option_map f o) ≡ Some z
   stays i z dead None there e = cc
   stays i z dead (Some w) there e = by_goes w.status (f w).status (goes i w there) e
     where
@@ -51,11 +56,13 @@ module _ (v : View) (h : HouseOf) (f : Enlisted → Enlisted) (names : (w : Enli
       by_goes _ _ dies same = absurd (dead (sym (some_same same)))
       by_goes _ _ (leaves_to heir new) same = absurd (dead (sym (some_same same)))
 
-  left : (i x : ℕ) (o : Option Enlisted) → item i ≡ o → status_kept (option_map f o) ≡ Some (member.Left x) → (status_kept o ≡ Some (member.Left x)) ⊎ NewlyLeft v h ws more i x
+  left : (i x : ℕ) (o : Option Enlisted) → item i ≡ o → status_kept (option_map f o) ≡ Some (member.Left x)
+      → (status_kept o ≡ Some (member.Left x)) ⊎ NewlyLeft v h ws more i x
   left i x None there e = cc
   left i x (Some w) there e = by_goes w.status (f w).status (goes i w there) e
     where
-      by_goes : (y z : Status) → Goes v h ws more i y z → Some z ≡ Some (member.Left x) → (Some y ≡ Some (member.Left x)) ⊎ NewlyLeft v h ws more i x
+      by_goes : (y z : Status) → Goes v h ws more i y z → Some z ≡ Some (member.Left x)
+          → (Some y ≡ Some (member.Left x)) ⊎ NewlyLeft v h ws more i x
       by_goes _ _ (stands y) same = inl same
       by_goes _ _ dies same = cc
       by_goes _ _ (leaves_to heir new) same = let heir_is : heir ≡ x = cc in inr (rw heir_is at new)
@@ -67,5 +74,6 @@ module _ (v : View) (h : HouseOf) (f : Enlisted → Enlisted) (names : (w : Enli
     left = λ i x e. is i ∙ stays i (member.Left x) (λ z. cc) (item i) refl (sym (was i) ∙ e);
     used = λ i listed. inl (λ e. listed (is i ∙ still_unlisted (item i) (sym (was i) ∙ e)));
     leaves = λ i x e. ⊎_elim (λ old. inl (was i ∙ old)) (λ new. inr new) (left i x (item i) refl (sym (is i) ∙ e));
-    room = let same : length (map f h.workers) ≡ length h.workers = length-map h.workers f in omega (arith, same, fewer);
+    room = let same : length (map f h.workers) ≡ length h.workers =
+        length-map h.workers f in omega (arith, same, fewer);
   }

@@ -69,46 +69,66 @@ pub record NewlyLeft (v : View) (h : HouseOf) (ws : List Enlisted) (more i heir 
 pub record IsNext (v : View) (h : HouseOf) (ws : List Enlisted) (more : ℕ) : Type 0 where
   pub unlisted : (i : ℕ) → status_in i (map member_of ws) ≡ None → status_in i (members_of h) ≡ None
   pub dead : (i : ℕ) → status_in i (members_of h) ≡ Some member.Dead → status_in i (map member_of ws) ≡ Some member.Dead
-  pub left : (i x : ℕ) → status_in i (members_of h) ≡ Some (member.Left x) → status_in i (map member_of ws) ≡ Some (member.Left x)
-  pub used : (i : ℕ) → (status_in i (map member_of ws) ≡ None → ⊥) → (status_in i (members_of h) ≡ None → ⊥) ⊎ ((i ∈ v.used) × (of_worker i ≡ true))
-  pub leaves : (i x : ℕ) → status_in i (map member_of ws) ≡ Some (member.Left x) → (status_in i (members_of h) ≡ Some (member.Left x)) ⊎ NewlyLeft v h ws more i x
+  pub left : (i x : ℕ) → status_in i (members_of h) ≡ Some (member.Left x)
+      → status_in i (map member_of ws) ≡ Some (member.Left x)
+  pub used : (i : ℕ) → (status_in i (map member_of ws) ≡ None → ⊥)
+      → (status_in i (members_of h) ≡ None → ⊥) ⊎ ((i ∈ v.used) × (of_worker i ≡ true))
+  pub leaves : (i x : ℕ) → status_in i (map member_of ws) ≡ Some (member.Left x)
+      → (status_in i (members_of h) ≡ Some (member.Left x)) ⊎ NewlyLeft v h ws more i x
   pub room : living ws + more + length h.workers ≤ living h.workers + length ws
 
-module _ (job : JobOf) (v : View) (run : Run (tables_meaning job) v) (h : HouseOf) (s : OpenShown v h) (ws : List Enlisted) (more : ℕ) (next : IsNext v h ws more) where
+module _ (job : JobOf) (v : View) (run : Run (tables_meaning job) v) (h : HouseOf) (s : OpenShown v h)
+    (ws : List Enlisted) (more : ℕ) (next : IsNext v h ws more) where
   -- the next roster
   abbrev pub next_roster : tables.Roster
-  next_roster = record { epoch = s.roster.epoch; version = h.version + 1; left = s.roster.left + more; status = λ i. status_of (status_in i (map member_of ws)) }
+  next_roster = record {
+    epoch = s.roster.epoch;
+    version = h.version + 1;
+    left = s.roster.left + more;
+    status = λ i. status_of (status_in i (map member_of ws));
+  }
 
   was : (i : ℕ) (x : tables.Status) → s.roster.status i ≡ x → status_of (status_in i (members_of h)) ≡ x
   was i x e = sym (s.shows.members.status i) ∙ e
 
   grows : Grows s.roster next_roster
   grows = record {
-    listed = λ i e. s.shows.members.status i ∙ ap status_of (next.unlisted i (none_of (status_in i (map member_of ws)) e));
+    listed = λ i e. s.shows.members.status i
+        ∙ ap status_of (next.unlisted i (none_of (status_in i (map member_of ws)) e));
     dead = λ i e. ap status_of (next.dead i (dead_of (status_in i (members_of h)) (was i tables.Dead e)));
     left = λ i x e. ap status_of (next.left i x (left_of (status_in i (members_of h)) x (was i (tables.Left x) e)));
   }
 
   -- a roster that lists somebody was had
   had : (i : ℕ) → (status_in i (members_of h) ≡ None → ⊥) → s.roster ∈ v.rosters
-  had i listed = ⊎_elim (λ m. m) (λ all. absurd (listed (none_of (status_in i (members_of h)) (sym (s.shows.members.status i) ∙ all i)))) ((rosters_reached (run_reached run)).house_had s.roster s.is)
+  had i listed = ⊎_elim (λ m. m) (λ all.
+      absurd (listed (none_of (status_in i (members_of h)) (sym (s.shows.members.status i) ∙ all i))))
+      ((rosters_reached (run_reached run)).house_had s.roster s.is)
 
   members : (i : ℕ) → (next_roster.status i ≡ tables.Unlisted → ⊥) → (i ∈ v.used) × (of_worker i ≡ true)
   members i listed = ⊎_elim
-      (λ (old : status_in i (members_of h) ≡ None → ⊥). (rosters_reached (run_reached run)).members s.roster i (had i old) (λ e. old (none_of (status_in i (members_of h)) (was i tables.Unlisted e))))
+      (λ (old : status_in i (members_of h) ≡ None
+      → ⊥). (rosters_reached (run_reached run)).members s.roster i (had i old)
+      (λ e. old (none_of (status_in i (members_of h)) (was i tables.Unlisted e))))
       (λ new. new)
       (next.used i (λ e. listed (ap status_of e)))
 
   left : (i x : ℕ) → next_roster.status i ≡ tables.Left x → ShowsLeft v next_roster.epoch i x
   left i x e = ⊎_elim
-      (λ (old : status_in i (members_of h) ≡ Some (member.Left x)). before s.roster (had i (λ none. let two : None ≡ Some (member.Left x) = sym none ∙ old in cc)) refl (s.shows.members.status i ∙ ap status_of old))
-      (λ (new : NewlyLeft v h ws more i x). now s.roster new.leave (had i new.listed) new.sent new.from (new.epoch ∙ sym s.shows.epoch) (resolved s.roster (members_of h) s.shows.members new.leave.heir x new.way))
+      (λ (old : status_in i (members_of h) ≡ Some (member.Left x)). before s.roster
+      (had i (λ none. let two : None ≡ Some (member.Left x) = sym none ∙ old in cc)) refl (s.shows.members.status i
+      ∙ ap status_of old))
+      (λ (new : NewlyLeft v h ws more i x). now s.roster new.leave (had i new.listed) new.sent new.from (new.epoch
+      ∙ sym s.shows.epoch) (resolved s.roster (members_of h) s.shows.members new.leave.heir x new.way))
       (next.leaves i x (left_of (status_in i (map member_of ws)) x e))
 
-  heir_lives : (i x : ℕ) → next_roster.status i ≡ tables.Left x → (s.roster.status i ≡ tables.Left x) ⊎ ((next_roster.status x ≡ tables.Live) × (s.roster.left < next_roster.left))
+  heir_lives : (i x : ℕ) → next_roster.status i ≡ tables.Left x
+      → (s.roster.status i ≡ tables.Left x)
+      ⊎ ((next_roster.status x ≡ tables.Live) × (s.roster.left < next_roster.left))
   heir_lives i x e = ⊎_elim
       (λ (old : status_in i (members_of h) ≡ Some (member.Left x)). inl (s.shows.members.status i ∙ ap status_of old))
-      (λ (new : NewlyLeft v h ws more i x). let counted = new.counted in inr (ap status_of new.lives, omega (arith, counted)))
+      (λ (new : NewlyLeft v h ws more i x). let counted =
+      new.counted in inr (ap status_of new.lives, omega (arith, counted)))
       (next.leaves i x (left_of (status_in i (map member_of ws)) x e))
 
   may : MayPublish v s.roster next_roster
@@ -124,10 +144,16 @@ module _ (job : JobOf) (v : View) (run : Run (tables_meaning job) v) (h : HouseO
   }
 
   shows : ShowsRoster next_roster (roster_of (with_workers ws h))
-  shows = let room = next.room in let old = s.room in let same = length-map ws member_of in record { epoch = s.shows.epoch; version = refl; members = record { status = λ i. refl; few = omega (arith, room, old, same) } }
+  shows = let room = next.room in let old = s.room in let same =
+      length-map ws member_of in record {
+        epoch = s.shows.epoch;
+        version = refl;
+        members = record { status = λ i. refl; few = omega (arith, room, old, same) };
+      }
 
   -- the tables after it show the clearinghouse with these workers, and what it tells
-  pub publishes_shown : (sent : List PacketOf) → AllShown (publish v next_roster) sent → HouseStepShown job v h (house.sends sent (with_workers ws h))
+  pub publishes_shown : (sent : List PacketOf) → AllShown (publish v next_roster) sent
+      → HouseStepShown job v h (house.sends sent (with_workers ws h))
   publishes_shown sent told =
       let act : acts.Act v (publish v next_roster) = acts.publishes s.roster next_roster may in
       let view : View = publish v next_roster in
@@ -142,7 +168,20 @@ module _ (job : JobOf) (v : View) (run : Run (tables_meaning job) v) (h : HouseO
         others = λ j apart. assumption (all_same v j);
         used = refl;
         same_name = refl;
-        after = record { mode = s.mode; roster = next_roster; is = refl; shows = shows; room = omega (arith, room, old); minted = s.minted; replies = s.replies; said = λ t r e. packet_kept keeps r.packet (s.said t r e); root = s.root; stored = s.stored; epoch = s.epoch; only = s.only };
+        after = record {
+          mode = s.mode;
+          roster = next_roster;
+          is = refl;
+          shows = shows;
+          room = omega (arith, room, old);
+          minted = s.minted;
+          replies = s.replies;
+          said = λ t r e. packet_kept keeps r.packet (s.said t r e);
+          root = s.root;
+          stored = s.stored;
+          epoch = s.epoch;
+          only = s.only;
+        };
         sent = told;
         transfers = λ t m. inl m;
         fills = refl;

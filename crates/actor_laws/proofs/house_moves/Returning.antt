@@ -52,13 +52,20 @@ the_root g None (Some r) s e = absurd s
 the_root g (Some k) None s e = absurd s
 the_root g (Some k) (Some r) s e = ap (λ (x : Grant). Some x) (s ∙ exact_grants r.grant g e)
 
-module _ (job : JobOf) (v : View) (run : Run (tables_meaning job) v) (h : HouseOf) (s : OpenShown v h) (b : TaskResult) (came : result_to b.grant (name_of h) (outcome_number b.outcome) ∈ v.results) where
+module _ (job : JobOf) (v : View) (run : Run (tables_meaning job) v) (h : HouseOf) (s : OpenShown v h) (b : TaskResult)
+    (came : result_to b.grant (name_of h) (outcome_number b.outcome) ∈ v.results) where
   abbrev ack : PacketOf
   ack = moves.packet job b.from (body.ResultAck (record { grant = b.grant }))
 
   settles_shown : is_root b.grant h.root ≡ false → HouseStepShown job v h (house.sends (ack ∷ []) h)
   settles_shown other =
-      let may : MaySettleAtHouse v (name_of h) b.grant = record { house = s.mode; outcome = outcome_number b.outcome; result = came; other = not_root b.grant v.root h.root s.root other } in
+      let may : MaySettleAtHouse v (name_of h) b.grant =
+      record {
+        house = s.mode;
+        outcome = outcome_number b.outcome;
+        result = came;
+        other = not_root b.grant v.root h.root s.root other;
+      } in
       let act : acts.Act v (settle v b.grant) = acts.settles_at_house (name_of h) b.grant may in
       let view : View = settle v b.grant in
       let keeps : KeepsSent v view = keeps_one act in
@@ -70,7 +77,20 @@ module _ (job : JobOf) (v : View) (run : Run (tables_meaning job) v) (h : HouseO
         others = λ j apart. assumption (all_same v j);
         used = refl;
         same_name = refl;
-        after = record { mode = s.mode; roster = s.roster; is = s.is; shows = s.shows; room = s.room; minted = s.minted; replies = s.replies; said = λ t r e. packet_kept keeps r.packet (s.said t r e); root = s.root; stored = s.stored; epoch = s.epoch; only = s.only };
+        after = record {
+          mode = s.mode;
+          roster = s.roster;
+          is = s.is;
+          shows = s.shows;
+          room = s.room;
+          minted = s.minted;
+          replies = s.replies;
+          said = λ t r e. packet_kept keeps r.packet (s.said t r e);
+          root = s.root;
+          stored = s.stored;
+          epoch = s.epoch;
+          only = s.only;
+        };
         sent = one_shown view ack (inl refl);
         transfers = λ t m. inl m;
         fills = refl;
@@ -79,8 +99,10 @@ module _ (job : JobOf) (v : View) (run : Run (tables_meaning job) v) (h : HouseO
 
   records_shown : is_root b.grant h.root ≡ true → HouseStepShown job v h (moves.records b.outcome (ack ∷ []) h)
   records_shown own =
-      let may : MayCommit v (name_of h) b.grant (outcome_number b.outcome) = record { house = s.mode; recorded = the_root b.grant v.root h.root s.root own; result = came } in
-      let act : acts.Act v (commit v b.grant (outcome_number b.outcome)) = acts.commits (name_of h) b.grant (outcome_number b.outcome) may in
+      let may : MayCommit v (name_of h) b.grant (outcome_number b.outcome) =
+      record { house = s.mode; recorded = the_root b.grant v.root h.root s.root own; result = came } in
+      let act : acts.Act v (commit v b.grant (outcome_number b.outcome)) =
+      acts.commits (name_of h) b.grant (outcome_number b.outcome) may in
       let view : View = commit v b.grant (outcome_number b.outcome) in
       let keeps : KeepsSent v view = keeps_one act in
       record {
@@ -91,7 +113,20 @@ module _ (job : JobOf) (v : View) (run : Run (tables_meaning job) v) (h : HouseO
         others = λ j apart. assumption (all_same v j);
         used = refl;
         same_name = refl;
-        after = record { mode = s.mode; roster = s.roster; is = s.is; shows = s.shows; room = s.room; minted = s.minted; replies = s.replies; said = λ t r e. packet_kept keeps r.packet (s.said t r e); root = tt; stored = refl; epoch = s.epoch; only = s.only };
+        after = record {
+          mode = s.mode;
+          roster = s.roster;
+          is = s.is;
+          shows = s.shows;
+          room = s.room;
+          minted = s.minted;
+          replies = s.replies;
+          said = λ t r e. packet_kept keeps r.packet (s.said t r e);
+          root = tt;
+          stored = refl;
+          epoch = s.epoch;
+          only = s.only;
+        };
         sent = one_shown view ack (inl refl);
         transfers = λ t m. inl m;
         fills = refl;
@@ -101,10 +136,15 @@ module _ (job : JobOf) (v : View) (run : Run (tables_meaning job) v) (h : HouseO
   pub returned_shown : HouseAnswerShown job v h (cases.returned job b h)
   returned_shown = by_root (is_root b.grant h.root) refl
     where
-      by_room : is_root b.grant h.root ≡ true → (x : Bool) → HouseAnswerShown job v h (cond x (house.Does (moves.records b.outcome (ack ∷ []) h)) (house.Refused error.Spent))
+      by_room : is_root b.grant h.root ≡ true → (x : Bool)
+          → HouseAnswerShown job v h (cond x (house.Does (moves.records b.outcome (ack ∷ []) h))
+          (house.Refused error.Spent))
       by_room own true = records_shown own
       by_room own false = tt
 
-      by_root : (x : Bool) → is_root b.grant h.root ≡ x → HouseAnswerShown job v h (cond (not x) (house.Does (house.sends (ack ∷ []) h)) (cond (nat_lt (h.sequence + 1) (2 ^ 64)) (house.Does (moves.records b.outcome (ack ∷ []) h)) (house.Refused error.Spent)))
+      by_root : (x : Bool) → is_root b.grant h.root ≡ x
+          → HouseAnswerShown job v h (cond (not x) (house.Does (house.sends (ack ∷ []) h))
+          (cond (nat_lt (h.sequence + 1) (2 ^ 64)) (house.Does (moves.records b.outcome (ack ∷ []) h))
+          (house.Refused error.Spent)))
       by_root false e = settles_shown e
       by_root true e = by_room e (nat_lt (h.sequence + 1) (2 ^ 64))

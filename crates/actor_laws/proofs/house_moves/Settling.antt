@@ -22,10 +22,26 @@ use Rattle.actor_laws.proofs.house_moves.Then.{quietly}
 
 module _ (job : JobOf) (v : View) (h : HouseOf) (s : OpenShown v h) where
   -- another has the work of its holder
-  moved_to : (r : RootGrant) (holder : ℕ) → h.root ≡ Some r → HouseStepShown job v h (moves.settles_to job r (Some holder) h)
+  moved_to : (r : RootGrant) (holder : ℕ) → h.root ≡ Some r
+      → HouseStepShown job v h (moves.settles_to job r (Some holder) h)
   moved_to r holder out =
-      let root : ShowsRoot v.root (Some (record r { holder = holder })) = by_table v.root (let k = s.root in rw out at k) in
-      quietly job v h (record h { root = Some (record r { holder = holder }) }) refl (record { mode = s.mode; roster = s.roster; is = s.is; shows = s.shows; room = s.room; minted = s.minted; replies = s.replies; said = s.said; root = root; stored = s.stored; epoch = s.epoch; only = s.only })
+      let root : ShowsRoot v.root (Some (record r { holder = holder })) =
+      by_table v.root (let k = s.root in rw out at k) in
+      quietly job v h (record h { root = Some (record r { holder = holder }) }) refl
+      (record {
+        mode = s.mode;
+        roster = s.roster;
+        is = s.is;
+        shows = s.shows;
+        room = s.room;
+        minted = s.minted;
+        replies = s.replies;
+        said = s.said;
+        root = root;
+        stored = s.stored;
+        epoch = s.epoch;
+        only = s.only;
+      })
     where
       by_table : (o : Option Grant) → ShowsRoot o (Some r) → ShowsRoot o (Some (record r { holder = holder }))
       by_table None k = k
@@ -49,21 +65,36 @@ module _ (job : JobOf) (v : View) (h : HouseOf) (s : OpenShown v h) where
             others = λ j apart. assumption (all_same v j);
             used = refl;
             same_name = refl;
-            after = record { mode = s.mode; roster = s.roster; is = s.is; shows = s.shows; room = s.room; minted = s.minted; replies = s.replies; said = λ t y e. packet_kept keeps y.packet (s.said t y e); root = tt; stored = s.stored; epoch = s.epoch; only = s.only };
+            after = record {
+              mode = s.mode;
+              roster = s.roster;
+              is = s.is;
+              shows = s.shows;
+              room = s.room;
+              minted = s.minted;
+              replies = s.replies;
+              said = λ t y e. packet_kept keeps y.packet (s.said t y e);
+              root = tt;
+              stored = s.stored;
+              epoch = s.epoch;
+              only = s.only;
+            };
             sent = one_shown view abort (inl (sym same));
             transfers = λ t m. inl m;
             fills = refl;
             keeps_transfers = λ k e. cc;
           }
 
-      by_table : (o : Option Grant) → v.root ≡ o → ShowsRoot o (Some r) → HouseStepShown job v h (moves.settles_to job r None h)
+      by_table : (o : Option Grant) → v.root ≡ o → ShowsRoot o (Some r)
+          → HouseStepShown job v h (moves.settles_to job r None h)
       by_table None is k = absurd k
       by_table (Some g) is k = by_grant g is k
 
   pub settles_shown : HouseStepShown job v h (moves.settles job h)
   settles_shown = by_root h.root refl
     where
-      by_holder : (r : RootGrant) → h.root ≡ Some r → (o : Option ℕ) → HouseStepShown job v h (moves.settles_to job r o h)
+      by_holder : (r : RootGrant) → h.root ≡ Some r → (o : Option ℕ)
+          → HouseStepShown job v h (moves.settles_to job r o h)
       by_holder r out None = closed r out
       by_holder r out (Some holder) = moved_to r holder out
 

@@ -28,17 +28,21 @@ use Rattle.actor_laws.proofs.house_moves.Leaving.{left_shown_by}
 use Rattle.actor_laws.proofs.house_moves.Returning.{returned_shown}
 use Rattle.actor_laws.proofs.house_moves.Stealing.{stolen_shown}
 
-module _ (job : JobOf) (v : View) (run : Run (tables_meaning job) v) (h : HouseOf) (s : OpenShown v h) (rising : AreInOrder name_of_enlisted h.workers) where
+module _ (job : JobOf) (v : View) (run : Run (tables_meaning job) v) (h : HouseOf) (s : OpenShown v h)
+    (rising : AreInOrder name_of_enlisted h.workers) where
   -- one that goes to this clearinghouse
-  if_own_shown : (to : ℕ) (a : house.HouseAnswer) → (to ≡ name_of h → HouseAnswerShown job v h a) → HouseAnswerShown job v h (cases.if_own job to h a)
+  if_own_shown : (to : ℕ) (a : house.HouseAnswer) → (to ≡ name_of h → HouseAnswerShown job v h a)
+      → HouseAnswerShown job v h (cases.if_own job to h a)
   if_own_shown to a own = by_name (nat_eq to (name_of h)) refl
     where
       by_name : (b : Bool) → nat_eq to (name_of h) ≡ b → HouseAnswerShown job v h (cond b a house.Ignored)
       by_name false other = tt
       by_name true same = own (grind (arith, same))
 
-  leave_shown : (to : ℕ) (b : Leave) → BodyShown v to (body.Leave b) → to ≡ name_of h → HouseAnswerShown job v h (cases.left job b h)
-  leave_shown to b told own = left_shown_by job v run h s rising b (let same : told.0 ≡ h.epoch = one_name (sym told.1 ∙ own) in let sent = told.2 in rw same at sent)
+  leave_shown : (to : ℕ) (b : Leave) → BodyShown v to (body.Leave b) → to ≡ name_of h
+      → HouseAnswerShown job v h (cases.left job b h)
+  leave_shown to b told own = left_shown_by job v run h s rising b (let same : told.0 ≡ h.epoch =
+      one_name (sym told.1 ∙ own) in let sent = told.2 in rw same at sent)
     where
       one_name : {x y : ℕ} → house_of x ≡ house_of y → x ≡ y
       one_name e = omega (arith, e)
@@ -53,7 +57,20 @@ module _ (job : JobOf) (v : View) (run : Run (tables_meaning job) v) (h : HouseO
     others = λ j apart. all_same v j;
     used = refl;
     same_name = refl;
-    after = record { mode = s.mode; roster = s.roster; is = s.is; shows = s.shows; room = s.room; minted = s.minted; replies = s.replies; said = s.said; root = s.root; stored = s.stored; epoch = s.epoch; only = s.only };
+    after = record {
+      mode = s.mode;
+      roster = s.roster;
+      is = s.is;
+      shows = s.shows;
+      room = s.room;
+      minted = s.minted;
+      replies = s.replies;
+      said = s.said;
+      root = s.root;
+      stored = s.stored;
+      epoch = s.epoch;
+      only = s.only;
+    };
     sent = λ p m. absurd m;
     transfers = λ t m. inl m;
     fills = refl;
@@ -66,11 +83,14 @@ module _ (job : JobOf) (v : View) (run : Run (tables_meaning job) v) (h : HouseO
       x : SavedValue
       x = record { place = b.place; value = b.value }
 
-      by_room : (more : Bool) → HouseAnswerShown job v h (cond more (house.Does (moves.saves (put_saved x h.saved) h)) (house.Refused error.Spent))
+      by_room : (more : Bool) → HouseAnswerShown job v h
+          (cond more (house.Does (moves.saves (put_saved x h.saved) h)) (house.Refused error.Spent))
       by_room true = saves_shown (put_saved x h.saved)
       by_room false = tt
 
-      by_may : (not_so : Bool) → HouseAnswerShown job v h (cond not_so house.Ignored (cond (nat_lt (h.sequence + 1) (2 ^ 64)) (house.Does (moves.saves (put_saved x h.saved) h)) (house.Refused error.Spent)))
+      by_may : (not_so : Bool) → HouseAnswerShown job v h
+          (cond not_so house.Ignored (cond (nat_lt (h.sequence + 1) (2 ^ 64))
+          (house.Does (moves.saves (put_saved x h.saved) h)) (house.Refused error.Spent)))
       by_may true = tt
       by_may false = by_room (nat_lt (h.sequence + 1) (2 ^ 64))
 
@@ -81,8 +101,10 @@ module _ (job : JobOf) (v : View) (run : Run (tables_meaning job) v) (h : HouseO
       by_any : (x : Bool) → HouseAnswerShown job v h (cond x (cases.joined job b.from h) house.Ignored)
       by_any false = tt
       by_any true = joined_shown job v run h s rising b.from told.0 told.1
-  body_shown to (body.Steal b) told = if_own_shown to (cases.stolen job b h) (λ own. stolen_shown job v run h s b (rw own at told))
-  body_shown to (body.Result b) told = if_own_shown to (cases.returned job b h) (λ own. returned_shown job v run h s b (rw own at told))
+  body_shown to (body.Steal b) told = if_own_shown to (cases.stolen job b h)
+      (λ own. stolen_shown job v run h s b (rw own at told))
+  body_shown to (body.Result b) told =
+      if_own_shown to (cases.returned job b h) (λ own. returned_shown job v run h s b (rw own at told))
   body_shown to (body.Leave b) told = if_own_shown to (cases.left job b h) (leave_shown to b told)
   body_shown to (body.Beat b) told = beats_shown job v run h s rising to b
   body_shown to (body.Save b) told = if_own_shown to (cases.saved b h) (λ own. saved_shown b)

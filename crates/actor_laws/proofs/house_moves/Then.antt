@@ -11,11 +11,27 @@ use Rattle.actor_laws.specs.house_moves.Shows.{OpenShown}
 use Rattle.actor_laws.specs.house_moves.Steps.{HouseStepShown}
 
 -- nothing is sent, and the tables that show another clearinghouse of the name are the same
-pub quietly : (job : JobOf) (v : View) (h k : HouseOf) → name_of h ≡ name_of k → OpenShown v k → HouseStepShown job v h (house.sends [] k)
-quietly job v h k name s = record { view = v; run = λ x. x; since = λ base x. x; keeps = all_kept v; others = λ j apart. all_same v j; used = refl; same_name = name; after = s; sent = none_shown v; transfers = λ t m. inl m; fills = refl; keeps_transfers = λ k e. cc }
+pub quietly : (job : JobOf) (v : View) (h k : HouseOf) → name_of h ≡ name_of k → OpenShown v k
+    → HouseStepShown job v h (house.sends [] k)
+quietly job v h k name s = record {
+  view = v;
+  run = λ x. x;
+  since = λ base x. x;
+  keeps = all_kept v;
+  others = λ j apart. all_same v j;
+  used = refl;
+  same_name = name;
+  after = s;
+  sent = none_shown v;
+  transfers = λ t m. inl m;
+  fills = refl;
+  keeps_transfers = λ k e. cc;
+}
 
 -- a step, and another one behind it that commits nothing
-pub then_shown : (job : JobOf) (v : View) (h : HouseOf) (one two : house.HouseStepOf) → two.commits ≡ None → (a : HouseStepShown job v h one) → HouseStepShown job a.view one.after two → HouseStepShown job v h (house.sends_before one.sent two)
+pub then_shown : (job : JobOf) (v : View) (h : HouseOf) (one two : house.HouseStepOf) → two.commits ≡ None
+    → (a : HouseStepShown job v h one) → HouseStepShown job a.view one.after two
+    → HouseStepShown job v h (house.sends_before one.sent two)
 then_shown job v h one two none a b = record {
   view = b.view;
   run = λ k. b.run (a.run k);

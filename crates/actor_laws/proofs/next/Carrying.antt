@@ -59,13 +59,16 @@ no_kid place n j m k (Awaits kid ∷ slots) less =
     passed name_of_frame (k, 0) _ (kids place n (j + 1) (m + 1) slots) (other_number k m (λ same. omega arith))
     ∙ no_kid place n (j + 1) (m + 1) k slots (omega arith)
 
-none_joined : (f : Frame) (t : ℕ) (slots : List Slot) (next k : ℕ) → k < next → frame_in k (joined f t slots next) ≡ None
+none_joined : (f : Frame) (t : ℕ) (slots : List Slot) (next k : ℕ) → k < next
+    → frame_in k (joined f t slots next) ≡ None
 none_joined f t slots next k less =
-    passed name_of_frame (k, 0) (successor f t slots next) (kids f.place next 0 (next + 1) slots) (other_number k next (λ same. omega arith))
+    passed name_of_frame (k, 0) (successor f t slots next) (kids f.place next 0 (next + 1) slots)
+    (other_number k next (λ same. omega arith))
     ∙ no_kid f.place next 0 (next + 1) k slots (omega arith)
 
 -- a value that comes brings no frame
-arrives_none : (k : ℕ) (r : Return) (v : ℤ) (c : Content) → frame_in k c.frames ≡ None → frame_in k (arrives r v c).after.frames ≡ None
+arrives_none : (k : ℕ) (r : Return) (v : ℤ) (c : Content) → frame_in k c.frames ≡ None
+    → frame_in k (arrives r v c).after.frames ≡ None
 arrives_none k Whole v c none = refl
 arrives_none k (Local n j) v c none = by_frame (frame_in n c.frames) refl
   where
@@ -74,30 +77,38 @@ arrives_none k (Local n j) v c none = by_frame (frame_in n c.frames) refl
     by_frame (Some x) e =
         let number : n ≡ x.number = frame_number n x c.frames e in
         put_stays name_of_frame (k, 0) (with_slot j v x) c.frames (other_number k x.number (λ same. (
-        let there : frame_in k c.frames ≡ Some x = subst (λ (i : ℕ). frame_in i c.frames ≡ Some x) (number ∙ sym same) e in
+        let there : frame_in k c.frames ≡ Some x =
+        subst (λ (i : ℕ). frame_in i c.frames ≡ Some x) (number ∙ sym same) e in
         let two : None ≡ Some x = sym none ∙ there in
         cc)))
         ∙ none
 
 -- the frame that was carried out is gone
-turned_gone : (f : Frame) (t : Turn) (c : Content) → f.number < c.next → frame_in f.number (turned f t c).after.frames ≡ None
-turned_gone f (Sends v) c below = arrives_none f.number f.returns v (record c { frames = without_frame f.number c.frames }) (gone name_of_frame (f.number, 0) c.frames)
+turned_gone : (f : Frame) (t : Turn) (c : Content) → f.number < c.next
+    → frame_in f.number (turned f t c).after.frames ≡ None
+turned_gone f (Sends v) c below = arrives_none f.number f.returns v
+    (record c { frames = without_frame f.number c.frames }) (gone name_of_frame (f.number, 0) c.frames)
 turned_gone f (Joins t slots) c below = by_room (nat_lt (length f.place) 1024)
   where
-    by_room : (b : Bool) → frame_in f.number (cond b (replaced f.number (joined f t slots c.next) c) (ends TooDeep c)).after.frames ≡ None
+    by_room : (b : Bool) → frame_in f.number
+        (cond b (replaced f.number (joined f t slots c.next) c) (ends TooDeep c)).after.frames ≡ None
     by_room true =
-        behind name_of_frame (f.number, 0) (without_frame f.number c.frames) (joined f t slots c.next) (gone name_of_frame (f.number, 0) c.frames)
+        behind name_of_frame (f.number, 0) (without_frame f.number c.frames) (joined f t slots c.next)
+        (gone name_of_frame (f.number, 0) c.frames)
         ∙ none_joined f t slots c.next f.number below
     by_room false = refl
 
 -- a full frame holds its numbers
-holds_same : (slots : List (Option ℤ)) (numbers : List ℤ) → numbers_in slots ≡ Some numbers → holds_numbers slots numbers ≡ true
+holds_same : (slots : List (Option ℤ)) (numbers : List ℤ) → numbers_in slots ≡ Some numbers
+    → holds_numbers slots numbers ≡ true
 holds_same [] [] full = refl
 holds_same [] (n ∷ ns) full = absurd cc
 holds_same (None ∷ slots) numbers full = absurd cc
 holds_same (Some v ∷ slots) numbers full = by_rest (λ vs is. holds_same slots vs is) (numbers_in slots) refl full
   where
-    by_rest : ((vs : List ℤ) → numbers_in slots ≡ Some vs → holds_numbers slots vs ≡ true) → (o : Option (List ℤ)) → numbers_in slots ≡ o → (o >>= λ (vs : List ℤ). Some (v ∷ vs)) ≡ Some numbers → holds_numbers (Some v ∷ slots) numbers ≡ true
+    by_rest : ((vs : List ℤ) → numbers_in slots ≡ Some vs → holds_numbers slots vs ≡ true) → (o : Option (List ℤ))
+        → numbers_in slots ≡ o → (o >>= λ (vs : List ℤ). Some (v ∷ vs)) ≡ Some numbers
+        → holds_numbers (Some v ∷ slots) numbers ≡ true
     by_rest rest None is at = absurd cc
     by_rest rest (Some vs) is at =
         let same : v ∷ vs ≡ numbers = cc in
@@ -107,18 +118,23 @@ holds_same (Some v ∷ slots) numbers full = by_rest (λ vs is. holds_same slots
 found_under : (k : ℕ) (c : Content) (x : Ready) → ready_in k c ≡ Some x → frame_in k c.frames ≡ Some x.frame
 found_under k c x is_ready = by_frame (frame_in k c.frames) refl is_ready
   where
-    by_numbers : (f : Frame) → frame_in k c.frames ≡ Some f → (o : Option (List ℤ)) → (o >>= (λ numbers. Some (record { frame = f; numbers = numbers }))) ≡ Some x → frame_in k c.frames ≡ Some x.frame
+    by_numbers : (f : Frame) → frame_in k c.frames ≡ Some f → (o : Option (List ℤ))
+        → (o >>= (λ numbers. Some (record { frame = f; numbers = numbers }))) ≡ Some x
+        → frame_in k c.frames ≡ Some x.frame
     by_numbers f e None at = cc
     by_numbers f e (Some numbers) at =
         let same : record { frame = f; numbers = numbers } ≡ x = cc in
         e ∙ ap (λ (y : Ready). Some y.frame) same
 
-    by_frame : (o : Option Frame) → frame_in k c.frames ≡ o → (o >>= ready) ≡ Some x → frame_in k c.frames ≡ Some x.frame
+    by_frame : (o : Option Frame) → frame_in k c.frames ≡ o → (o >>= ready) ≡ Some x
+        → frame_in k c.frames ≡ Some x.frame
     by_frame None e at = cc
     by_frame (Some f) e at = by_numbers f e (numbers_in f.slots) at
 
 -- what is answered by a member
-of_member : (y : State) (r : Roster) → y ≡ Member r → (joining : Answer) (joined : Roster → Answer) (leaving : Roster → ℕ → Answer) (over : Answer) → by_state y joining joined leaving over ≡ joined r
+of_member : (y : State) (r : Roster) → y ≡ Member r
+    → (joining : Answer) (joined : Roster → Answer) (leaving : Roster → ℕ → Answer) (over : Answer)
+    → by_state y joining joined leaving over ≡ joined r
 unfolding by_state
 of_member y r is joining joined leaving over = rw is refl
 
@@ -133,31 +149,42 @@ module _ (job : JobOf) (n : NodeOf) (g : Grant) (k : ℕ) (s : SubOf) (x : Ready
   abbrev change : ContentChange
   change = turned x.frame (resumed known x.frame.place t) s.content
 
-  carried : numbers_in x.frame.slots ≡ Some x.numbers → frame_in k s.content.frames ≡ Some x.frame → exec_content known done k s.content ≡ within_numbers change
+  carried : numbers_in x.frame.slots ≡ Some x.numbers → frame_in k s.content.frames ≡ Some x.frame
+      → exec_content known done k s.content ≡ within_numbers change
   carried full stands =
-      let own : is_turn_of done x.frame ≡ true = and_from (nat_eq x.frame.thread x.frame.thread) (holds_numbers x.frame.slots x.numbers) (eq-eqb x.frame.thread x.frame.thread refl) (holds_same x.frame.slots x.numbers full) in
-      ap (executed known done s.content) stands ∙ ap (λ (b : Bool). cond {A = Result ContentChange SubError} b (within_numbers change) (Err sub.Stale)) own
+      let own : is_turn_of done x.frame ≡ true =
+      and_from (nat_eq x.frame.thread x.frame.thread) (holds_numbers x.frame.slots x.numbers)
+      (eq-eqb x.frame.thread x.frame.thread refl) (holds_same x.frame.slots x.numbers full) in
+      ap (executed known done s.content) stands
+      ∙ ap (λ (b : Bool). cond {A = Result ContentChange SubError} b (within_numbers change) (Err sub.Stale)) own
 
-  ready_is : (r : Roster) → n.state ≡ Member r → sub_in g n.subs ≡ Some s → ready_in k s.content ≡ Some x → ready_at n g k ≡ Some (record { sub = s; ready = x })
+  ready_is : (r : Roster) → n.state ≡ Member r → sub_in g n.subs ≡ Some s → ready_in k s.content ≡ Some x
+      → ready_at n g k ≡ Some (record { sub = s; ready = x })
   unfolding by_state
   ready_is r member there is_ready = rw (member, there, is_ready) refl
 
   own_is : turn_of job.program x.frame.thread x.numbers ≡ Some t → own_turn job.program x ≡ Some done
   own_is reached = rw reached refl
 
-  exec_is : (r : Roster) → n.state ≡ Member r → sub_in g n.subs ≡ Some s → exec_content known done k s.content ≡ within_numbers change → exec job done g k n ≡ changed job s n (within_numbers change)
+  exec_is : (r : Roster) → n.state ≡ Member r → sub_in g n.subs ≡ Some s
+      → exec_content known done k s.content ≡ within_numbers change
+      → exec job done g k n ≡ changed job s n (within_numbers change)
   unfolding exec by_option
   exec_is r member there is = of_member n.state r member _ _ _ _ ∙ rw there (ap (changed job s n) is)
 
-  exec_ready_is : (r : Roster) → n.state ≡ Member r → ready_at n g k ≡ Some (record { sub = s; ready = x }) → own_turn job.program x ≡ Some done → exec job done g k n ≡ changed job s n (within_numbers change) → exec_ready job g k n ≡ changed job s n (within_numbers change)
+  exec_ready_is : (r : Roster) → n.state ≡ Member r → ready_at n g k ≡ Some (record { sub = s; ready = x })
+      → own_turn job.program x ≡ Some done → exec job done g k n ≡ changed job s n (within_numbers change)
+      → exec_ready job g k n ≡ changed job s n (within_numbers change)
   unfolding by_option
   exec_ready_is r member ready_now turn_now is = of_member n.state r member _ _ _ _ ∙ rw (ready_now, turn_now) is
 
-  change_carries : sub_in g n.subs ≡ Some s → k ≡ x.frame.number → x.frame.number < s.content.next → AnswerCarries g k (changed job s n (within_numbers change))
+  change_carries : sub_in g n.subs ≡ Some s → k ≡ x.frame.number → x.frame.number < s.content.next
+      → AnswerCarries g k (changed job s n (within_numbers change))
   change_carries there number below = by_room (nat_lt change.after.next (2 ^ 32))
     where
       gone_now : frame_in k change.after.frames ≡ None
-      gone_now = subst (λ (i : ℕ). frame_in i change.after.frames ≡ None) (sym number) (turned_gone x.frame (resumed known x.frame.place t) s.content below)
+      gone_now = subst (λ (i : ℕ). frame_in i change.after.frames ≡ None) (sym number)
+          (turned_gone x.frame (resumed known x.frame.place t) s.content below)
 
       gone_from : NoFrame g k (put_sub (with_content s change.after) n.subs)
       gone_from y at = elim (put_or_there name_of_sub (name_of_grant g) (with_content s change.after) y n.subs at) [
@@ -165,17 +192,24 @@ module _ (job : JobOf) (n : NodeOf) (g : Grant) (k : ℕ) (s : SubOf) (x : Ready
         | inr both ↦ absurd (both.0 (ap name_of_grant (own_sub g s n.subs there)))
       ]
 
-      by_room : (b : Bool) → AnswerCarries g k (changed job s n (cond {A = Result ContentChange SubError} b (Ok change) (Err sub.Spent)))
+      by_room : (b : Bool) → AnswerCarries g k
+          (changed job s n (cond {A = Result ContentChange SubError} b (Ok change) (Err sub.Spent)))
       by_room true = gone_from
       by_room false = refl
 
 -- so it is gone, of what agrees with the serial meaning of a job
-pub ready_carried : (job : JobOf) → IsJob job → (r : Roster) (n : NodeOf) (g : Grant) (k : ℕ) (s : SubOf) (x : Ready) → n.state ≡ Member r → sub_in g n.subs ≡ Some s → IsRight job s.content → ready_in k s.content ≡ Some x → AnswerCarries g k (exec_ready job g k n)
+pub ready_carried : (job : JobOf) → IsJob job → (r : Roster) (n : NodeOf) (g : Grant) (k : ℕ) (s : SubOf) (x : Ready)
+    → n.state ≡ Member r → sub_in g n.subs ≡ Some s → IsRight job s.content → ready_in k s.content ≡ Some x
+    → AnswerCarries g k (exec_ready job g k n)
 ready_carried job ok r n g k s x member there right is_ready =
-    let turn : Reaches job.program x.frame.thread x.numbers = ok.accepted.total.each x.frame.thread x.numbers (granted_task job s.content k x right.agrees is_ready).takes in
+    let turn : Reaches job.program x.frame.thread x.numbers =
+    ok.accepted.total.each x.frame.thread x.numbers (granted_task job s.content k x right.agrees is_ready).takes in
     let stands = found_under k s.content x is_ready in
     let number : k ≡ x.frame.number = frame_number k x.frame s.content.frames stands in
-    let below : x.frame.number < s.content.next = all_found name_of_frame (λ (f : Frame). f.number < s.content.next) (k, 0) x.frame s.content.frames right.kept.sound.below stands in
+    let below : x.frame.number < s.content.next =
+    all_found name_of_frame (λ (f : Frame). f.number < s.content.next)
+    (k, 0) x.frame s.content.frames right.kept.sound.below stands in
     let done_now = carried job n g k s x turn.turn (ready_found k s.content x is_ready).full stands in
-    let is = exec_ready_is job n g k s x turn.turn r member (ready_is job n g k s x turn.turn r member there is_ready) (own_is job n g k s x turn.turn turn.reached) (exec_is job n g k s x turn.turn r member there done_now) in
+    let is = exec_ready_is job n g k s x turn.turn r member (ready_is job n g k s x turn.turn r member there is_ready)
+    (own_is job n g k s x turn.turn turn.reached) (exec_is job n g k s x turn.turn r member there done_now) in
     subst (AnswerCarries g k) (sym is) (change_carries job n g k s x turn.turn there number below)

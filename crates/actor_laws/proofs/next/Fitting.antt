@@ -36,7 +36,8 @@ use Rattle.actor_laws.proofs.next.Linked.{sound_linked}
 -- a test that each item passes
 all_pass : {X : Type 0} (test : X → Bool) (xs : List X) → ((x : X) → x ∈ xs → test x ≡ true) → list_all test xs ≡ true
 all_pass test [] each = refl
-all_pass test (x ∷ xs) each = and_from (test x) (list_all test xs) (each x (inl refl)) (all_pass test xs (λ y m. each y (inr m)))
+all_pass test (x ∷ xs) each = and_from (test x) (list_all test xs) (each x (inl refl))
+    (all_pass test xs (λ y m. each y (inr m)))
 
 -- a thread that takes so many numbers
 pub arity_fits : (p : Program) (t count : ℕ) → Takes p t count → is_arity (arity_of p t) count ≡ true
@@ -51,16 +52,20 @@ other_number m n other = elim (eqb_tells m n) [
 module _ (job : JobOf) (c : Content) (right : IsRight job c) where
   frames_fit : list_all (frame_fits job.program) c.frames ≡ true
   frames_fit = all_pass (frame_fits job.program) c.frames (λ f m. (
-      let there : frame_in f.number c.frames ≡ Some f = of_each (λ (y : Frame). frame_in y.number c.frames ≡ Some y) c.frames (all_there name_of_frame c.frames right.kept.frames) f m in
+      let there : frame_in f.number c.frames ≡ Some f =
+      of_each (λ (y : Frame). frame_in y.number c.frames ≡ Some y) c.frames
+      (all_there name_of_frame c.frames right.kept.frames) f m in
       arity_fits job.program f.thread (length f.slots) (right.agrees.frames f.number f there).takes))
 
   -- a record of a list is found under its grant
   record_there : (r : Record) → r ∈ c.records → record_in r.grant c.records ≡ Some r
-  record_there r m = of_each (λ (y : Record). record_in y.grant c.records ≡ Some y) c.records (all_there name_of_record c.records right.kept.records) r m
+  record_there r m = of_each (λ (y : Record). record_in y.grant c.records ≡ Some y) c.records
+      (all_there name_of_record c.records right.kept.records) r m
 
   records_fit : list_all (record_fits job.program) c.records ≡ true
   records_fit = all_pass (record_fits job.program) c.records (λ r m.
-      arity_fits job.program r.task.thread (length r.task.numbers) (right.agrees.records r.grant r (record_there r m)).task.takes)
+      arity_fits job.program r.task.thread (length r.task.numbers)
+      (right.agrees.records r.grant r (record_there r m)).task.takes)
 
   module _ (i : ℕ) (subs : List SubOf) (order : AreInOrder name_of_sub subs) (foreign : AreForeign i subs c) where
     -- nothing that is held has a record of it
@@ -71,7 +76,8 @@ module _ (job : JobOf) (c : Content) (right : IsRight job c) where
         by_host None e = refl
         by_host (Some s) e =
             let has : has_record g s ≡ true = passes_test (has_record g) s subs e in
-            let has_not : has_record g s ≡ false = ap is_some (none s.grant s (found_by name_of_sub (has_record g) s subs order e)) in
+            let has_not : has_record g s ≡ false =
+            ap is_some (none s.grant s (found_by name_of_sub (has_record g) s subs order e)) in
             let two : true ≡ false = sym has ∙ has_not in
             cc
 
@@ -85,18 +91,26 @@ module _ (job : JobOf) (c : Content) (right : IsRight job c) where
     progress_fit = by_progress c.progress refl
       where
         by_progress : (p : Progress) → c.progress ≡ p → progress_fits i subs c p ≡ true
-        by_progress Active is = and_from (is_linked c) (list_all (is_foreign i subs) c.records) (sound_linked c is right.kept.sound) records_foreign
+        by_progress Active is = and_from (is_linked c) (list_all (is_foreign i subs) c.records)
+            (sound_linked c is right.kept.sound) records_foreign
         by_progress (Finished o) is = refl
 
     pub content_fit : content_fits job.program i subs c ≡ true
     content_fit =
-        let task : task_fits job.program c.task ≡ true = arity_fits job.program c.task.thread (length c.task.numbers) right.agrees.task.takes in
-        let frames : (task_fits job.program c.task && list_all (frame_fits job.program) c.frames) ≡ true = and_from _ _ task frames_fit in
-        let records : (task_fits job.program c.task && list_all (frame_fits job.program) c.frames && list_all (record_fits job.program) c.records) ≡ true = and_from _ _ frames records_fit in
-        and_from (task_fits job.program c.task && list_all (frame_fits job.program) c.frames && list_all (record_fits job.program) c.records) (progress_fits i subs c c.progress) records progress_fit
+        let task : task_fits job.program c.task ≡ true =
+        arity_fits job.program c.task.thread (length c.task.numbers) right.agrees.task.takes in
+        let frames : (task_fits job.program c.task && list_all (frame_fits job.program) c.frames) ≡ true =
+        and_from _ _ task frames_fit in
+        let records : (task_fits job.program c.task && list_all (frame_fits job.program) c.frames
+        && list_all (record_fits job.program) c.records) ≡ true = and_from _ _ frames records_fit in
+        and_from (task_fits job.program c.task && list_all (frame_fits job.program) c.frames
+        && list_all (record_fits job.program) c.records) (progress_fits i subs c c.progress) records progress_fit
 
 -- so an Offer of it is taken
-pub fitting_taken : (job : JobOf) (r : Roster) (o : Offer) (n : NodeOf) → is_above o.hop (hop_in o.grant n.seen) ≡ true → sub_in o.grant n.subs ≡ None → AreInOrder name_of_sub n.subs → IsRight job (offered o).content → AreForeign n.incarnation n.subs (offered o).content → TakesOffer job r o n
+pub fitting_taken : (job : JobOf) (r : Roster) (o : Offer) (n : NodeOf) → is_above o.hop (hop_in o.grant n.seen) ≡ true
+    → sub_in o.grant n.subs ≡ None → AreInOrder name_of_sub n.subs → IsRight job (offered o).content
+    → AreForeign n.incarnation n.subs (offered o).content → TakesOffer job r o n
 fitting_taken job r o n above none order right foreign parts =
-    let fits : content_fits job.program n.incarnation n.subs (offered o).content ≡ true = content_fit job (offered o).content right n.incarnation n.subs order foreign in
+    let fits : content_fits job.program n.incarnation n.subs (offered o).content ≡ true =
+    content_fit job (offered o).content right n.incarnation n.subs order foreign in
     rw (above, none, fits) refl

@@ -32,7 +32,8 @@ few_await : (n j : ℕ) (frames : List Frame) → sum_by (awaits_at (Local n j))
 few_await n j [] = omega arith
 few_await n j (f ∷ fs) =
     let rest = few_await n j fs in
-    let here : awaits_at (Local n j) f ≤ is_numbered n f = of_both (nat_eq f.number n) (is_vacant (slice_get f.slots j)) in
+    let here : awaits_at (Local n j) f ≤ is_numbered n f =
+    of_both (nat_eq f.number n) (is_vacant (slice_get f.slots j)) in
     omega (arith, sum_by-cons (awaits_at (Local n j)) f fs, sum_by-cons (is_numbered n) f fs)
 
 -- so no value is awaited twice

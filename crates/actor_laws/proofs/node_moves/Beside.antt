@@ -42,7 +42,8 @@ way_on a unmoved = a
 way_on a (moved b act right is) = moved (way_on a b) act right is
 
 -- a step, and then another
-pub steps_on : (m : Meaning) (job : ℕ) (v : View) (n : NodeOf) (s : StepOf) (f : NodeOf → StepOf) → (a : StepShown m job v n s) → StepShown m job a.view s.after (f s.after) → StepShown m job v n (s then f)
+pub steps_on : (m : Meaning) (job : ℕ) (v : View) (n : NodeOf) (s : StepOf) (f : NodeOf → StepOf)
+    → (a : StepShown m job v n s) → StepShown m job a.view s.after (f s.after) → StepShown m job v n (s then f)
 steps_on m job v n s f a b = record {
   view = b.view;
   way = way_on a.way (rw a.name at b.way);
@@ -58,4 +59,12 @@ steps_on m job v n s f a b = record {
 
 -- nothing happens
 pub stays_shown : (m : Meaning) (job : ℕ) (v : View) (n : NodeOf) → NodeShown v n → StepShown m job v n (quiet n)
-stays_shown m job v n s = record { view = v; way = unmoved; name = refl; node = s; sent = λ p x. absurd x; transfers = λ t x. inl x; fills = refl }
+stays_shown m job v n s = record {
+  view = v;
+  way = unmoved;
+  name = refl;
+  node = s;
+  sent = λ p x. absurd x;
+  transfers = λ t x. inl x;
+  fills = refl;
+}

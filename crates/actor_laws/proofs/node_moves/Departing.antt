@@ -48,23 +48,32 @@ module _ (subs : Grant → Option Sub) (i heir : ℕ) where
   each_offer [] t m = absurd m
   each_offer (x ∷ xs) t m = by_sub (each_offer xs t) (subs x.grant) refl m
     where
-      by_sub : (t ∈ offers_in xs → IsOffer subs i heir t) → (o : Option Sub) → subs x.grant ≡ o → t ∈ (offer_in x.grant o ++ offers_in xs) → IsOffer subs i heir t
+      by_sub : (t ∈ offers_in xs → IsOffer subs i heir t) → (o : Option Sub) → subs x.grant ≡ o
+          → t ∈ (offer_in x.grant o ++ offers_in xs) → IsOffer subs i heir t
       by_sub rest None e y = rest y
-      by_sub rest (Some s) e (inl is) = record { sub = s; holds = ap subs (ap (λ (u : Transfer). u.grant) is) ∙ e; is = is ∙ ap (λ (g : Grant). offer_of i heir g s) (sym (ap (λ (u : Transfer). u.grant) is)) }
+      by_sub rest (Some s) e (inl is) = record {
+        sub = s;
+        holds = ap subs (ap (λ (u : Transfer). u.grant) is) ∙ e;
+        is = is ∙ ap (λ (g : Grant). offer_of i heir g s) (sym (ap (λ (u : Transfer). u.grant) is));
+      }
       by_sub rest (Some s) e (inr y) = rest y
 
-  in_offers : (xs : List SubOf) (x : SubOf) (s : Sub) → x ∈ xs → subs x.grant ≡ Some s → offer_of i heir x.grant s ∈ offers_in xs
+  in_offers : (xs : List SubOf) (x : SubOf) (s : Sub) → x ∈ xs → subs x.grant ≡ Some s
+      → offer_of i heir x.grant s ∈ offers_in xs
   in_offers [] x s m e = absurd m
   in_offers (y ∷ ys) x s (inl same) e = first (subs y.grant) (ap (λ (z : SubOf). subs z.grant) (sym same) ∙ e)
     where
       first : (o : Option Sub) → o ≡ Some s → offer_of i heir x.grant s ∈ (offer_in y.grant o ++ offers_in ys)
       first None f = cc
       first (Some t) f = let one : t ≡ s = cc in inl (rw (one, same) refl)
-  in_offers (y ∷ ys) x s (inr m) e = later (offer_in y.grant (subs y.grant)) (offers_in ys) (offer_of i heir x.grant s) (in_offers ys x s m e)
+  in_offers (y ∷ ys) x s (inr m) e = later (offer_in y.grant (subs y.grant)) (offers_in ys) (offer_of i heir x.grant s)
+      (in_offers ys x s m e)
 
   -- packets of Offers
   module _ (job : ℕ) where
-    pub packets_shown : (v : View) (all xs : List SubOf) → ((g : Grant) → ShowsSub (subs g) (sub_in g all)) → AllByRecursion (λ x. sub_in x.grant all ≡ Some x) xs → ((t : Transfer) → t ∈ offers_in xs → t ∈ v.transfers) → AllShown v (map (offer job i heir) xs)
+    pub packets_shown : (v : View) (all xs : List SubOf) → ((g : Grant) → ShowsSub (subs g) (sub_in g all))
+        → AllByRecursion (λ x. sub_in x.grant all ≡ Some x) xs → ((t : Transfer) → t ∈ offers_in xs → t ∈ v.transfers)
+        → AllShown v (map (offer job i heir) xs)
     packets_shown v all [] shows there sent p m = absurd m
     packets_shown v all (x ∷ xs) shows there sent p (inl is) =
         let held : HeldAt (subs x.grant) x = held_at (subs x.grant) (sub_in x.grant all) x (shows x.grant) there.0 in
@@ -82,24 +91,44 @@ module _ (subs : Grant → Option Sub) (i heir : ℕ) where
           content = held.shown.content;
           kept = held.shown.kept;
         })
-    packets_shown v all (x ∷ xs) shows there sent p (inr m) = packets_shown v all xs shows there.1 (λ t y. sent t (later (offer_in x.grant (subs x.grant)) (offers_in xs) t y)) p m
+    packets_shown v all (x ∷ xs) shows there sent p (inr m) =
+        packets_shown v all xs shows there.1
+        (λ t y. sent t (later (offer_in x.grant (subs x.grant)) (offers_in xs) t y)) p m
 
-    packets_sent : (all xs : List SubOf) → ((g : Grant) → ShowsSub (subs g) (sub_in g all)) → AllByRecursion (λ x. sub_in x.grant all ≡ Some x) xs → (t : Transfer) → t ∈ offers_in xs → IsSent job (map (offer job i heir) xs) t
+    packets_sent : (all xs : List SubOf) → ((g : Grant) → ShowsSub (subs g) (sub_in g all))
+        → AllByRecursion (λ x. sub_in x.grant all ≡ Some x) xs → (t : Transfer) → t ∈ offers_in xs
+        → IsSent job (map (offer job i heir) xs) t
     packets_sent all [] shows there t m = absurd m
     packets_sent all (x ∷ xs) shows there t m = ⊎_elim
         (λ y. first (subs x.grant) refl y)
-        (λ y. let s = packets_sent all xs shows there.1 t y in record { packet = s.packet; there = inr s.there; job_is = s.job_is; to = s.to; carries = s.carries })
+        (λ y. let s = packets_sent all xs shows there.1 t y in record {
+          packet = s.packet;
+          there = inr s.there;
+          job_is = s.job_is;
+          to = s.to;
+          carries = s.carries;
+        })
         (either (offer_in x.grant (subs x.grant)) (offers_in xs) t m)
       where
-        first : (o : Option Sub) → subs x.grant ≡ o → t ∈ offer_in x.grant o → IsSent job (map (offer job i heir) (x ∷ xs)) t
+        first : (o : Option Sub) → subs x.grant ≡ o → t ∈ offer_in x.grant o
+            → IsSent job (map (offer job i heir) (x ∷ xs)) t
         first None e y = absurd y
         first (Some s) e (inr y) = absurd y
         first (Some s) e (inl is) =
-            let held : HeldAt (subs x.grant) x = held_at (subs x.grant) (sub_in x.grant all) x (shows x.grant) there.0 in
+            let held : HeldAt (subs x.grant) x =
+            held_at (subs x.grant) (sub_in x.grant all) x (shows x.grant) there.0 in
             let shown = held.shown in
             let same : held.sub ≡ s = (let a = held.is in cc) in
-            let hop : x.hop + 1 ≡ suc s.hop = (let e = shown.hop in let f : held.sub.hop ≡ s.hop = ap (λ (z : Sub). z.hop) same in omega (arith, e, f)) in
-            record { packet = offer job i heir x; there = inl refl; job_is = refl; to = ap (λ (u : Transfer). u.to) (sym is); carries = (ap (λ (u : Transfer). u.grant) (sym is), hop ∙ ap (λ (u : Transfer). u.hop) (sym is)) }
+            let hop : x.hop + 1 ≡ suc s.hop =
+            (let e = shown.hop in let f : held.sub.hop ≡ s.hop =
+            ap (λ (z : Sub). z.hop) same in omega (arith, e, f)) in
+            record {
+              packet = offer job i heir x;
+              there = inl refl;
+              job_is = refl;
+              to = ap (λ (u : Transfer). u.to) (sym is);
+              carries = (ap (λ (u : Transfer). u.grant) (sym is), hop ∙ ap (λ (u : Transfer). u.hop) (sym is));
+            }
 
 -- why it may leave
 pub record MayDepart (n : NodeOf) (r : Roster) (heir : ℕ) : Type 0 where
@@ -107,16 +136,21 @@ pub record MayDepart (n : NodeOf) (r : Roster) (heir : ℕ) : Type 0 where
   pub other : heir ≡ n.incarnation → ⊥
   pub live : is_live heir r.members ≡ true
 
-module _ (m : Meaning) (job : JobOf) (v : View) (n : NodeOf) (r : Roster) (run : Run m v) (is : n.state ≡ Member r) (shown : NodeShown v n) where
-  pub freezes_shown : (heir : ℕ) → MayDepart n r heir → StepShown m job.number v n (sends (calls.wholes job heir n) (record n { state = Leaving r heir; assemblies = [] }))
+module _ (m : Meaning) (job : JobOf) (v : View) (n : NodeOf) (r : Roster) (run : Run m v) (is : n.state ≡ Member r)
+    (shown : NodeShown v n) where
+  pub freezes_shown : (heir : ℕ) → MayDepart n r heir
+      → StepShown m job.number v n (sends (calls.wholes job heir n)
+      (record n { state = Leaving r heir; assemblies = [] }))
   freezes_shown heir may =
       let i = n.incarnation in
       let h = member_shown v n r is shown in
       let p = h.parts in
       let roster = h.roster.roster in
       let sent = (rosters_reached (run_reached run)).kept_had i roster h.roster.is in
-      let live : roster.status heir ≡ tables.Live = h.roster.shows.members.status heir ∙ live_status heir r.members may.live in
-      let listed = (rosters_reached (run_reached run)).members roster heir sent (λ u. let two : tables.Live ≡ tables.Unlisted = sym live ∙ u in cc) in
+      let live : roster.status heir ≡ tables.Live =
+      h.roster.shows.members.status heir ∙ live_status heir r.members may.live in
+      let listed = (rosters_reached (run_reached run)).members roster heir sent
+      (λ u. let two : tables.Live ≡ tables.Unlisted = sym live ∙ u in cc) in
       let news : List Transfer = offers_in (v.subs i) i heir n.subs in
       let guard : MayFreeze v i heir news = record {
         member = h.mode;
@@ -135,13 +169,29 @@ module _ (m : Meaning) (job : JobOf) (v : View) (n : NodeOf) (r : Roster) (run :
       let view : View = freeze v i heir news in
       let keeps : KeepsSent v view = keeps_one act in
       let there = all_there name_of_sub n.subs p.order in
-      let parts : PartsShown view (record n { state = Leaving r heir; assemblies = [] }) = record { minted = p.minted; asked = p.asked; pending = p.pending; seen = p.seen; subs = p.subs; order = p.order; replies = p.replies; said = λ t x e. packet_kept keeps x.packet (p.said t x e); reply_order = p.reply_order; confirmed = p.confirmed; roster = h.roster } in
+      let parts : PartsShown view (record n { state = Leaving r heir; assemblies = [] }) =
+      record {
+        minted = p.minted;
+        asked = p.asked;
+        pending = p.pending;
+        seen = p.seen;
+        subs = p.subs;
+        order = p.order;
+        replies = p.replies;
+        said = λ t x e. packet_kept keeps x.packet (p.said t x e);
+        reply_order = p.reply_order;
+        confirmed = p.confirmed;
+        roster = h.roster;
+      } in
       record {
         view = view;
         way = moved unmoved act tt (of_act act i refl);
         name = refl;
         node = record { mode = put_here v.mode i (tables.Leaving heir); parts = λ x. parts };
-        sent = packets_shown (v.subs i) i heir job.number view n.subs n.subs p.subs there (λ t y. early news v.transfers t y);
-        transfers = λ t y. ⊎_elim (λ new. inr (packets_sent (v.subs i) i heir job.number n.subs n.subs p.subs there t new)) (λ old. inl old) (either news v.transfers t y);
+        sent = packets_shown (v.subs i) i heir job.number view n.subs n.subs p.subs there
+            (λ t y. early news v.transfers t y);
+        transfers = λ t y. ⊎_elim (λ new. inr
+            (packets_sent (v.subs i) i heir job.number n.subs n.subs p.subs there t new)) (λ old. inl old)
+            (either news v.transfers t y);
         fills = refl;
       }

@@ -59,35 +59,61 @@ found_sub (Some y) None t s e = absurd s
 found_sub (Some y) (Some x) t s e = let same : y ≡ t = cc in record { sub = x; is = refl; shown = rw same at s }
 
 -- a subcomputation in its place
-pub shows_put : (f : ℕ → Grant → Option Sub) (i : ℕ) (subs : List SubOf) (t : Sub) (s : SubOf) → ((k : Grant) → ShowsSub (f i k) (sub_in k subs)) → IsShown t s → (k : Grant) → ShowsSub (put_grant f i s.grant (Some t) i k) (sub_in k (put_sub s subs))
+pub shows_put : (f : ℕ → Grant → Option Sub) (i : ℕ) (subs : List SubOf) (t : Sub) (s : SubOf)
+    → ((k : Grant) → ShowsSub (f i k) (sub_in k subs)) → IsShown t s → (k : Grant)
+    → ShowsSub (put_grant f i s.grant (Some t) i k) (sub_in k (put_sub s subs))
 shows_put f i subs t s old new k = ⊎_elim
     (λ (same : k ≡ s.grant). rw (same, grant_here f i s.grant (Some t), put_is_found name_of_sub s subs) new)
-    (λ (other : k ≡ s.grant → ⊥). rw (grant_beside f i s.grant k (Some t) other, put_stays name_of_sub (name_of_grant k) s subs (apart k s.grant other)) (old k))
+    (λ (other : k ≡ s.grant → ⊥). rw (
+      grant_beside f i s.grant k (Some t) other,
+      put_stays name_of_sub (name_of_grant k) s subs (apart k s.grant other),
+    ) (old k))
     (grant_or k s.grant)
 
 -- one that goes
-pub shows_gone : (f : ℕ → Grant → Option Sub) (i : ℕ) (subs : List SubOf) (g : Grant) → ((k : Grant) → ShowsSub (f i k) (sub_in k subs)) → (k : Grant) → ShowsSub (put_grant f i g None i k) (sub_in k (without_sub g subs))
+pub shows_gone : (f : ℕ → Grant → Option Sub) (i : ℕ) (subs : List SubOf) (g : Grant)
+    → ((k : Grant) → ShowsSub (f i k) (sub_in k subs)) → (k : Grant)
+    → ShowsSub (put_grant f i g None i k) (sub_in k (without_sub g subs))
 shows_gone f i subs g old k = ⊎_elim
     (λ (same : k ≡ g). rw (same, grant_here f i g None, gone name_of_sub (name_of_grant g) subs) tt)
-    (λ (other : k ≡ g → ⊥). rw (grant_beside f i g k None other, stays name_of_sub (name_of_grant k) (name_of_grant g) subs (apart k g other)) (old k))
+    (λ (other : k ≡ g → ⊥). rw (
+      grant_beside f i g k None other,
+      stays name_of_sub (name_of_grant k) (name_of_grant g) subs (apart k g other),
+    ) (old k))
     (grant_or k g)
 
 -- a grant that was taken
-pub seen_put : (f : ℕ → Grant → Option ℕ) (i : ℕ) (seen : List Seen) (g : Grant) (hop : ℕ) → ((k : Grant) → f i k ≡ hop_in k seen) → (k : Grant) → put_grant f i g (Some hop) i k ≡ hop_in k (put_seen g hop seen)
+pub seen_put : (f : ℕ → Grant → Option ℕ) (i : ℕ) (seen : List Seen) (g : Grant) (hop : ℕ)
+    → ((k : Grant) → f i k ≡ hop_in k seen) → (k : Grant)
+    → put_grant f i g (Some hop) i k ≡ hop_in k (put_seen g hop seen)
 seen_put f i seen g hop old k = ⊎_elim
-    (λ (same : k ≡ g). rw (same, grant_here f i g (Some hop), put_is_found name_of_seen (record { grant = g; hop = hop }) seen) refl)
-    (λ (other : k ≡ g → ⊥). rw (grant_beside f i g k (Some hop) other, put_stays name_of_seen (name_of_grant k) (record { grant = g; hop = hop }) seen (apart k g other)) (old k))
+    (λ (same : k ≡ g). rw (
+      same,
+      grant_here f i g (Some hop),
+      put_is_found name_of_seen (record { grant = g; hop = hop }) seen,
+    ) refl)
+    (λ (other : k ≡ g → ⊥). rw (
+      grant_beside f i g k (Some hop) other,
+      put_stays name_of_seen (name_of_grant k) (record { grant = g; hop = hop }) seen (apart k g other),
+    ) (old k))
     (grant_or k g)
 
 -- the last answer to a thief
-pub reply_put : (f : ℕ → ℕ → Option tables.Reply) (i : ℕ) (replies : List Reply) (y : tables.Reply) (r : Reply) → ((k : ℕ) → ShowsReply i k (f i k) (reply_in k replies)) → IsReply i r.thief y r → (k : ℕ) → ShowsReply i k (put_at f i r.thief (Some y) i k) (reply_in k (put_reply r replies))
+pub reply_put : (f : ℕ → ℕ → Option tables.Reply) (i : ℕ) (replies : List Reply) (y : tables.Reply) (r : Reply)
+    → ((k : ℕ) → ShowsReply i k (f i k) (reply_in k replies)) → IsReply i r.thief y r → (k : ℕ)
+    → ShowsReply i k (put_at f i r.thief (Some y) i k) (reply_in k (put_reply r replies))
 reply_put f i replies y r old new k = ⊎_elim
     (λ (same : k ≡ r.thief). rw (same, at_here f i r.thief (Some y), put_is_found name_of_reply r replies) new)
-    (λ (other : k ≡ r.thief → ⊥). rw (at_other_slot f i r.thief k (Some y) other, put_stays name_of_reply (k, 0) r replies (λ e. other (ap (λ (n : ℕ × ℕ). n.0) e))) (old k))
+    (λ (other : k ≡ r.thief → ⊥). rw (
+      at_other_slot f i r.thief k (Some y) other,
+      put_stays name_of_reply (k, 0) r replies (λ e. other (ap (λ (n : ℕ × ℕ). n.0) e)),
+    ) (old k))
     (same_or k r.thief)
 
 -- a subcomputation that the same sub shows, in the place of one that is held
-pub shows_swap : (f : Grant → Option Sub) (subs : List SubOf) (t : Sub) (s : SubOf) → ((k : Grant) → ShowsSub (f k) (sub_in k subs)) → f s.grant ≡ Some t → IsShown t s → (k : Grant) → ShowsSub (f k) (sub_in k (put_sub s subs))
+pub shows_swap : (f : Grant → Option Sub) (subs : List SubOf) (t : Sub) (s : SubOf)
+    → ((k : Grant) → ShowsSub (f k) (sub_in k subs)) → f s.grant ≡ Some t → IsShown t s → (k : Grant)
+    → ShowsSub (f k) (sub_in k (put_sub s subs))
 shows_swap f subs t s old is new k = ⊎_elim
     (λ (same : k ≡ s.grant). rw (same, is, put_is_found name_of_sub s subs) new)
     (λ (other : k ≡ s.grant → ⊥). rw (put_stays name_of_sub (name_of_grant k) s subs (apart k s.grant other)) (old k))

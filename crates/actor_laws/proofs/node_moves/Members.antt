@@ -44,7 +44,8 @@ member_shown v n r is s =
     record { mode = s.mode ∙ ap mode_of is; parts = p; roster = rw is at kept }
 
 -- who is shown live is live in the tables
-pub live_status : (i : ℕ) (members : List Listed) → is_live i members ≡ true → status_of (status_in i members) ≡ tables.Live
+pub live_status : (i : ℕ) (members : List Listed) → is_live i members ≡ true
+    → status_of (status_in i members) ≡ tables.Live
 live_status i members is = by_status (status_in i members) is
   where
     by_status : (o : Option Status) → says_live o ≡ true → status_of o ≡ tables.Live
@@ -58,7 +59,8 @@ pub unanswered_none : (i thief seq : ℕ) (o : Option tables.Reply) → ShowsRep
 unanswered_none i thief seq None s a = a
 unanswered_none i thief seq (Some y) s a = s
 
-pub unanswered_newer : (i thief seq : ℕ) (o : Option tables.Reply) (r : Reply) → ShowsReply i thief o (Some r) → nat_cmp seq r.seq ≡ Greater → Answered o seq → ⊥
+pub unanswered_newer : (i thief seq : ℕ) (o : Option tables.Reply) (r : Reply) → ShowsReply i thief o (Some r)
+    → nat_cmp seq r.seq ≡ Greater → Answered o seq → ⊥
 unanswered_newer i thief seq None r s newer a = a
 unanswered_newer i thief seq (Some y) r s newer a = let e = s.seq in grind (arith, a, e, newer)
 
@@ -72,10 +74,13 @@ pub record ReadyThere (n : NodeOf) (f : ReadyFrame) : Type 0 where
   pub held : sub_in f.sub.grant n.subs ≡ Some f.sub
   pub ready : ready_in number f.sub.content ≡ Some f.ready
 
-pub ready_there : (n : NodeOf) (r : Roster) (g : Grant) (k : ℕ) (f : ReadyFrame) → n.state ≡ Member r → ready_at n g k ≡ Some f → ReadyThere n f
-ready_there n r g k f is at = by_sub (sub_in g n.subs) refl (ap (λ subs. ready_of_sub k (sub_in g subs)) (sym (member_holds n (rw is tt))) ∙ at)
+pub ready_there : (n : NodeOf) (r : Roster) (g : Grant) (k : ℕ) (f : ReadyFrame) → n.state ≡ Member r
+    → ready_at n g k ≡ Some f → ReadyThere n f
+ready_there n r g k f is at = by_sub (sub_in g n.subs) refl
+    (ap (λ subs. ready_of_sub k (sub_in g subs)) (sym (member_holds n (rw is tt))) ∙ at)
   where
-    by_ready : (s : SubOf) → sub_in g n.subs ≡ Some s → (o : Option Ready) → ready_in k s.content ≡ o → (o >>= (λ x. Some (record { sub = s; ready = x }))) ≡ Some f → ReadyThere n f
+    by_ready : (s : SubOf) → sub_in g n.subs ≡ Some s → (o : Option Ready) → ready_in k s.content ≡ o
+        → (o >>= (λ x. Some (record { sub = s; ready = x }))) ≡ Some f → ReadyThere n f
     by_ready s there None none e = cc
     by_ready s there (Some x) ready e =
         let same : record { sub = s; ready = x } ≡ f = cc in
@@ -86,12 +91,14 @@ ready_there n r g k f is at = by_sub (sub_in g n.subs) refl (ap (λ subs. ready_
     by_sub (Some s) there e = by_ready s there (ready_in k s.content) refl e
 
 -- no record has the next grant that a node mints
-pub unrecorded : (v : View) (i : ℕ) (g : Grant) (s : SubOf) → ReachedInTables v → Works (v.mode i) → HeldAt (v.subs i g) s → record_in (next_grant v i) s.content.records ≡ None
+pub unrecorded : (v : View) (i : ℕ) (g : Grant) (s : SubOf) → ReachedInTables v → Works (v.mode i)
+    → HeldAt (v.subs i g) s → record_in (next_grant v i) s.content.records ≡ None
 unrecorded v i g s reached up held = by_found (record_in (next_grant v i) s.content.records) refl
   where
     by_found : (o : Option Record) → record_in (next_grant v i) s.content.records ≡ o → o ≡ None
     by_found None none = refl
     by_found (Some r) there =
         let names = names_reached reached in
-        let has : RecordOf held.sub.content (next_grant v i) = record_shown held.sub.content s.content (next_grant v i) r held.shown.content there in
+        let has : RecordOf held.sub.content (next_grant v i) =
+        record_shown held.sub.content s.content (next_grant v i) r held.shown.content there in
         absurd (unminted v i names up (names.sub_granted i g (next_grant v i) held.sub has.number up held.is has.is))

@@ -46,34 +46,56 @@ use Rattle.actor_laws.proofs.node_moves.Departing.{each_offer, packets_shown}
 use Rattle.actor_laws.proofs.node_moves.Leaving.{leaver_shown, leaves_shown}
 
 -- another sub that shows the same subcomputation
-shows_again : (f : ℕ → Grant → Option Sub) (i : ℕ) (subs : List SubOf) (t : Sub) (s : SubOf) → ((k : Grant) → ShowsSub (f i k) (sub_in k subs)) → sub_in s.grant subs ≡ Some s → IsShown t s → (k : Grant) → ShowsSub (put_grant f i s.grant (Some t) i k) (sub_in k subs)
+shows_again : (f : ℕ → Grant → Option Sub) (i : ℕ) (subs : List SubOf) (t : Sub) (s : SubOf)
+    → ((k : Grant) → ShowsSub (f i k) (sub_in k subs)) → sub_in s.grant subs ≡ Some s → IsShown t s → (k : Grant)
+    → ShowsSub (put_grant f i s.grant (Some t) i k) (sub_in k subs)
 shows_again f i subs t s old there new k = ⊎_elim
     (λ (same : k ≡ s.grant). rw (same, grant_here f i s.grant (Some t), there) new)
     (λ (other : k ≡ s.grant → ⊥). rw (grant_beside f i s.grant k (Some t) other) (old k))
     (grant_or k s.grant)
 
 -- packets alone
-pub only_sends : (m : Meaning) (job : JobOf) (v : View) (n : NodeOf) → NodeShown v n → (packets : List PacketOf) → AllShown v packets → StepShown m job.number v n (sends packets n)
-only_sends m job v n shown packets sent = record { view = v; way = unmoved; name = refl; node = shown; sent = sent; transfers = λ t u. inl u; fills = refl }
+pub only_sends : (m : Meaning) (job : JobOf) (v : View) (n : NodeOf) → NodeShown v n → (packets : List PacketOf)
+    → AllShown v packets → StepShown m job.number v n (sends packets n)
+only_sends m job v n shown packets sent =
+    record { view = v; way = unmoved; name = refl; node = shown; sent = sent; transfers = λ t u. inl u; fills = refl }
 
 module _ (m : Meaning) (job : JobOf) (n : NodeOf) (r : Roster) (is : n.state ≡ Member r) where
   -- the Result of one subcomputation, if it has ended
-  tells_again : (v : View) → NodeShown v n → (s : SubOf) → sub_in s.grant n.subs ≡ Some s → StepShown m job.number v n (sends (results job n.incarnation s) n)
+  tells_again : (v : View) → NodeShown v n → (s : SubOf) → sub_in s.grant n.subs ≡ Some s
+      → StepShown m job.number v n (sends (results job n.incarnation s) n)
   tells_again v shown s there =
       let i = n.incarnation in
       let h = member_shown v n r is shown in
       let p = h.parts in
-      let held : HeldAt (v.subs i s.grant) s = held_at (v.subs i s.grant) (sub_in s.grant n.subs) s (p.subs s.grant) there in
+      let held : HeldAt (v.subs i s.grant) s =
+      held_at (v.subs i s.grant) (sub_in s.grant n.subs) s (p.subs s.grant) there in
       let t = held.sub in
       let live : Live v i s.grant t = record { member = h.mode; holds = held.is } in
-      let move : IsMove m v i s.grant t s.content None [] = again_moves m v i s.grant t s.content live held.shown.content in
+      let move : IsMove m v i s.grant t s.content None [] =
+      again_moves m v i s.grant t s.content live held.shown.content in
       let view : View = alter v i s.grant t move.content (fill_of s.grant None) (told s.grant s.content) [] in
       let keeps : KeepsSent v view = keeps_one move.move in
-      let again : IsShown (record { hop = t.hop; content = move.content }) s = record { hop = held.shown.hop; content = move.shown; kept = held.shown.kept } in
-      let parts : PartsShown view n = record { minted = p.minted; asked = p.asked; pending = p.pending; seen = p.seen; subs = shows_again v.subs i n.subs (record { hop = t.hop; content = move.content }) s p.subs there again; order = p.order; replies = p.replies; said = λ x y e. packet_kept keeps y.packet (p.said x y e); reply_order = p.reply_order; confirmed = p.confirmed; roster = p.roster } in
+      let again : IsShown (record { hop = t.hop; content = move.content }) s =
+      record { hop = held.shown.hop; content = move.shown; kept = held.shown.kept } in
+      let parts : PartsShown view n = record {
+        minted = p.minted;
+        asked = p.asked;
+        pending = p.pending;
+        seen = p.seen;
+        subs = shows_again v.subs i n.subs
+            (record { hop = t.hop; content = move.content }) s p.subs there again;
+        order = p.order;
+        replies = p.replies;
+        said = λ x y e. packet_kept keeps y.packet (p.said x y e);
+        reply_order = p.reply_order;
+        confirmed = p.confirmed;
+        roster = p.roster;
+      } in
       record {
         view = view;
-        way = moved unmoved move.move move.right (of_alter v i s.grant t move.content (fill_of s.grant None) (told s.grant s.content) []);
+        way = moved unmoved move.move move.right
+            (of_alter v i s.grant t move.content (fill_of s.grant None) (told s.grant s.content) []);
         name = refl;
         node = record { mode = shown.mode; parts = λ x. parts };
         sent = results_shown job view i s (λ x y. early (told s.grant s.content) v.results x y);
@@ -81,30 +103,44 @@ module _ (m : Meaning) (job : JobOf) (n : NodeOf) (r : Roster) (is : n.state ≡
         fills = refl;
       }
 
-  all_again : (xs : List SubOf) → AllByRecursion (λ s. sub_in s.grant n.subs ≡ Some s) xs → (v : View) → NodeShown v n → StepShown m job.number v n (sends (flat_map (results job n.incarnation) xs) n)
+  all_again : (xs : List SubOf) → AllByRecursion (λ s. sub_in s.grant n.subs ≡ Some s) xs → (v : View) → NodeShown v n
+      → StepShown m job.number v n (sends (flat_map (results job n.incarnation) xs) n)
   all_again [] there v shown = only_sends m job v n shown [] (none_shown v)
   all_again (s ∷ xs) there v shown =
       let a = tells_again v shown s there.0 in
-      steps_on m job.number v n (sends (results job n.incarnation s) n) (λ k. sends (flat_map (results job n.incarnation) xs) n) a (all_again xs there.1 a.view a.node)
+      steps_on m job.number v n (sends (results job n.incarnation s) n)
+      (λ k. sends (flat_map (results job n.incarnation) xs) n) a (all_again xs there.1 a.view a.node)
 
-  pub member_resend_shown : (v : View) → Run m v → NodeShown v n → StepShown m job.number v n (sends (calls.member_resend job n r) n)
+  pub member_resend_shown : (v : View) → Run m v → NodeShown v n
+      → StepShown m job.number v n (sends (calls.member_resend job n r) n)
   member_resend_shown v run shown =
       let h = member_shown v n r is shown in
-      let a = only_sends m job v n shown (beat job n.incarnation r ∷ calls.pending_steal job n n.asker.pending) (both_shown v (beat job n.incarnation r ∷ []) (calls.pending_steal job n n.asker.pending) (one_shown v (beat job n.incarnation r) tt) (by_pending h.parts.pending (rw h.mode tt) n.asker.pending refl)) in
-      steps_on m job.number v n (sends (beat job n.incarnation r ∷ calls.pending_steal job n n.asker.pending) n) (λ k. sends (flat_map (results job n.incarnation) n.subs) n) a (all_again n.subs (all_there name_of_sub n.subs h.parts.order) a.view a.node)
+      let a = only_sends m job v n shown (beat job n.incarnation r ∷ calls.pending_steal job n n.asker.pending)
+      (both_shown v (beat job n.incarnation r ∷ []) (calls.pending_steal job n n.asker.pending)
+      (one_shown v (beat job n.incarnation r) tt) (by_pending h.parts.pending (rw h.mode tt) n.asker.pending refl))
+      in
+      steps_on m job.number v n (sends (beat job n.incarnation r ∷ calls.pending_steal job n n.asker.pending) n)
+      (λ k. sends (flat_map (results job n.incarnation) n.subs) n) a
+      (all_again n.subs (all_there name_of_sub n.subs h.parts.order) a.view a.node)
     where
-      by_pending : v.pending n.incarnation ≡ pending_of n.asker.pending → Works (v.mode n.incarnation) → (o : Option Request) → n.asker.pending ≡ o → AllShown v (calls.pending_steal job n o)
+      by_pending : v.pending n.incarnation ≡ pending_of n.asker.pending → Works (v.mode n.incarnation)
+          → (o : Option Request) → n.asker.pending ≡ o → AllShown v (calls.pending_steal job n o)
       by_pending waits up None e = none_shown v
-      by_pending waits up (Some q) e = one_shown v _ ((requests_reached (run_reached run)).asked_sent n.incarnation (record { victim = q.victim; seq = q.seq }) up (waits ∙ ap pending_of e))
+      by_pending waits up (Some q) e = one_shown v _
+          ((requests_reached (run_reached run)).asked_sent n.incarnation (record { victim = q.victim; seq = q.seq }) up
+          (waits ∙ ap pending_of e))
 
 -- one that joins
-pub join_again_shown : (m : Meaning) (job : JobOf) (v : View) (n : NodeOf) → Run m v → n.state ≡ Joining → NodeShown v n → StepShown m job.number v n (sends (calls.join job n.incarnation ∷ []) n)
+pub join_again_shown : (m : Meaning) (job : JobOf) (v : View) (n : NodeOf) → Run m v → n.state ≡ Joining → NodeShown v n
+    → StepShown m job.number v n (sends (calls.join job n.incarnation ∷ []) n)
 join_again_shown m job v n run is shown =
     let mode : v.mode n.incarnation ≡ tables.Joining = shown.mode ∙ ap mode_of is in
     let up : Works (v.mode n.incarnation) = rw mode tt in
     let used = (names_reached (run_reached run)).up_used n.incarnation up in
-    let worker = (homes_reached (run_reached run)).worker_name n.incarnation up (λ house. let two : tables.Joining ≡ tables.House = sym mode ∙ house in cc) in
-    only_sends m job v n shown (calls.join job n.incarnation ∷ []) (one_shown v (calls.join job n.incarnation) (used, worker))
+    let worker = (homes_reached (run_reached run)).worker_name n.incarnation up
+    (λ house. let two : tables.Joining ≡ tables.House = sym mode ∙ house in cc) in
+    only_sends m job v n shown (calls.join job n.incarnation ∷ [])
+    (one_shown v (calls.join job n.incarnation) (used, worker))
 
 -- items that are put in order were there
 sorted_among : (gs sorted : List Given) (y : Given) → y ∈ with_given gs sorted → (y ∈ gs) ⊎ (y ∈ sorted)
@@ -133,15 +169,18 @@ given_among (r ∷ rs) y m = ⊎_elim
     first (Some g) (inr k) = absurd k
 
 -- one that leaves
-module _ (m : Meaning) (job : JobOf) (v : View) (n : NodeOf) (r : Roster) (heir : ℕ) (run : Run m v) (is : n.state ≡ Leaving r heir) (shown : NodeShown v n) where
+module _ (m : Meaning) (job : JobOf) (v : View) (n : NodeOf) (r : Roster) (heir : ℕ) (run : Run m v)
+    (is : n.state ≡ Leaving r heir) (shown : NodeShown v n) where
   grants_again : AllShown v (grants_in (awaited r n))
   grants_again p k =
       let own = (leaver_shown v n r heir is shown).parts in
       let g = mapped (λ (y : Given). y.packet) (with_given (all_given (awaited r n)) []) p k in
-      let among : g.item ∈ all_given (awaited r n) = ⊎_elim (λ x. x) (λ x. absurd x) (sorted_among (all_given (awaited r n)) [] g.item g.there) in
+      let among : g.item ∈ all_given (awaited r n) =
+      ⊎_elim (λ x. x) (λ x. absurd x) (sorted_among (all_given (awaited r n)) [] g.item g.there) in
       let x = given_among (awaited r n) g.item among in
       let held = filtered _ x.reply n.replies x.there in
-      let found = of_each (λ (z : Reply). item_in name_of_reply (name_of_reply z) n.replies ≡ Some z) n.replies (all_there name_of_reply n.replies own.reply_order) x.reply held in
+      let found = of_each (λ (z : Reply). item_in name_of_reply (name_of_reply z) n.replies ≡ Some z) n.replies
+      (all_there name_of_reply n.replies own.reply_order) x.reply held in
       rw (g.is, x.is) (own.said x.reply.thief x.reply found)
 
   offers_again : AllShown v (calls.wholes job heir n)
@@ -158,15 +197,23 @@ module _ (m : Meaning) (job : JobOf) (v : View) (n : NodeOf) (r : Roster) (heir 
   pub leaving_resend_shown : StepShown m job.number v n (sends (calls.whole_leaving_resend job n r heir) n)
   leaving_resend_shown =
       let first = beat job n.incarnation r ∷ calls.wholes job heir n ++ grants_in (awaited r n) in
-      let a = only_sends m job v n shown first (both_shown v (beat job n.incarnation r ∷ calls.wholes job heir n) (grants_in (awaited r n)) (both_shown v (beat job n.incarnation r ∷ []) (calls.wholes job heir n) (one_shown v (beat job n.incarnation r) tt) offers_again) grants_again) in
-      steps_on m job.number v n (sends first n) (λ k. sends (leaves job r heir n) n) a (leaves_shown m job a.view n r heir (runs_on run a.way) is a.node)
+      let a = only_sends m job v n shown first
+      (both_shown v (beat job n.incarnation r ∷ calls.wholes job heir n) (grants_in (awaited r n))
+      (both_shown v (beat job n.incarnation r ∷ []) (calls.wholes job heir n)
+      (one_shown v (beat job n.incarnation r) tt) offers_again) grants_again) in
+      steps_on m job.number v n (sends first n) (λ k. sends (leaves job r heir n) n) a
+      (leaves_shown m job a.view n r heir (runs_on run a.way) is a.node)
 
 -- wherever it stands
-pub resend_shown : (m : Meaning) (job : JobOf) (v : View) (n : NodeOf) → Run m v → NodeShown v n → AnswerShown m job.number v n (calls.whole_resend job n)
+pub resend_shown : (m : Meaning) (job : JobOf) (v : View) (n : NodeOf) → Run m v → NodeShown v n
+    → AnswerShown m job.number v n (calls.whole_resend job n)
 unfolding calls.whole_resend by_state
 resend_shown m job v n run shown = by_where n.state refl
   where
-    by_where : (x : State) → n.state ≡ x → AnswerShown m job.number v n (by_state x (Does (sends (calls.join job n.incarnation ∷ []) n)) (λ r. Does (sends (calls.member_resend job n r) n)) (λ r heir. Does (sends (calls.whole_leaving_resend job n r heir) n)) (Refused error.NotJoined))
+    by_where : (x : State) → n.state ≡ x
+        → AnswerShown m job.number v n (by_state x (Does (sends (calls.join job n.incarnation ∷ []) n))
+        (λ r. Does (sends (calls.member_resend job n r) n))
+        (λ r heir. Does (sends (calls.whole_leaving_resend job n r heir) n)) (Refused error.NotJoined))
     by_where Joining is = join_again_shown m job v n run is shown
     by_where (Member r) is = member_resend_shown m job n r is v run shown
     by_where (Leaving r heir) is = leaving_resend_shown m job v n r heir run is shown

@@ -24,7 +24,8 @@ use Rattle.actor_laws.proofs.node_moves.Departing.{MayDepart, freezes_shown}
 use Rattle.actor_laws.proofs.node_moves.Leaving.{leaves_shown}
 
 -- a member departs
-module _ (m : Meaning) (job : JobOf) (v : View) (n : NodeOf) (r : Roster) (run : Run m v) (is : n.state ≡ Member r) (shown : NodeShown v n) where
+module _ (m : Meaning) (job : JobOf) (v : View) (n : NodeOf) (r : Roster) (run : Run m v) (is : n.state ≡ Member r)
+    (shown : NodeShown v n) where
   departs_shown : (heir : ℕ) → MayDepart n r heir → StepShown m job.number v n (calls.whole_departs job r heir n)
   departs_shown heir may =
       let gone : NodeOf = record n { state = Leaving r heir; assemblies = [] } in
@@ -35,19 +36,38 @@ module _ (m : Meaning) (job : JobOf) (v : View) (n : NodeOf) (r : Roster) (run :
   pub member_depart_shown : (heir : ℕ) → AnswerShown m job.number v n (calls.whole_member_depart job heir n r)
   member_depart_shown heir = by_pending n.asker.pending refl
     where
-      by_rest : MayDepart n r heir → (b c : Bool) → AnswerShown m job.number v n (calls.frozen job (cond b (Some freezing.HopSpent) (cond c (Some freezing.TooBig) None)) (calls.whole_departs job r heir n))
+      by_rest : MayDepart n r heir → (b c : Bool)
+          → AnswerShown m job.number v n (calls.frozen job
+          (cond b (Some freezing.HopSpent) (cond c (Some freezing.TooBig) None)) (calls.whole_departs job r heir n))
       by_rest may true c = tt
       by_rest may false true = tt
       by_rest may false false = departs_shown heir may
 
-      by_live : n.asker.pending ≡ None → (heir ≡ n.incarnation → ⊥) → (b : Bool) → is_live heir r.members ≡ b → AnswerShown m job.number v n (calls.frozen job (cond (not b) (Some freezing.NoHeir) (cond (list_any is_last_hop n.subs) (Some freezing.HopSpent) (cond (list_any is_too_big (offers_of (move_to job heir n) n.subs)) (Some freezing.TooBig) None))) (calls.whole_departs job r heir n))
+      by_live : n.asker.pending ≡ None → (heir ≡ n.incarnation → ⊥) → (b : Bool) → is_live heir r.members ≡ b
+          → AnswerShown m job.number v n (calls.frozen job
+          (cond (not b) (Some freezing.NoHeir)
+          (cond (list_any is_last_hop n.subs) (Some freezing.HopSpent)
+          (cond (list_any is_too_big (offers_of (move_to job heir n) n.subs)) (Some freezing.TooBig) None)))
+          (calls.whole_departs job r heir n))
       by_live none other false e = tt
-      by_live none other true e = by_rest (record { idle = none; other = other; live = e }) (list_any is_last_hop n.subs) (list_any is_too_big (offers_of (move_to job heir n) n.subs))
+      by_live none other true e = by_rest (record { idle = none; other = other; live = e })
+          (list_any is_last_hop n.subs) (list_any is_too_big (offers_of (move_to job heir n) n.subs))
 
-      by_self : n.asker.pending ≡ None → (b : Bool) → nat_eq heir n.incarnation ≡ b → AnswerShown m job.number v n (calls.frozen job (cond (b || not (is_live heir r.members)) (Some freezing.NoHeir) (cond (list_any is_last_hop n.subs) (Some freezing.HopSpent) (cond (list_any is_too_big (offers_of (move_to job heir n) n.subs)) (Some freezing.TooBig) None))) (calls.whole_departs job r heir n))
+      by_self : n.asker.pending ≡ None → (b : Bool) → nat_eq heir n.incarnation ≡ b
+          → AnswerShown m job.number v n (calls.frozen job
+          (cond (b || not (is_live heir r.members)) (Some freezing.NoHeir)
+          (cond (list_any is_last_hop n.subs) (Some freezing.HopSpent)
+          (cond (list_any is_too_big (offers_of (move_to job heir n) n.subs)) (Some freezing.TooBig) None)))
+          (calls.whole_departs job r heir n))
       by_self none true e = tt
       by_self none false e = by_live none (λ same. grind (arith, e, same)) (is_live heir r.members) refl
 
-      by_pending : (o : Option Request) → n.asker.pending ≡ o → AnswerShown m job.number v n (calls.frozen job (cond (is_some o) (Some freezing.Pending) (cond (lacks_heir (move_to job heir n) r.members) (Some freezing.NoHeir) (cond (list_any is_last_hop n.subs) (Some freezing.HopSpent) (cond (list_any is_too_big (offers_of (move_to job heir n) n.subs)) (Some freezing.TooBig) None)))) (calls.whole_departs job r heir n))
+      by_pending : (o : Option Request) → n.asker.pending ≡ o
+          → AnswerShown m job.number v n (calls.frozen job
+          (cond (is_some o) (Some freezing.Pending)
+          (cond (lacks_heir (move_to job heir n) r.members) (Some freezing.NoHeir)
+          (cond (list_any is_last_hop n.subs) (Some freezing.HopSpent)
+          (cond (list_any is_too_big (offers_of (move_to job heir n) n.subs)) (Some freezing.TooBig) None))))
+          (calls.whole_departs job r heir n))
       by_pending (Some q) e = tt
       by_pending None e = by_self e (nat_eq heir n.incarnation) refl

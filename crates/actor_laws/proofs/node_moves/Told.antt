@@ -16,13 +16,42 @@ packet_kept {v = v} {w = w} k p = by_body p.body
   where
     by_body : (b : Body) → BodyShown v p.to b → BodyShown w p.to b
     by_body (body.Join b) s = (k.used b.from s.0, s.1)
-    by_body (body.Roster b) s = record { roster = s.roster; shows = s.shows; had = ⊎_elim (λ m. inl (k.rosters s.roster m)) (λ e. inr e) s.had }
+    by_body (body.Roster b) s = record {
+      roster = s.roster;
+      shows = s.shows;
+      had = ⊎_elim (λ m. inl (k.rosters s.roster m)) (λ e. inr e) s.had;
+    }
     by_body (body.Steal b) s = k.steals _ s
-    by_body (body.Grant b) s = record { transfer = s.transfer; sent = k.transfers s.transfer s.sent; grant = s.grant; hop = s.hop; from = s.from; to_is = s.to_is; seq = s.seq; content = s.content }
-    by_body (body.Refuse b) s = record { steal = s.steal; sent = k.refusals s.steal s.sent; thief = s.thief; seq_is = s.seq_is }
+    by_body (body.Grant b) s = record {
+      transfer = s.transfer;
+      sent = k.transfers s.transfer s.sent;
+      grant = s.grant;
+      hop = s.hop;
+      from = s.from;
+      to_is = s.to_is;
+      seq = s.seq;
+      content = s.content;
+    }
+    by_body (body.Refuse b) s = record {
+      steal = s.steal;
+      sent = k.refusals s.steal s.sent;
+      thief = s.thief;
+      seq_is = s.seq_is;
+    }
     by_body (body.Result b) s = k.results _ s
     by_body (body.ResultAck b) s = k.settled _ s
-    by_body (body.Offer b) s = record { transfer = s.transfer; sent = k.transfers s.transfer s.sent; before = s.before; grant = s.grant; hop = s.hop; later = s.later; from = s.from; to_is = s.to_is; content = s.content; kept = s.kept }
+    by_body (body.Offer b) s = record {
+      transfer = s.transfer;
+      sent = k.transfers s.transfer s.sent;
+      before = s.before;
+      grant = s.grant;
+      hop = s.hop;
+      later = s.later;
+      from = s.from;
+      to_is = s.to_is;
+      content = s.content;
+      kept = s.kept;
+    }
     by_body (body.OfferAck b) s = k.acks _ s
     by_body (body.Leave b) s = (s.0, s.1, k.leaves _ s.2)
     by_body (body.Abort b) s = k.settled _ s
@@ -44,11 +73,24 @@ pub both_shown : (v : View) (ps qs : List PacketOf) → AllShown v ps → AllSho
 both_shown v ps qs a b p m = ⊎_elim (λ x. a p x) (λ x. b p x) (either ps qs p m)
 
 pub sent_early : {job : ℕ} (ps qs : List PacketOf) (t : Transfer) → IsSent job ps t → IsSent job (ps ++ qs) t
-sent_early ps qs t s = record { packet = s.packet; there = early ps qs s.packet s.there; job_is = s.job_is; to = s.to; carries = s.carries }
+sent_early ps qs t s = record {
+  packet = s.packet;
+  there = early ps qs s.packet s.there;
+  job_is = s.job_is;
+  to = s.to;
+  carries = s.carries;
+}
 
 pub sent_late : {job : ℕ} (ps qs : List PacketOf) (t : Transfer) → IsSent job qs t → IsSent job (ps ++ qs) t
-sent_late ps qs t s = record { packet = s.packet; there = later ps qs s.packet s.there; job_is = s.job_is; to = s.to; carries = s.carries }
+sent_late ps qs t s = record {
+  packet = s.packet;
+  there = later ps qs s.packet s.there;
+  job_is = s.job_is;
+  to = s.to;
+  carries = s.carries;
+}
 
-pub fills_on : (xs ys : List Fill) (before : List tables.Fill) → shown_fills (xs ++ ys) before ≡ shown_fills ys (shown_fills xs before)
+pub fills_on : (xs ys : List Fill) (before : List tables.Fill)
+    → shown_fills (xs ++ ys) before ≡ shown_fills ys (shown_fills xs before)
 fills_on [] ys before = refl
 fills_on (x ∷ xs) ys before = fills_on xs ys (shown_fill x ∷ before)

@@ -125,7 +125,8 @@ lists_stands h i stands r out =
 data LeadsLive (members : List Listed) (i : ℕ) : Type 0 where
   lives : is_live i members ≡ true → LeadsLive members i
   died : status_in i members ≡ Some member.Dead → LeadsLive members i
-  left_to : (heir : ℕ) → status_in i members ≡ Some (member.Left heir) → is_live heir members ≡ true → LeadsLive members i
+  left_to : (heir : ℕ) → status_in i members ≡ Some (member.Left heir) → is_live heir members ≡ true
+      → LeadsLive members i
 
 says_so : (o : Option Status) → says_live o ≡ true → o ≡ Some member.Live
 says_so None e = cc
@@ -138,7 +139,8 @@ unfolding follow
 bears most members i live = ap (bearer (follow most members) i) (says_so (status_in i members) live)
 
 -- so who has its work is live
-resolved_live : (members : List Listed) (i j : ℕ) → LeadsLive members i → resolve members i ≡ Some j → is_live j members ≡ true
+resolved_live : (members : List Listed) (i j : ℕ) → LeadsLive members i → resolve members i ≡ Some j
+    → is_live j members ≡ true
 unfolding follow
 resolved_live members i j (lives live) e =
     let same : i ≡ j = some_same (sym (bears (length members) members i live) ∙ e) in
@@ -148,7 +150,8 @@ resolved_live members i j (died dead) e =
     cc
 resolved_live [] i j (left_to heir at live) e = cc
 resolved_live (m ∷ ms) i j (left_to heir at live) e =
-    let there : follow (suc (length ms)) (m ∷ ms) heir ≡ Some j = sym (ap (bearer (follow (length (m ∷ ms)) (m ∷ ms)) i) at) ∙ e in
+    let there : follow (suc (length ms)) (m ∷ ms) heir ≡ Some j =
+    sym (ap (bearer (follow (length (m ∷ ms)) (m ∷ ms)) i) at) ∙ e in
     let same : heir ≡ j = some_same (sym (bears (length ms) (m ∷ ms) heir live) ∙ there) in
     subst (λ (k : ℕ). is_live k (m ∷ ms) ≡ true) same live
 
@@ -158,7 +161,8 @@ RootLeads h = (r : RootGrant) → h.root ≡ Some r → LeadsLive (members_of h)
 settled_stands : (job : JobOf) (h : HouseOf) → RootLeads h → RootStands (moves.settles job h).after
 settled_stands job h leads = by_root h.root refl
   where
-    by_holder : (r : RootGrant) → LeadsLive (members_of h) r.holder → (o : Option ℕ) → resolve (members_of h) r.holder ≡ o
+    by_holder : (r : RootGrant) → LeadsLive (members_of h) r.holder → (o : Option ℕ)
+        → resolve (members_of h) r.holder ≡ o
         → RootStands (moves.settles_to job r o h).after
     by_holder r way None e x out = cc
     by_holder r way (Some holder) e x out =
@@ -199,27 +203,32 @@ leaving_leads : (h : HouseOf) (from heir : ℕ) → RootStands h
     → RootLeads (moves.says from (moves.leaving_status from heir (members_of h)) h)
 leaving_leads h from heir stands r out = by_bearer (resolve (members_of h) heir)
   where
-    by_status : (s : Status) → (status_in r.holder (map member_of (moves.changed (restate s) from h.workers)) ≡ Some s → LeadsLive (map member_of (moves.changed (restate s) from h.workers)) r.holder)
+    by_status : (s : Status) → (status_in r.holder (map member_of (moves.changed (restate s) from h.workers)) ≡ Some s
+        → LeadsLive (map member_of (moves.changed (restate s) from h.workers)) r.holder)
         → LeadsLive (map member_of (moves.changed (restate s) from h.workers)) r.holder
     by_status s new = elim (says_says r.holder from s h.workers) [
       | inl both ↦ new both.1
       | inr same ↦ lives (ap says_live same ∙ stands r out)
     ]
 
-    heir_lives : (k : ℕ) → (k ≡ from → ⊥) → is_live k (members_of h) ≡ true → is_live k (map member_of (moves.changed (restate (member.Left k)) from h.workers)) ≡ true
+    heir_lives : (k : ℕ) → (k ≡ from → ⊥) → is_live k (members_of h) ≡ true
+        → is_live k (map member_of (moves.changed (restate (member.Left k)) from h.workers)) ≡ true
     heir_lives k other live = elim (says_says k from (member.Left k) h.workers) [
       | inl both ↦ absurd (other both.0)
       | inr same ↦ ap says_live same ∙ live
     ]
 
     by_heir : (k : ℕ) (a b : Bool) → nat_eq k from ≡ a → is_live k (members_of h) ≡ b
-        → LeadsLive (map member_of (moves.changed (restate (cond (not a && b) (member.Left k) member.Dead)) from h.workers)) r.holder
+        → LeadsLive (map member_of (moves.changed
+        (restate (cond (not a && b) (member.Left k) member.Dead)) from h.workers)) r.holder
     by_heir k true b same live = by_status member.Dead died
     by_heir k false false same live = by_status member.Dead died
     by_heir k false true same live =
-        by_status (member.Left k) (λ at. left_to k at (heir_lives k (λ e. (let two : true ≡ false = sym (eq-eqb k from e) ∙ same in cc)) live))
+        by_status (member.Left k) (λ at. left_to k at
+        (heir_lives k (λ e. (let two : true ≡ false = sym (eq-eqb k from e) ∙ same in cc)) live))
 
-    by_bearer : (o : Option ℕ) → LeadsLive (map member_of (moves.changed (restate (moves.left_to from (members_of h) o)) from h.workers)) r.holder
+    by_bearer : (o : Option ℕ) → LeadsLive
+        (map member_of (moves.changed (restate (moves.left_to from (members_of h) o)) from h.workers)) r.holder
     by_bearer None = by_status member.Dead died
     by_bearer (Some k) = by_heir k (nat_eq k from) (is_live k (members_of h)) refl refl
 
@@ -230,14 +239,20 @@ dead_says : (j limit now : ℕ) (ws : List Enlisted)
 dead_says j limit now [] = inr refl
 dead_says j limit now (w ∷ ws) = by_test (has_key name_of_enlisted name_cmp (j, 0) w) (dead_says j limit now ws)
   where
-    by_lost : (b : Bool) → (Some (cond b member.Dead w.status) ≡ Some member.Dead) ⊎ (Some (cond b member.Dead w.status) ≡ Some w.status)
+    by_lost : (b : Bool) → (Some (cond b member.Dead w.status) ≡ Some member.Dead)
+        ⊎ (Some (cond b member.Dead w.status) ≡ Some w.status)
     by_lost true = inl refl
     by_lost false = inr refl
 
     by_test : (b : Bool)
-        → (status_in j (map member_of (map (moves.declared_dead limit now) ws)) ≡ Some member.Dead) ⊎ (status_in j (map member_of (map (moves.declared_dead limit now) ws)) ≡ status_in j (map member_of ws))
-        → (told (cond b (Some (member_of (moves.declared_dead limit now w))) (item_in name_of_member (j, 0) (map member_of (map (moves.declared_dead limit now) ws)))) ≡ Some member.Dead) ⊎
-        (told (cond b (Some (member_of (moves.declared_dead limit now w))) (item_in name_of_member (j, 0) (map member_of (map (moves.declared_dead limit now) ws)))) ≡ told (cond b (Some (member_of w)) (item_in name_of_member (j, 0) (map member_of ws))))
+        → (status_in j (map member_of (map (moves.declared_dead limit now) ws)) ≡ Some member.Dead)
+        ⊎ (status_in j (map member_of (map (moves.declared_dead limit now) ws)) ≡ status_in j (map member_of ws))
+        → (told (cond b (Some (member_of (moves.declared_dead limit now w)))
+        (item_in name_of_member (j, 0) (map member_of (map (moves.declared_dead limit now) ws))))
+        ≡ Some member.Dead) ⊎
+        (told (cond b (Some (member_of (moves.declared_dead limit now w)))
+        (item_in name_of_member (j, 0) (map member_of (map (moves.declared_dead limit now) ws))))
+        ≡ told (cond b (Some (member_of w)) (item_in name_of_member (j, 0) (map member_of ws))))
     by_test true later = by_lost (moves.is_lost limit now w)
     by_test false later = later
 
@@ -304,7 +319,8 @@ module _ (job : JobOf) (h : HouseOf) (stands : RootStands h) where
   leaves_stands : (b : Leave) → HouseAnswerStands (left job b h)
   leaves_stands b =
       by_listed (status_in b.from (members_of h)) _ _ _
-      (settled_stands job (moves.says b.from (moves.leaving_status b.from b.heir (members_of h)) h) (leaving_leads h b.from b.heir stands))
+      (settled_stands job (moves.says b.from (moves.leaving_status b.from b.heir (members_of h)) h)
+      (leaving_leads h b.from b.heir stands))
       stands tt
 
   -- Save
@@ -356,7 +372,8 @@ module _ (job : JobOf) where
     where
       by_lost : (b : Bool)
           → RootStands
-          (cond b (moves.settles job (moves.with_workers (map (moves.declared_dead h.limit now) h.workers) (record h { moment = now }))) (sends [] (record h { moment = now }))).after
+          (cond b (moves.settles job (moves.with_workers (map (moves.declared_dead h.limit now) h.workers)
+          (record h { moment = now }))) (sends [] (record h { moment = now }))).after
       by_lost true =
           settled_stands job
           (moves.with_workers (map (moves.declared_dead h.limit now) h.workers) (record h { moment = now }))

@@ -126,7 +126,8 @@ module _ (job : JobOf) (n : NodeOf) (r : Roster) (is : n.state ≡ Member r)
 
       by_sub : (o : Option SubOf)
           → NodeLasts
-          (for_some o (λ s. for_some (record_in b.grant s.content.records) (λ x. closes_by job r b.outcome s x)) n).after
+          (for_some o (λ s. for_some (record_in b.grant s.content.records) (λ x. closes_by job r b.outcome s x))
+          n).after
       by_sub None = goes n is refl
       by_sub (Some s) = by_record s (record_in b.grant s.content.records)
 

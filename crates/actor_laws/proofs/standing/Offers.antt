@@ -81,12 +81,16 @@ module _ (job : JobOf) (n : NodeOf) (r : Roster) (is : n.state ≡ Member r) (st
       → AnswerStands (member_roster job r new n)
   member_roster_stands order one new =
       in_order (nat_cmp new.epoch r.epoch) _ _ _ tt
-      (by_test (nat_lt r.version new.version) _ _ (λ newer. by_listed (status_in n.incarnation new.members) _ _ _ kept tt tt) tt)
+      (by_test (nat_lt r.version new.version) _ _
+      (λ newer. by_listed (status_in n.incarnation new.members) _ _ _ kept tt tt) tt)
       tt
     where
       kept : AnswerStands (Does (recovers_by job new n))
       kept =
-          record { subs = all_recovered new.members n.subs order one; victim = victim_settled new.members n.asker.pending }
+          record {
+            subs = all_recovered new.members n.subs order one;
+            victim = victim_settled new.members n.asker.pending;
+          }
 
 -- Piece: with the last one comes an Offer
 module _ (job : JobOf) (n : NodeOf) (r : Roster) (is : n.state ≡ Member r) (stands : MemberStands r.members n) where

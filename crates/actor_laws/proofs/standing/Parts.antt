@@ -42,7 +42,12 @@ module _ (members : List Member) where
 
   same_sub : (g : Grant) (t : SubOf) (subs : List SubOf) → sub_in g subs ≡ Some t → SubWas g t subs
   same_sub g t subs there =
-      record { was = t; there = there; host = inl refl; records = λ k r e. record { old = r; there = e; holder = inl refl } }
+      record {
+        was = t;
+        there = there;
+        host = inl refl;
+        records = λ k r e. record { old = r; there = e; holder = inl refl };
+      }
 
   pub follows_none : (subs : List SubOf) → Follows subs subs
   follows_none subs g t there = same_sub g t subs there
@@ -170,7 +175,12 @@ module _ (members : List Member) where
           record {
             follows =
                 put_follows new subs
-                (record { was = s; there = there; host = inr stands; records = λ k r e. record { old = r; there = e; holder = inl refl } });
+                (record {
+                  was = s;
+                  there = there;
+                  host = inr stands;
+                  records = λ k r e. record { old = r; there = e; holder = inl refl };
+                });
             order = λ order. put_order name_of_sub new subs order;
             host = λ t at. elim (put_or_there name_of_sub (name_of_grant g) new t subs at) [
               | inl both ↦ rw both.1 stands
@@ -257,7 +267,8 @@ module _ (members : List Member) where
 
       by_sub : (o : Option SubOf) → host_in k subs ≡ o
           → RecordPart k subs
-          (for_some o (λ s. for_some (record_in k s.content.records) (λ x. record_settled s x (resolve members x.holder))) subs).subs
+          (for_some o (λ s. for_some (record_in k s.content.records)
+          (λ x. record_settled s x (resolve members x.holder))) subs).subs
       by_sub None e = record {
         follows = follows_none subs;
         order = order;

@@ -81,7 +81,10 @@ module _ (members : List Member) where
               let w = x.records k z.old z.there in
               elim z.holder [
                 | inl same ↦
-                    elim w.holder [ inl again ↦ rw (same, again) (stood.holders k w.old w.there) | inr stands ↦ rw same stands ]
+                    elim w.holder [
+                      | inl again ↦ rw (same, again) (stood.holders k w.old w.there)
+                      | inr stands ↦ rw same stands
+                    ]
                 | inr stands ↦ stands
               ];
         }

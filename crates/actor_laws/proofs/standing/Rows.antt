@@ -148,7 +148,8 @@ module _ (job : JobOf) (n : NodeOf) (r : Roster) (is : n.state ≡ Member r) (st
 
       by_sub : (o : Option SubOf) → host_in b.grant n.subs ≡ o
           → NodeStands
-          (for_some o (λ s. for_some (record_in b.grant s.content.records) (λ x. closes_by job r b.outcome s x)) n).after
+          (for_some o (λ s. for_some (record_in b.grant s.content.records) (λ x. closes_by job r b.outcome s x))
+          n).after
       by_sub None e = same_node
       by_sub (Some s) e =
           by_record s (found_by name_of_sub (has_record b.grant) s n.subs order e) (record_in b.grant s.content.records)
@@ -179,7 +180,8 @@ module _ (job : JobOf) (n : NodeOf) (r : Roster) (is : n.state ≡ Member r) (st
           let done = carried known d f s.content c e in
           let turn : ContentStands r.members c.after =
           rw (← done.is)
-          (turned_stands r.members done.frame (resumed known done.frame.place d.turn) s.content (stands.subs g s held)) in
+          (turned_stands r.members done.frame (resumed known done.frame.place d.turn) s.content (stands.subs g s held))
+          in
           changed_stands s c turn
       by_change (Err sub.Stale) e = tt
       by_change (Err sub.Spent) e = tt

@@ -17,8 +17,10 @@ use Rattle.actor_laws.specs.node_moves.Shows.{NodeShown, OfferShown}
 use Rattle.actor_laws.proofs.node_moves.Held.{HeldAt, held_at}
 use Rattle.actor_laws.proofs.node_moves.Members.{member_shown}
 
-module _ (m : Meaning) (v : View) (n : NodeOf) (r : Roster) (run : Run m v) (is : n.state ≡ Member r) (shown : NodeShown v n) where
-  pub never_offered : (x : SubOf) → sub_in x.grant n.subs ≡ Some x → (to : ℕ) (o : Offer) → OfferShown v.transfers to o → o.grant ≡ x.grant → o.hop ≡ x.hop + 1 → ⊥
+module _ (m : Meaning) (v : View) (n : NodeOf) (r : Roster) (run : Run m v) (is : n.state ≡ Member r)
+    (shown : NodeShown v n) where
+  pub never_offered : (x : SubOf) → sub_in x.grant n.subs ≡ Some x → (to : ℕ) (o : Offer) → OfferShown v.transfers to o
+      → o.grant ≡ x.grant → o.hop ≡ x.hop + 1 → ⊥
   never_offered x there to o s grant hop =
       let i = n.incarnation in
       let g = x.grant in
@@ -32,7 +34,9 @@ module _ (m : Meaning) (v : View) (n : NodeOf) (r : Roster) (run : Run m v) (is 
       let next : t.hop ≡ suc k = (let a = s.hop in let b = held.shown.hop in omega (arith, a, b, hop)) in
       let handed : Handed v.mode v.transfers t k = names.path t k s.sent next in
       let mine : SentTo v.transfers g k i = names.seen_sent i k g up (names.held_seen i g held.sub up held.is) in
-      let same : handed.before.transfer ≡ mine.transfer = names.one handed.before.transfer mine.transfer handed.before.sent mine.sent (handed.before.grant ∙ of_grant ∙ sym mine.grant) (handed.before.hop ∙ sym mine.hop) in
+      let same : handed.before.transfer ≡ mine.transfer =
+      names.one handed.before.transfer mine.transfer handed.before.sent mine.sent (handed.before.grant ∙ of_grant
+      ∙ sym mine.grant) (handed.before.hop ∙ sym mine.hop) in
       let from : t.from ≡ i = sym handed.before.to ∙ ap (λ (u : Transfer). u.to) same ∙ mine.to in
       let takes : Takes (v.mode t.from) = rw (from, h.mode) tt in
       handed.stopped takes

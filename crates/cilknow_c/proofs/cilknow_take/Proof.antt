@@ -18,42 +18,70 @@ pub cilknow_take_spec : {M : Type 1} → statement M
 cilknow_take_spec 𝓤 𝓛 𝓜 𝓡 wired =
     let c = f.clauses 𝓛 𝓜.mem 𝓡.returns in let W = walk_of 𝓛 f.ended stayed c in let 𝓣 = tables 𝓤 𝓛.H 𝓜 𝓡 𝓡.env in
     let G = triple_of 𝓛 g.signature (g.spec 𝓛 𝓜.mem 𝓡.returns) in
-    proved 𝓛 f.ended stayed c 𝓜 𝓡 (Goes-dropped 𝓛 1 (plain (λ _. RawPtr)) yes (λ κs x w. refl), (Goes-dropped 𝓛 1 (SliceRefOf (0 ∷ []) tt (plain (λ _. u8)) (λ _. tt)) yes (λ κs x w. refl), tt))
+    proved 𝓛 f.ended stayed c 𝓜 𝓡 (
+      Goes-dropped 𝓛 1 (plain (λ _. RawPtr)) yes (λ κs x w. refl),
+      (Goes-dropped 𝓛 1 (SliceRefOf (0 ∷ []) tt (plain (λ _. u8)) (λ _. tt)) yes (λ κs x w. refl), tt),
+    )
     f.Key.name code.function (code.unfolded 𝓤 𝓛.H 𝓜 𝓡 wired)
-    (λ κs. (rawptr_vals, (shr_slice_vals, tt))) (λ κs. (rawptr_Tells, (shr_slice_Tells (named 0) κs.0 u8, tt))) (λ κs qs bounds a before are.
+    (λ κs. (rawptr_vals, (shr_slice_vals, tt))) (λ κs. (rawptr_Tells, (shr_slice_Tells (named 0) κs.0 u8, tt)))
+    (λ κs qs bounds a before are.
     let s = a.1.0 in let SL = ShrSlice (named 0) κs.0 u8 in
     let y : Ptr → W.Ghost = λ p. ((κs, qs, bounds, (p, (s, tt)), (rawptr_vals p, (shr_slice_vals s, tt))), before) in
-    qed 𝓛 (((‵ (flft κs.0 qs.0) ⊛ ‵ ftrue) ⊛ (‵ (RawPtr.own_val a.0 (rawptr_vals a.0)) ⊛ ‵ (SL.own_val s (shr_slice_vals s)) ⊛ ‵ ftrue)) ∷ ‵ (lies_at R full_share a.0 before) ∷ []) ∵
+    qed 𝓛 (((‵ (flft κs.0 qs.0) ⊛ ‵ ftrue) ⊛
+    (‵ (RawPtr.own_val a.0 (rawptr_vals a.0)) ⊛ ‵ (SL.own_val s (shr_slice_vals s)) ⊛ ‵ ftrue)) ∷ ‵
+    (lies_at R full_share a.0 before) ∷ []) ∵
     split ! $ split ! $ move ! (2 ∷ []) $ split ! $ move ! (1 ∷ []) $ split ! $ keep ! (5 ∷ 0 ∷ 3 ∷ []) $
     in_a_block ! a.0 (λ p. lies_at R full_share p before) (id⊢ 𝓤 _) (λ b o e.
-    regoal ! (λ p. prop (WpFn 𝓤 𝓛.H 𝓣.C 𝓣.Λ code.function (rawptr_vals p ++ (shr_slice_vals s ++ [])) (W.post (y p)))) e refl $
-    enter ! _ _ _ _ _ $ alloc_all ! (λ l. pass_all ! refl ((tt, tt), (((shr_slice_Lawful 𝓛 (named 0) κs.0 u8).typed s _ are.1.0).0, tt)) $
+    regoal ! (λ p. prop (WpFn 𝓤 𝓛.H 𝓣.C 𝓣.Λ code.function (rawptr_vals p ++ (shr_slice_vals s ++ [])) (W.post (y p)))) e
+    refl $
+    enter ! _ _ _ _ _ $ alloc_all ! (λ l.
+    pass_all ! refl ((tt, tt), (((shr_slice_Lawful 𝓛 (named 0) κs.0 u8).typed s _ are.1.0).0, tt)) $
     sets ! (of_opd ! (get ! refl)) refl (tt, tt) $
     sets ! (addr ! (through ! refl (stop !))) refl (tt, tt) $
     sets ! (addr ! (through ! refl (stop !))) refl (tt, tt) $
     lft_new ! tt (λ α. let κ : Lft = α ∷ [] in
     -- [the token; the actor; the slice; its token]
     move ! (1 ∷ []) $
-    use1 𝓛 (later (some (λ (δ : ℕ). ‵ ((MutRef (named 0) κ R).own_val (record { ref_ptr = (b, o); ghost_name = δ; now = before }) (vptr b o ∷ [])) ⊛ ‵ (flent κ (Body (mem R) b o δ)))))
+    use1 𝓛 (later (some (λ (δ : ℕ). ‵ ((MutRef (named 0) κ R).own_val
+    (record { ref_ptr = (b, o); ghost_name = δ; now = before }) (vptr b o ∷ [])) ⊛ ‵
+    (flent κ (Body (mem R) b o δ)))))
     (lends_ref 𝓛 R (named 0) κ before b o) $ await ! tt $ pick ! (λ δ. split ! $
     -- [the loan; what the lender keeps; the token; the slice; its token]
     let x : MutBor R.Denot = record { ref_ptr = (b, o); ghost_name = δ; now = before } in
-    let z : G.Ghost = (((κ, (κs.0, tt)), (full_share, (qs.0, tt)), tt, (x, (s, tt)), (vptr b o ∷ [], (shr_slice_vals s, tt))), tt) in
+    let z : G.Ghost = (
+      (
+        (κ, (κs.0, tt)),
+        (full_share, (qs.0, tt)),
+        tt,
+        (x, (s, tt)),
+        (vptr b o ∷ [], (shr_slice_vals s, tt)),
+      ),
+      tt,
+    ) in
     nothing ! $ move ! (4 ∷ 0 ∷ []) $ fjoin ! $ move ! (1 ∷ 0 ∷ []) $ fjoin ! $
-    nothing ! $ move ! (4 ∷ 0 ∷ []) $ join ! $ move ! (3 ∷ 0 ∷ []) $ join ! $ join ! $ nothing ! $ move ! (1 ∷ 0 ∷ []) $ join ! $ use1 𝓛 (raw (G.pre z)) (id⊢ 𝓤 (G.pre z)) $
+    nothing ! $ move ! (4 ∷ 0 ∷ []) $ join ! $ move ! (3 ∷ 0 ∷ []) $ join ! $ join ! $ nothing ! $ move !
+    (1 ∷ 0 ∷ []) $ join ! $ use1 𝓛 (raw (G.pre z)) (id⊢ 𝓤 (G.pre z)) $
     calls_at ! (framed 𝓤 𝓛.H 𝓜 𝓣) G (met 𝓤 𝓛 𝓜 𝓡 (code.calls-actors::host_actor::HostActor::take 𝓡.env wired)) z
     (and_then ! (get ! refl) (and_then ! (get ! refl) (no_more !))) (λ v.
-    use1 𝓛 (later (some (λ (r : ℤ). ((‵ (flft κ full_share) ⊛ ‵ (flft κs.0 qs.0) ⊛ ‵ ftrue) ⊛ ‵ (i64.own_val r (v ∷ []))) ⊛
-    some (λ (ws : Lasts g.ended (κ, (κs.0, tt)) (x, (s, tt))). ‵ (lasts g.ended (κ, (κs.0, tt)) (x, (s, tt)) ws) ⊛ raw (fact 𝓤 (TakeComes s.now r before ws.0)))))) (id⊢ 𝓤 _) $
+    use1 𝓛 (later (some (λ (r : ℤ). ((‵ (flft κ full_share) ⊛ ‵ (flft κs.0 qs.0) ⊛ ‵ ftrue) ⊛ ‵
+    (i64.own_val r (v ∷ []))) ⊛
+    some (λ (ws : Lasts g.ended (κ, (κs.0, tt)) (x, (s, tt))). ‵ (lasts g.ended (κ, (κs.0, tt)) (x, (s, tt)) ws) ⊛ raw
+    (fact 𝓤 (TakeComes s.now r before ws.0)))))) (id⊢ 𝓤 _) $
     await ! tt $ pick ! (λ r. split ! $ split ! $ split ! $ lft_end ! tt $
     -- [the token's end; the slice's token; the result; what is ensured; what the lender keeps]
-    move ! (2 ∷ []) $ peeks ! i64 (Is i64) (shows 𝓛 i64) r (v ∷ []) (λ is. lands_as ! refl refl ((sint_Lawful 𝓛 w64).typed r _ is).0 $
+    move ! (2 ∷ []) $ peeks ! i64 (Is i64) (shows 𝓛 i64) r (v ∷ [])
+    (λ is. lands_as ! refl refl ((sint_Lawful 𝓛 w64).typed r _ is).0 $
     move ! (3 ∷ []) $ pick ! (λ ws. split ! $ move ! (1 ∷ []) $ heard ! _ (λ comes. fsplit ! $
     -- [what is said of the actor, and of the slice; the result; the token's end; the slice's token;
     -- what the lender keeps]
-    fsplit ! $ move ! (4 ∷ 6 ∷ 0 ∷ []) $ use3 𝓛 (later (‵ ((mem R).own_at ws.0 b o))) (ref_back 𝓛 R κ δ ws.0 b o) $ await ! tt $
+    fsplit ! $ move ! (4 ∷ 6 ∷ 0 ∷ []) $ use3 𝓛 (later (‵ ((mem R).own_at ws.0 b o)))
+    (ref_back 𝓛 R κ δ ws.0 b o) $ await ! tt $
     -- [the actor; what is said of it; of the slice; the result; the slice's token]
     returns ! (look_at ! 0 refl) $ free_all ! refl $ keep ! (3 ∷ 4 ∷ 0 ∷ []) $
-    suffices ! _ (via 𝓤 _ (mono_r 𝓤 (on_exit 𝓛 f.ended stayed κs qs (rawptr_vals (block_ptr b o), (shr_slice_vals s, tt)) v r (block_ptr b o, (s, tt)) (tt, (tt, tt))) (ex_i 𝓤 (λ (after : R.Denot). sep 𝓤 (sem 𝓛 (lies_at R full_share (block_ptr b o) after)) (fact 𝓤 (TakeComes s.now r before after))) ws.0))
+    suffices ! _ (via 𝓤 _ (mono_r 𝓤 (on_exit 𝓛 f.ended stayed κs qs
+    (rawptr_vals (block_ptr b o), (shr_slice_vals s, tt)) v r (block_ptr b o, (s, tt)) (tt, (tt, tt)))
+    (ex_i 𝓤 (λ (after : R.Denot). sep 𝓤 (sem 𝓛 (lies_at R full_share (block_ptr b o) after))
+    (fact 𝓤 (TakeComes s.now r before after))) ws.0))
     (ends_at 𝓛 f.ended stayed c (y (block_ptr b o)) v r (tt, (tt, tt)) (tt, (tt, tt)))) $
-    nothing ! $ nothing ! $ join ! $ nothing ! $ join ! $ move ! (2 ∷ 0 ∷ 1 ∷ []) $ group ! 3 $ frame ! $ says ! comes $ done !))))))))))
+    nothing ! $ nothing ! $ join ! $ nothing ! $ join ! $ move !
+    (2 ∷ 0 ∷ 1 ∷ []) $ group ! 3 $ frame ! $ says ! comes $ done !))))))))))

@@ -8,4 +8,6 @@ pub returns-clause-read : goal.returns-clause-read
 returns-clause-read c =
     let left = drop c.loop-entry.entry-index c.args.entries.now in
     let none = drop_all c.loop-entry.entry-index c.args.entries.now c.loop-entry-test.false in
-    is_read c.loop-entry.text.items (events_of c.args.entries.now) (text_ends c.loop-entry.text.items c.args.entries.now left none c.loop-entry.invariant.text) (read_ends c.args.entries.now left none c.loop-entry.invariant.read)
+    is_read c.loop-entry.text.items (events_of c.args.entries.now)
+    (text_ends c.loop-entry.text.items c.args.entries.now left none c.loop-entry.invariant.text)
+    (read_ends c.args.entries.now left none c.loop-entry.invariant.read)

@@ -10,15 +10,30 @@ pub returns-in-Ok-clause-done : goal.returns-in-Ok-clause-done
 returns-in-Ok-clause-done g c _ =
     let old = c.args.store.now in
     let epoch : c.at.result ≡ c.args.book.now.epoch = c.at.ensures ∙ ap (λ (h : HouseOf). h.epoch) c.book.view_is in
-    let next = same_epoch old c.at.result c.args.book.now.epoch c.args.book.now.sequence (Some c.args.outcome) epoch c.requires.stored in
-    let made : Committed g.D.Disk.device g.D.Disk.planned (next_of old.«record» c.at.result (Some c.args.outcome)) old c.commit.new.self = record { store = c.in-Ok.ensures.ok; calls = c.in-Ok.ensures.calls; plan = c.in-Ok.ensures.plan; kept = c.in-Ok.ensures.kept } in
-    (c.record.ensures, subst (λ (r : Stored). Committed g.D.Disk.device g.D.Disk.planned r old c.commit.new.self) next made)
+    let next = same_epoch old c.at.result c.args.book.now.epoch c.args.book.now.sequence
+    (Some c.args.outcome) epoch c.requires.stored in
+    let made : Committed g.D.Disk.device g.D.Disk.planned
+    (next_of old.«record» c.at.result (Some c.args.outcome)) old c.commit.new.self =
+    record {
+      store = c.in-Ok.ensures.ok;
+      calls = c.in-Ok.ensures.calls;
+      plan = c.in-Ok.ensures.plan;
+      kept = c.in-Ok.ensures.kept;
+    } in (
+      c.record.ensures,
+      subst (λ (r : Stored). Committed g.D.Disk.device g.D.Disk.planned r old c.commit.new.self) next
+          made,
+    )
 
 pub returns-in-Err-clause-halted : goal.returns-in-Err-clause-halted
 returns-in-Err-clause-halted g c _ =
     let old = c.args.store.now in
     let said = c.in-Err.ensures in
     let epoch : c.at.result ≡ c.args.book.now.epoch = c.at.ensures ∙ ap (λ (h : HouseOf). h.epoch) c.book.view_is in
-    let next = same_epoch old c.at.result c.args.book.now.epoch c.args.book.now.sequence (Some c.args.outcome) epoch c.requires.stored in
-    let left = halted g.D.Disk.device g.D.Disk.planned old c.commit.new.self (next_of old.«record» c.at.result (Some c.args.outcome)) (Err c.in-Err.field-0) c.args.book.now.epoch c.args.book.now.sequence c.requires.stored c.requires.counted said.refused said.spent.0 said.ends said.stopped said.either in
+    let next = same_epoch old c.at.result c.args.book.now.epoch c.args.book.now.sequence
+    (Some c.args.outcome) epoch c.requires.stored in
+    let left = halted g.D.Disk.device g.D.Disk.planned old c.commit.new.self
+    (next_of old.«record» c.at.result (Some c.args.outcome))
+    (Err c.in-Err.field-0) c.args.book.now.epoch c.args.book.now.sequence c.requires.stored c.requires.counted
+    said.refused said.spent.0 said.ends said.stopped said.either in
     (refl, subst (λ (r : Stored). Halted g.D.Disk.device g.D.Disk.planned r old c.commit.new.self) next left)

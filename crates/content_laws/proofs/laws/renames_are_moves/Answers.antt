@@ -6,7 +6,8 @@ pub returns-clause-parent : goal.returns-clause-parent
 returns-clause-parent c = parent_shown
 
 pub returns-clause-renamed : goal.returns-clause-renamed
-returns-clause-renamed c = λ v i g s content roster host live shows sent resolves. renames i g s roster host live sent (rw shows.host resolves)
+returns-clause-renamed c = λ v i g s content roster host live shows sent resolves.
+    renames i g s roster host live sent (rw shows.host resolves)
 
 pub returns-clause-thief : goal.returns-clause-thief
 returns-clause-thief c = thief_shown

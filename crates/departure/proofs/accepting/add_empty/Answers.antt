@@ -9,10 +9,14 @@ loop-slot-preserved c =
     let slots = c.args.frame.now.slots in
     let n = c.args.frame.now.number in
     let within : c.loop-slot.slot < length slots = rw c.as_slice-value-items.ensures at c.loop-slot-test.true in
-    let test : is_some (get_or slots c.loop-slot.slot None) ≡ not c.is_none.result = rw c.as_slice-value-items.ensures at c.is_none.ensures in
+    let test : is_some (get_or slots c.loop-slot.slot None) ≡ not c.is_none.result =
+    rw c.as_slice-value-items.ensures at c.is_none.ensures in
     elim c.if-is_none.branch [
-      | then-is_none+in_ok-push w ↦ rw (w.awaited-is, w.in_ok-push.ensures.ok, w.slot.ensures) (empty_next n c.loop-slot.slot slots c.loop-slot.awaited None within (test ∙ ap not w.if-is_none.true) ∙ c.loop-slot.invariant)
-      | else-is_none w ↦ rw w.awaited-is (filled_next n c.loop-slot.slot slots c.loop-slot.awaited None within (test ∙ ap not w.if-is_none.false) ∙ c.loop-slot.invariant)
+      | then-is_none+in_ok-push w ↦ rw (w.awaited-is, w.in_ok-push.ensures.ok, w.slot.ensures)
+          (empty_next n c.loop-slot.slot slots c.loop-slot.awaited None within (test ∙ ap not w.if-is_none.true)
+          ∙ c.loop-slot.invariant)
+      | else-is_none w ↦ rw w.awaited-is (filled_next n c.loop-slot.slot slots c.loop-slot.awaited None within (test
+          ∙ ap not w.if-is_none.false) ∙ c.loop-slot.invariant)
     ]
 
 pub returns : goal.returns

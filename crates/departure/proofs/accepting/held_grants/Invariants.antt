@@ -7,4 +7,5 @@ use Rattle.departure.proofs.LinkedNames.{has}
 use Rattle.departure.proofs.accepting.held_grants.Given as goal
 
 abbrev pub invariant-loop-sub : goal.invariant-loop-sub
-invariant-loop-sub l = (g : Grant) → (has (name_of_grant g) l.held || is_some (host_in g l.sub-iterator)) ≡ is_some (host_in g l.subs)
+invariant-loop-sub l = (g : Grant) → (has (name_of_grant g) l.held || is_some (host_in g l.sub-iterator))
+    ≡ is_some (host_in g l.subs)

@@ -12,4 +12,5 @@ returns-in_default c =
 pub returns : goal.returns
 returns c =
     let there : item_in name_of_member (c.args.word, 0) c.args.members.now ≡ Some c.in-Some.member.now = search rules in
-    absurd (no_worker c.args.word c.in-Some.member.now c.args.members.now there c.requires.other c.word-worker.ensures.worker)
+    absurd (no_worker c.args.word c.in-Some.member.now c.args.members.now there c.requires.other
+    c.word-worker.ensures.worker)

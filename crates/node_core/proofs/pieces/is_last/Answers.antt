@@ -5,14 +5,18 @@ use Rattle.node_core.proofs.pieces.is_last.Goals as goal
 
 pub returns-then-count-pieces : goal.returns-then-count-pieces
 returns-then-count-pieces c =
-    let all : length (put_part (part_of c.args.piece.now) c.args.assembly.now.parts) ≡ length c.args.assembly.now.parts + 1 = one_more (part_of c.args.piece.now) c.args.assembly.now.parts c.requires in
+    let all : length (put_part (part_of c.args.piece.now) c.args.assembly.now.parts)
+    ≡ length c.args.assembly.now.parts + 1 =
+    one_more (part_of c.args.piece.now) c.args.assembly.now.parts c.requires in
     let count : c.len-count.result ≡ length c.args.assembly.now.parts = search rules in
     let pieces : c.pieces-pieces.result ≡ c.args.assembly.now.pieces = search rules in
     rw (all, count, pieces) refl
 
 pub returns-else-count-pieces : goal.returns-else-count-pieces
 returns-else-count-pieces c =
-    let all : length (put_part (part_of c.args.piece.now) c.args.assembly.now.parts) ≡ length c.args.assembly.now.parts + 1 = one_more (part_of c.args.piece.now) c.args.assembly.now.parts c.requires in
+    let all : length (put_part (part_of c.args.piece.now) c.args.assembly.now.parts)
+    ≡ length c.args.assembly.now.parts + 1 =
+    one_more (part_of c.args.piece.now) c.args.assembly.now.parts c.requires in
     let count : c.len-count.result ≡ length c.args.assembly.now.parts = search rules in
     let pieces : c.pieces-pieces.result ≡ c.args.assembly.now.pieces = search rules in
     let all_there : nat_lt c.len-count.result c.pieces-pieces.result ≡ false = search rules in

@@ -6,6 +6,7 @@ use Rattle.node_core.proofs.pieces.joined_with.Given as goal
 
 abbrev pub invariant-loop-part : goal.invariant-loop-part
 invariant-loop-part l = record {
-  bytes : l.bytes.items ++ to_come l.is_in (part_of l.piece) l.part-iterator ≡ joined (put_part (part_of l.piece) l.parts);
+  bytes : l.bytes.items ++ to_come l.is_in (part_of l.piece) l.part-iterator
+      ≡ joined (put_part (part_of l.piece) l.parts);
   own : IsToCome l.is_in (part_of l.piece) l.part-iterator;
 }

@@ -8,12 +8,25 @@ use Rattle.node_runner.proofs.crew.desk_of.Goals as goal
 
 pub hire-requires : goal.hire-requires
 hire-requires g c =
-    let all = All-pop (IsBlankPassOf c.in_ok-queue.queue (stamp_of c.first-first.result)) _ _ (Some c.in-Some.pass) c.in-Some.ensures.items c.in_ok-queue.ensures.passes.1 in
+    let all = All-pop (IsBlankPassOf c.in_ok-queue.queue (stamp_of c.first-first.result)) _ _
+    (Some c.in-Some.pass) c.in-Some.ensures.items c.in_ok-queue.ensures.passes.1 in
     let same : c.first-first.result.program ≡ c.args.job.now.program = c.first-first.ensures ∙ c.checked.ensures.same in
-    λ k d lt. let at = all.0 k d lt in (at.0 ∙ ap (λ (q : QueueOf). q.queue) (sym c.in_ok-queue-2.ensures.ok), at.3 ∙ ap (λ (p : Program). Some (stamp p)) same)
+    λ k d lt. let at = all.0 k d lt in (
+      at.0 ∙ ap (λ (q : QueueOf). q.queue) (sym c.in_ok-queue-2.ensures.ok),
+      at.3
+          ∙ ap (λ (p : Program). Some (stamp p)) same,
+    )
 
 pub returns-clause-desk : goal.returns-clause-desk
 returns-clause-desk g c =
-    let all = All-pop (IsBlankPassOf c.in_ok-queue.queue (stamp_of c.first-first.result)) _ _ (Some c.in-Some.pass) c.in-Some.ensures.items c.in_ok-queue.ensures.passes.1 in
+    let all = All-pop (IsBlankPassOf c.in_ok-queue.queue (stamp_of c.first-first.result)) _ _
+    (Some c.in-Some.pass) c.in-Some.ensures.items c.in_ok-queue.ensures.passes.1 in
     let same : c.first-first.result.program ≡ c.args.job.now.program = c.first-first.ensures ∙ c.checked.ensures.same in
-    subst (IsHomeOf c.args.job.now.program) (sym c.in_ok-desk.ensures) ((all.1.0 ∙ ap (λ (q : QueueOf). q.queue) (sym c.in_ok-queue-2.ensures.ok), all.1.3 ∙ ap (λ (p : Program). Some (stamp p)) same), search rules)
+    subst (IsHomeOf c.args.job.now.program) (sym c.in_ok-desk.ensures) (
+      (
+        all.1.0 ∙ ap (λ (q : QueueOf). q.queue) (sym c.in_ok-queue-2.ensures.ok),
+        all.1.3
+            ∙ ap (λ (p : Program). Some (stamp p)) same,
+      ),
+      search rules,
+    )

@@ -7,4 +7,7 @@ pub returns-clause-pens : goal.returns-clause-pens
 returns-clause-pens g c = λ w own. (All-pop (IsPenOf w) _ _ (Some c.in-Some.pen) c.in-Some.ensures.items own).0
 
 pub returns-clause-node : goal.returns-clause-node
-returns-clause-node g c = λ w own. ((All-pop (IsPenOf w) _ _ (Some c.in-Some.pen) c.in-Some.ensures.items own).1, c.in_ok-desk.ensures.desk)
+returns-clause-node g c = λ w own. (
+  (All-pop (IsPenOf w) _ _ (Some c.in-Some.pen) c.in-Some.ensures.items own).1,
+  c.in_ok-desk.ensures.desk,
+)

@@ -10,4 +10,5 @@ abbrev of_dead : List Member → List AssemblyOf → List Name
 of_dead members xs = map name_of_assembly (filter (λ a. shows_dead (status_in a.from members)) xs)
 
 abbrev pub invariant-loop-assembly : goal.invariant-loop-assembly
-invariant-loop-assembly l = l.names.items ++ of_dead l.roster.members l.assembly-iterator ≡ of_dead l.roster.members l.assemblies
+invariant-loop-assembly l = l.names.items ++ of_dead l.roster.members l.assembly-iterator
+    ≡ of_dead l.roster.members l.assemblies

@@ -7,6 +7,10 @@ use Rattle.node_state.proofs.node.hold.Goals as goal
 
 pub returns-in-Err-clause-err : goal.returns-in-Err-clause-err
 returns-in-Err-clause-err c =
-    let gone : c.take.new.self ≡ without_in name_of_seen (name_of_grant c.args.sub.grant) c.put.new.self = search rules in
-    let put : c.put.new.self ≡ put_seen c.args.sub.grant c.args.sub.hop c.args.seen.now = search rules in
-    (search rules, gone ∙ ap (without_in name_of_seen (name_of_grant c.args.sub.grant)) put ∙ seen_again c.args.sub.grant c.args.sub.hop c.args.seen.now c.requires)
+    let gone : c.take.new.self ≡ without_in name_of_seen (name_of_grant c.args.sub.grant) c.put.new.self =
+    search rules in
+    let put : c.put.new.self ≡ put_seen c.args.sub.grant c.args.sub.hop c.args.seen.now = search rules in (
+      search rules,
+      gone ∙ ap (without_in name_of_seen (name_of_grant c.args.sub.grant)) put
+          ∙ seen_again c.args.sub.grant c.args.sub.hop c.args.seen.now c.requires,
+    )

@@ -12,5 +12,6 @@ loop-count-preserved c =
       c.in_default.ensures.ok
           ∙ ap (λ (p : Post). posted p c.loop-count.posts) c.post_in.ensures
           ∙ ap (posted _) c.loop-count.invariant.2
-          ∙ sym (posted_up_to c.args.grant c.args.ready.now c.loop-count.count c.index-ready-count.result c.args.posts.now less c.index-ready-count.is),
+          ∙ sym (posted_up_to c.args.grant c.args.ready.now c.loop-count.count c.index-ready-count.result
+          c.args.posts.now less c.index-ready-count.is),
     )

@@ -15,5 +15,7 @@ loop-count-preserved c =
       λ before by_level is. c.take.ensures
           ∙ ap (λ (p : Post). without_post p c.loop-count.posts) c.post_in.ensures
           ∙ ap (without_post _) (c.loop-count.invariant.1 before by_level is)
-          ∙ taken_back c.args.grant c.args.ready.now c.loop-count.count (c.loop-count.count - 1) c.index-ready-count.result before (omega (arith, some)) less c.index-ready-count.is by_level,
+          ∙ taken_back c.args.grant c.args.ready.now c.loop-count.count
+          (c.loop-count.count - 1) c.index-ready-count.result before
+          (omega (arith, some)) less c.index-ready-count.is by_level,
     )

@@ -6,7 +6,9 @@ use Rattle.node_state.specs.Posts.{posted_all}
 use Rattle.node_state.proofs.node.take_back.Given as goal
 
 abbrev pub invariant-loop-count : goal.invariant-loop-count
-invariant-loop-count l = (l.count ≤ length l.ready) × ((before : List Post) → IsByLevel before → l.fn.posts ≡ posted_all (ready_of l.grant l.ready) before → l.posts ≡ posted_all (ready_of l.grant (take l.count l.ready)) before)
+invariant-loop-count l = (l.count ≤ length l.ready)
+    × ((before : List Post) → IsByLevel before → l.fn.posts ≡ posted_all (ready_of l.grant l.ready) before
+    → l.posts ≡ posted_all (ready_of l.grant (take l.count l.ready)) before)
 
 abbrev pub decreases-loop-count : goal.decreases-loop-count
 decreases-loop-count l = l.count

@@ -10,4 +10,7 @@ use Rattle.one_node.proofs.begin.begun.Goals as goal
 pub returns-clause-holds : goal.returns-clause-holds
 returns-clause-holds c =
     let posts : c.post.new.self ≡ post_of (readied (first_frame c.in_ok-root_task.field-0)) ∷ [] = search rules in
-    so_holds c.args.job.now c.in_ok-root_task.field-0 c.in_ok-content.content c.post.new.self c.checked.ensures.job (c.granted_content_agrees.ensures c.args.job.now (house_of 1) c.in_ok-root_task.field-0 c.in_ok-root_task.ensures.agrees) c.in_ok-root_task.ensures.rooted (c.in_ok-content.ensures ∙ ap (λ host. granted_content host c.in_ok-root_task.field-0) c.house.ensures) posts
+    so_holds c.args.job.now c.in_ok-root_task.field-0 c.in_ok-content.content c.post.new.self c.checked.ensures.job
+    (c.granted_content_agrees.ensures c.args.job.now
+    (house_of 1) c.in_ok-root_task.field-0 c.in_ok-root_task.ensures.agrees) c.in_ok-root_task.ensures.rooted
+    (c.in_ok-content.ensures ∙ ap (λ host. granted_content host c.in_ok-root_task.field-0) c.house.ensures) posts

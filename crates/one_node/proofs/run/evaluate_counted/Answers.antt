@@ -13,14 +13,19 @@ returns-in-Finished g c =
       n = c.loop-taken.taken + 1;
       within = omega arith;
       run = run_of c.turn.new.run;
-      reached = reached_next c.args.job.now c.loop-taken.taken (run_of c.loop-taken.run) (run_of c.turn.new.run) c.loop-taken.invariant.reached c.in_ok-turn.ensures.next;
+      reached = reached_next c.args.job.now c.loop-taken.taken (run_of c.loop-taken.run)
+          (run_of c.turn.new.run) c.loop-taken.invariant.reached c.in_ok-turn.ensures.next;
       ended = c.in-Finished.is;
-    } in
-    (end, c.finished_roots_mean.ensures c.args.job.now c.turn.new.run.content c.in-Finished.outcome follows.agrees follows.rooted c.in-Finished.is)
+    } in (
+      end,
+      c.finished_roots_mean.ensures c.args.job.now c.turn.new.run.content c.in-Finished.outcome follows.agrees
+          follows.rooted c.in-Finished.is,
+    )
 
 pub loop-taken-preserved : goal.loop-taken-preserved
 loop-taken-preserved g c = record {
-  reached = reached_next c.args.job.now c.loop-taken.taken (run_of c.loop-taken.run) (run_of c.turn.new.run) c.loop-taken.invariant.reached c.in_ok-turn.ensures.next;
+  reached = reached_next c.args.job.now c.loop-taken.taken (run_of c.loop-taken.run)
+      (run_of c.turn.new.run) c.loop-taken.invariant.reached c.in_ok-turn.ensures.next;
   holds = c.in_ok-turn.ensures.follows.goes_on c.in_default.is;
 }
 

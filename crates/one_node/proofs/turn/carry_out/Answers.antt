@@ -8,7 +8,9 @@ use Rattle.one_node.proofs.turn.carry_out.Goals as goal
 pub unreachable-requires : goal.unreachable-requires
 unreachable-requires c =
     let t = c.requires.turn in
-    never_stale (turned t.frame c.args.done.now.turn c.args.content.now) (sym (carried_is c.args.content.now c.args.frame c.args.done.now t) ∙ rw c.in-Err-Stale.field-0-is at c.in-Err-Stale.ensures)
+    never_stale (turned t.frame c.args.done.now.turn c.args.content.now)
+    (sym (carried_is c.args.content.now c.args.frame c.args.done.now t)
+    ∙ rw c.in-Err-Stale.field-0-is at c.in-Err-Stale.ensures)
 
 pub returns-clause-answer : goal.returns-clause-answer
 returns-clause-answer c =

@@ -11,4 +11,5 @@ pub returns : goal.returns
 returns c = λ job d entries worlds v ok can runs m unarmed.
     let s = run_sound job ok d entries worlds v can runs m in
     let disk : v.disk ≡ s.whole.disk = ap (λ (w : WorldOf). w.disk) s.from.cut in
-    subst (λ (x : Device). CanBegin job x) (sym disk) (goes_on job s.whole s.tied (ap (λ (x : Device). x.arming) (sym disk) ∙ unarmed))
+    subst (λ (x : Device). CanBegin job x) (sym disk)
+    (goes_on job s.whole s.tied (ap (λ (x : Device). x.arming) (sym disk) ∙ unarmed))

@@ -9,7 +9,9 @@ pub returns-clause-name : goal.returns-clause-name
 returns-clause-name c = λ v epoch reached later used. name_new v (epochs_reached reached) epoch later used
 
 pub returns-clause-rosters : goal.returns-clause-rosters
-returns-clause-rosters c = λ v r epoch reached later m. let past = (epochs_reached reached).rosters_past r m in omega (arith, past, later)
+returns-clause-rosters c = λ v r epoch reached later m. let past =
+    (epochs_reached reached).rosters_past r m in omega (arith, past, later)
 
 pub returns-clause-leaves : goal.returns-clause-leaves
-returns-clause-leaves c = λ v l epoch reached later m. let past = (epochs_reached reached).leaves_past l m in omega (arith, past, later)
+returns-clause-leaves c = λ v l epoch reached later m. let past =
+    (epochs_reached reached).leaves_past l m in omega (arith, past, later)

@@ -13,4 +13,5 @@ pub returns-clause-once : goal.returns-clause-once
 returns-clause-once c = λ v k reached e. (tasks_reached reached).root_open k e
 
 pub returns-clause-program : goal.returns-clause-program
-returns-clause-program c = λ p input v o run e. ap outcome_of ((values_run (program_meaning p input) (program_serial p input) run).stored_agrees o e)
+returns-clause-program c = λ p input v o run e.
+    ap outcome_of ((values_run (program_meaning p input) (program_serial p input) run).stored_agrees o e)

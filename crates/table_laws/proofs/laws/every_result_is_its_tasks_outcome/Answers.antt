@@ -8,4 +8,5 @@ pub returns-clause-granted : goal.returns-clause-granted
 returns-clause-granted c = λ v x reached told. (names_reached reached).result_granted x told
 
 pub returns-clause-outcome : goal.returns-clause-outcome
-returns-clause-outcome c = λ m v x t law run told there is. (values_run m law run).results_agree x t.content told (sent t there is refl)
+returns-clause-outcome c = λ m v x t law run told there is.
+    (values_run m law run).results_agree x t.content told (sent t there is refl)

@@ -6,4 +6,6 @@ pub loop-argument-init : goal.loop-argument-init
 loop-argument-init c = prints_none
 
 pub loop-argument-preserved : goal.loop-argument-preserved
-loop-argument-preserved c = prints_turn argument_kinds c.args.arguments.now c.loop-argument.argument-index c.argument-item.result c.loop-argument-test.true c.argument-item.is c.loop-argument.invariant c.print_argument.ensures
+loop-argument-preserved c = prints_turn argument_kinds c.args.arguments.now c.loop-argument.argument-index
+    c.argument-item.result c.loop-argument-test.true c.argument-item.is c.loop-argument.invariant
+    c.print_argument.ensures

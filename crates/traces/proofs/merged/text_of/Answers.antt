@@ -9,7 +9,8 @@ returns-clause-events c =
     let left = drop c.loop-entry.entry-index c.args.entries.now in
     let none = drop_all c.loop-entry.entry-index c.args.entries.now c.loop-entry-test.false in
     events_are_read c.args.labels.now c.loop-entry.text.items c.args.entries.now
-    (text_ends c.args.labels.now c.loop-entry.text.items (text_of c.args.labels.now c.args.entries.now) left none c.loop-entry.invariant.text)
+    (text_ends c.args.labels.now c.loop-entry.text.items
+    (text_of c.args.labels.now c.args.entries.now) left none c.loop-entry.invariant.text)
     (right_ends c.args.labels.now c.args.entries.now left none c.loop-entry.invariant.right)
 
 pub returns-clause-names : goal.returns-clause-names
@@ -17,5 +18,6 @@ returns-clause-names c =
     let left = drop c.loop-entry.entry-index c.args.entries.now in
     let none = drop_all c.loop-entry.entry-index c.args.entries.now c.loop-entry-test.false in
     names_are_read c.args.labels.now c.loop-entry.text.items c.args.entries.now
-    (text_ends c.args.labels.now c.loop-entry.text.items (text_of c.args.labels.now c.args.entries.now) left none c.loop-entry.invariant.text)
+    (text_ends c.args.labels.now c.loop-entry.text.items
+    (text_of c.args.labels.now c.args.entries.now) left none c.loop-entry.invariant.text)
     (right_ends c.args.labels.now c.args.entries.now left none c.loop-entry.invariant.right)

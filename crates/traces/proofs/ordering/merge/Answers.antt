@@ -6,7 +6,8 @@ use Rattle.traces.proofs.ordering.merge.Goals as goal
 pub returns : goal.returns
 returns c = record {
   end = merge_of c.run.new.self;
-  led = subst (λ (m : MergeOf). Leads m (merge_of c.run.new.self)) c.in_ok-merge.ensures.begun c.in_ok-run.ensures.moves;
+  led = subst (λ (m : MergeOf). Leads m (merge_of c.run.new.self)) c.in_ok-merge.ensures.begun
+      c.in_ok-run.ensures.moves;
   all = sym c.if-not-is_over.ensures;
   events = refl;
   sent = c.in_ok-run.ensures.kept;

@@ -6,7 +6,8 @@ use Rattle.world.proofs.runs.script_carried_out.Given as goal
 
 -- the events before those that are left were carried out
 abbrev pub invariant-loop-event : goal.invariant-loop-event
-invariant-loop-event g l = (l.run.world.job ≡ l.job) × (l.run.stopped ≡ None) × (past : List Event) × (script l.text ≡ Ok (past ++ l.script)) × (length past ≡ l.run.done) × IsUnderWay l.job past l.run.world.world
+invariant-loop-event g l = (l.run.world.job ≡ l.job) × (l.run.stopped ≡ None) × (past : List Event)
+    × (script l.text ≡ Ok (past ++ l.script)) × (length past ≡ l.run.done) × IsUnderWay l.job past l.run.world.world
 
 abbrev pub decreases-loop-event : goal.decreases-loop-event
 decreases-loop-event g l = length l.script

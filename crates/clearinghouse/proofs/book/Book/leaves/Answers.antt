@@ -9,7 +9,8 @@ roster_alone-requires c =
     let i = c.args.leave.from in
     let heir = c.args.leave.heir in
     rw (c.say.ensures, c.leaving_status-status.ensures)
-    (said_listing i (leaving_status i heir (members_of h)) (leaver_gone i (members_of h) heir) h.version h.workers (leaver_heir i (members_of h) heir) c.requires.live c.requires.house.listing)
+    (said_listing i (leaving_status i heir (members_of h)) (leaver_gone i (members_of h) heir) h.version h.workers
+    (leaver_heir i (members_of h) heir) c.requires.live c.requires.house.listing)
 
 pub settle-requires : goal.settle-requires
 settle-requires c =
@@ -17,4 +18,5 @@ settle-requires c =
     let i = c.args.leave.from in
     let heir = c.args.leave.heir in
     rw (c.say.ensures, c.leaving_status-status.ensures)
-    (said_listing i (leaving_status i heir (members_of h)) (leaver_gone i (members_of h) heir) h.version h.workers (leaver_heir i (members_of h) heir) c.requires.live c.requires.house.listing)
+    (said_listing i (leaving_status i heir (members_of h)) (leaver_gone i (members_of h) heir) h.version h.workers
+    (leaver_heir i (members_of h) heir) c.requires.live c.requires.house.listing)

@@ -8,5 +8,7 @@ pub invariant_of-self : goal.invariant_of-self
 invariant_of-self g c =
     let h = c.self.inside in
     let stands : h.stop ≡ None = search rules in
-    let before : IsOpen h.job.now h.store h.book = subst (λ (s : Option Stop). IsHouseOn (record { job = h.job.now; state = state_of h.book s; store = h.store }) (state_of h.book s)) stands c.self.invariant in
+    let before : IsOpen h.job.now h.store h.book =
+    subst (λ (s : Option Stop). IsHouseOn (record { job = h.job.now; state = state_of h.book s; store = h.store })
+    (state_of h.book s)) stands c.self.invariant in
     rw stands (moment_stands h.job.now h.store h.book before c.args.now c.in-Ok.sent c.pass.new.self c.in-Ok.ensures)

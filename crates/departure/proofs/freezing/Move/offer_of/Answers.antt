@@ -7,7 +7,8 @@ pub returns-clause-same : goal.returns-clause-same
 returns-clause-same c =
     let s = c.args.sub.now in
     let same : c.content-content.result.now ≡ s.content = c.content-content.ensures.same in
-    let hop : c.unwrap.result ≡ s.hop + 1 = next_hop s.hop c.unwrap.result c.next.result c.requires (rw c.hop.ensures at c.next.ensures) c.unwrap.ensures in
+    let hop : c.unwrap.result ≡ s.hop + 1 =
+    next_hop s.hop c.unwrap.result c.next.result c.requires (rw c.hop.ensures at c.next.ensures) c.unwrap.ensures in
     same_offer c.args.self.now.from s _ _ _ _ _ _ _ _
     c.grant.ensures
     hop

@@ -4,4 +4,5 @@ use Rattle.node_core.specs.Moves.{all_given, awaited, is_awaited, with_given}
 use Rattle.node_core.proofs.node.Node.awaited_grants.Given as goal
 
 abbrev pub invariant-loop-reply : goal.invariant-loop-reply
-invariant-loop-reply l = with_given (all_given (filter (is_awaited l.roster l.self.node.confirmed) l.reply-iterator)) l.given ≡ with_given (all_given (awaited l.roster l.self.node)) []
+invariant-loop-reply l = with_given (all_given (filter (is_awaited l.roster l.self.node.confirmed) l.reply-iterator))
+    l.given ≡ with_given (all_given (awaited l.roster l.self.node)) []

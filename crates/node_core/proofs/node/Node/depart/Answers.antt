@@ -13,4 +13,10 @@ invariant_of-self c =
     let has = has_roster old.state member in
     let other : nat_eq c.args.heir old.incarnation ≡ false = search rules in
     let movable : AreMovable (move_to c.self.inside.job.now c.args.heir old) old.subs = search rules in
-    rw (c.leave.ensures has.roster has.is) (record { leaving = record { other = other; movable = movable }; short = c.self.invariant.short; fits = c.self.invariant.fits; rising = rw has.is at c.self.invariant.rising })
+    rw (c.leave.ensures has.roster has.is)
+    (record {
+      leaving = record { other = other; movable = movable };
+      short = c.self.invariant.short;
+      fits = c.self.invariant.fits;
+      rising = rw has.is at c.self.invariant.rising;
+    })

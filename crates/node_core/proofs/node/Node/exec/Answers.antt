@@ -11,5 +11,10 @@ ends-requires-clause-fits c = rw (c.turn.ensures.same, sym c.requires) c.turn.en
 pub returns-clause-answer : goal.returns-clause-answer
 returns-clause-answer c =
     let d = c.args.done.now in
-    let met : Meets (calls.exec c.args.self.now.job (ended c.args.self.now.job.program d.thread d.numbers d.turn) c.args.grant c.args.frame c.args.self.now.node) c.ends.result c.args.self.now c.ends.new.self = rw (c.thread.ensures.same, c.numbers.ensures.same, c.turn.ensures.same) at c.ends.ensures.answer in
-    subst (λ (p : Program). Meets (calls.exec c.args.self.now.job (ended p d.thread d.numbers d.turn) c.args.grant c.args.frame c.args.self.now.node) c.ends.result c.args.self.now c.ends.new.self) (sym c.requires) met
+    let met : Meets (calls.exec c.args.self.now.job
+    (ended c.args.self.now.job.program d.thread d.numbers d.turn) c.args.grant c.args.frame c.args.self.now.node)
+    c.ends.result c.args.self.now c.ends.new.self =
+    rw (c.thread.ensures.same, c.numbers.ensures.same, c.turn.ensures.same) at c.ends.ensures.answer in
+    subst (λ (p : Program). Meets (calls.exec c.args.self.now.job
+    (ended p d.thread d.numbers d.turn) c.args.grant c.args.frame c.args.self.now.node) c.ends.result
+    c.args.self.now c.ends.new.self) (sym c.requires) met

@@ -15,7 +15,8 @@ returns-in_err-work-clause-out_of_memory c =
     let is : IsNode c.args.self.now = rw (← c.self.view_is) c.self.invariant in
     let total : IsTotal c.args.self.now.job.program = search rules in
     let some : is_some (ready_in c.args.frame c.in-Some.sub.now.content) ≡ true = search rules in
-    λ _. ready_lacks_memory c.args.self.now.job c.args.grant c.args.frame c.args.self.now.node c.in-Some.sub.now member there total (is.fits c.args.grant c.in-Some.sub.now there) some
+    λ _. ready_lacks_memory c.args.self.now.job c.args.grant c.args.frame c.args.self.now.node c.in-Some.sub.now member
+    there total (is.fits c.args.grant c.in-Some.sub.now there) some
 
 pub on-requires : goal.on-requires
 on-requires c =
@@ -23,7 +24,9 @@ on-requires c =
     let is : IsNode c.args.self.now = rw (← c.self.view_is) c.self.invariant in
     let told : Some c.in-Some-2.work ≡ work_in c.args.grant c.args.frame c.in-Some.sub.now.content = search rules in
     let program : c.checked-checked.result.now ≡ c.args.self.now.job.program = search rules in
-    work_takes c.args.self.now.job.program c.checked-checked.result.now c.args.grant c.args.frame c.in-Some.sub.now.content c.in-Some-2.work c.in-Some-2.work.numbers (is.fits c.args.grant c.in-Some.sub.now there) told program refl
+    work_takes c.args.self.now.job.program c.checked-checked.result.now c.args.grant c.args.frame
+    c.in-Some.sub.now.content c.in-Some-2.work c.in-Some-2.work.numbers
+    (is.fits c.args.grant c.in-Some.sub.now there) told program refl
 
 pub returns-in_err-done-clause-out_of_memory : goal.returns-in_err-done-clause-out_of_memory
 returns-in_err-done-clause-out_of_memory c =
@@ -32,4 +35,5 @@ returns-in_err-done-clause-out_of_memory c =
     let is : IsNode c.args.self.now = rw (← c.self.view_is) c.self.invariant in
     let total : IsTotal c.args.self.now.job.program = search rules in
     let some : is_some (ready_in c.args.frame c.in-Some.sub.now.content) ≡ true = search rules in
-    λ _. ready_lacks_memory c.args.self.now.job c.args.grant c.args.frame c.args.self.now.node c.in-Some.sub.now member there total (is.fits c.args.grant c.in-Some.sub.now there) some
+    λ _. ready_lacks_memory c.args.self.now.job c.args.grant c.args.frame c.args.self.now.node c.in-Some.sub.now member
+    there total (is.fits c.args.grant c.in-Some.sub.now there) some

@@ -8,4 +8,5 @@ pub invariant_of-self : goal.invariant_of-self
 invariant_of-self c =
     let old : NodeOf = c.self.inside.parts.node in
     let new : NodeOf = record old { assemblies = without_assembly c.args.grant old.assemblies } in
-    rw c.forget_assembly.ensures (kept c.self.inside.job.now old new c.self.inside.parts.posts _ c.self.invariant (same_leaving c.self.inside.job.now old new refl refl refl c.self.invariant.leaving) refl refl refl)
+    rw c.forget_assembly.ensures (kept c.self.inside.job.now old new c.self.inside.parts.posts _ c.self.invariant
+    (same_leaving c.self.inside.job.now old new refl refl refl c.self.invariant.leaving) refl refl refl)

@@ -13,7 +13,14 @@ invariant_of-self-2 c =
     let sub = c.requires.may.sub in
     let there : sub_in c.args.host c.self.inside.parts.node.subs ≡ Some sub = search rules in
     let short : IsTrue (is_short c.grant-packet.result.body) = search rules in
-    let said : Fits c.args.self.now.job.program (opened_in c.args.opening.opened sub.content) = c.requires.fits sub c.requires.may.there in
+    let said : Fits c.args.self.now.job.program (opened_in c.args.opening.opened sub.content) =
+    c.requires.fits sub c.requires.may.there in
     let fits : Fits c.self.inside.job.now.program (opened_in c.args.opening.opened sub.content) = search rules in
     let member : IsMember c.self.inside.parts.node.state = search rules in
-    rw (c.in_ok-give.ensures.ok sub there) (given c.self.inside.job.now c.self.inside.parts.node _ (opened_sub c.args.opening.opened sub) (record { thief = c.args.steal.from; seq = c.args.steal.seq; packet = c.grant-packet.result }) c.self.inside.parts.posts _ c.self.invariant member refl refl refl fits short)
+    rw (c.in_ok-give.ensures.ok sub there)
+    (given c.self.inside.job.now c.self.inside.parts.node _ (opened_sub c.args.opening.opened sub)
+    (record {
+      thief = c.args.steal.from;
+      seq = c.args.steal.seq;
+      packet = c.grant-packet.result;
+    }) c.self.inside.parts.posts _ c.self.invariant member refl refl refl fits short)

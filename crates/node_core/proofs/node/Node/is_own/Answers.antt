@@ -13,5 +13,7 @@ returns c own =
     let member : IsMember c.args.self.now.node.state = search rules in
     let there : sub_in c.args.grant c.args.self.now.node.subs ≡ Some c.in-Some.sub.now = search rules in
     let fresh : is_stale_of c.args.done.now (frame_in c.args.frame c.in-Some.sub.now.content.frames) ≡ false =
-    ap (λ (x : Content). is_stale_of c.args.done.now (frame_in c.args.frame x.frames)) (sym c.content.ensures.same) ∙ sym c.is_stale.ensures ∙ not-true c.is_stale.result own in
-    fresh_known c.args.self.now.job c.args.grant c.args.frame c.args.self.now.node c.in-Some.sub.now member there c.args.done.now c.requires c.turn.ensures.evaluated.reached fresh
+    ap (λ (x : Content). is_stale_of c.args.done.now (frame_in c.args.frame x.frames)) (sym c.content.ensures.same)
+    ∙ sym c.is_stale.ensures ∙ not-true c.is_stale.result own in
+    fresh_known c.args.self.now.job c.args.grant c.args.frame c.args.self.now.node c.in-Some.sub.now member there
+    c.args.done.now c.requires c.turn.ensures.evaluated.reached fresh

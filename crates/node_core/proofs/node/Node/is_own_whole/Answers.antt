@@ -22,6 +22,9 @@ returns c own =
     let place : w.room ≡ room x.place = search rules in
     let within : w.turns ≤ c.args.most_turns = search rules in
     let whole : IsWhole w = search rules in
-    let fresh : is_stale_of (ended p w.thread w.numbers (Sends w.value)) (frame_in c.args.frame s.content.frames) ≡ false =
-    rw (c.thread.ensures.same, c.numbers.ensures.same, c.content-2.ensures.same) at (sym (c.is_stale_for.ensures p (Sends w.value)) ∙ not-true c.is_stale_for.result own) in
-    whole_fresh c.args.self.now.job c.args.grant c.args.frame c.args.self.now.node s member there c.args.most_turns w x at c.requires place within whole fresh
+    let fresh : is_stale_of (ended p w.thread w.numbers (Sends w.value)) (frame_in c.args.frame s.content.frames)
+    ≡ false =
+    rw (c.thread.ensures.same, c.numbers.ensures.same, c.content-2.ensures.same) at
+    (sym (c.is_stale_for.ensures p (Sends w.value)) ∙ not-true c.is_stale_for.result own) in
+    whole_fresh c.args.self.now.job c.args.grant c.args.frame c.args.self.now.node s member there c.args.most_turns w x
+    at c.requires place within whole fresh

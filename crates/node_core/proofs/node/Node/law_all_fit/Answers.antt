@@ -10,4 +10,5 @@ pub returns : goal.returns
 returns c =
     let is : IsNode c.args.self.now = rw (← c.self.view_is) c.self.invariant in
     let order : AreInOrder name_of_sub c.args.self.now.node.subs = search rules in
-    all_by_name name_of_sub (λ s. Fits c.args.self.now.job.program s.content) c.args.self.now.node.subs order (λ s there. is.fits s.grant s there)
+    all_by_name name_of_sub (λ s. Fits c.args.self.now.job.program s.content) c.args.self.now.node.subs order
+    (λ s there. is.fits s.grant s there)

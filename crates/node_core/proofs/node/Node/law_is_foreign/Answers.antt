@@ -6,8 +6,13 @@ use Rattle.node_core.proofs.node.Node.law_is_foreign.Goals as goal
 
 pub returns : goal.returns
 returns c =
-    let all : list_all (is_foreign c.args.self.now.node.incarnation c.args.self.now.node.subs) c.args.sub.now.content.records ≡ true = foreign_records c.args.self.now.node.incarnation c.args.self.now.node.subs c.args.sub.now.content c.content.ensures.sound c.requires in
+    let all : list_all (is_foreign c.args.self.now.node.incarnation c.args.self.now.node.subs)
+    c.args.sub.now.content.records ≡ true =
+    foreign_records c.args.self.now.node.incarnation c.args.self.now.node.subs c.args.sub.now.content
+    c.content.ensures.sound c.requires in
     record {
-      records = all_foreign c.args.self.now.node.incarnation c.args.self.now.node.subs c.args.sub.now.content.records all;
-      minted = λ h fresh. none_minted c.args.self.now.node.incarnation c.args.self.now.node.subs h c.args.sub.now.content.records all fresh.0;
+      records = all_foreign c.args.self.now.node.incarnation c.args.self.now.node.subs c.args.sub.now.content.records
+          all;
+      minted = λ h fresh. none_minted c.args.self.now.node.incarnation c.args.self.now.node.subs h
+          c.args.sub.now.content.records all fresh.0;
     }

@@ -8,4 +8,9 @@ pub invariant_of-self-then-is_live : goal.invariant_of-self-then-is_live
 invariant_of-self-then-is_live c =
     let old : NodeOf = c.self.inside.parts.node in
     let at : old.state ≡ Leaving c.in-Leaving.kept c.in-Leaving.heir = search rules in
-    rw c.keep_leaving.ensures (record { leaving = offering c.self.inside.job.now old c.in-Leaving.kept c.in-Leaving.heir at c.self.invariant.leaving; short = c.self.invariant.short; fits = c.self.invariant.fits; rising = c.requires.rising })
+    rw c.keep_leaving.ensures (record {
+      leaving = offering c.self.inside.job.now old c.in-Leaving.kept c.in-Leaving.heir at c.self.invariant.leaving;
+      short = c.self.invariant.short;
+      fits = c.self.invariant.fits;
+      rising = c.requires.rising;
+    })

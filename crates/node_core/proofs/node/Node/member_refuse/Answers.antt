@@ -9,4 +9,5 @@ invariant_of-self c =
     let old : NodeOf = c.self.inside.parts.node in
     let new : NodeOf = record old { asker = without_request old.asker } in
     rw c.clear_request.ensures
-    (kept c.self.inside.job.now old new c.self.inside.parts.posts _ c.self.invariant (same_leaving c.self.inside.job.now old new refl refl refl c.self.invariant.leaving) refl refl refl)
+    (kept c.self.inside.job.now old new c.self.inside.parts.posts _ c.self.invariant
+    (same_leaving c.self.inside.job.now old new refl refl refl c.self.invariant.leaving) refl refl refl)

@@ -17,11 +17,13 @@ pub change-requires : goal.change-requires
 change-requires c =
     let host = c.in-Some.host.now in
     let held : sub_in host.grant c.args.self.now.node.subs ≡ Some host = search rules in
-    let there : sub_in c.grant-held.result c.args.self.now.node.subs ≡ Some host = ap (λ (g : Grant). sub_in g c.args.self.now.node.subs) c.grant-held.ensures ∙ held in
+    let there : sub_in c.grant-held.result c.args.self.now.node.subs ≡ Some host =
+    ap (λ (g : Grant). sub_in g c.args.self.now.node.subs) c.grant-held.ensures ∙ held in
     let none : HasNoNewRecord c.args.self.now.node host = search rules in
     let is : IsNode c.args.self.now = rw (← c.self.view_is) c.self.invariant in
     may_change c.args.self.now c.grant-held.result host c.in-Some-2.prepared c.requires there (sym c.grant-held.ensures)
-    (rw c.in-Some-2.is at c.in_ok-prepared.ensures.may) (rw c.in-Some-2.is at c.in_ok-prepared.ensures.ready) (rw c.in-Some-2.is at c.in_ok-prepared.ensures.records) none
+    (rw c.in-Some-2.is at c.in_ok-prepared.ensures.may) (rw c.in-Some-2.is at c.in_ok-prepared.ensures.ready)
+    (rw c.in-Some-2.is at c.in_ok-prepared.ensures.records) none
     (rw c.in-Some-2.is at (c.in_ok-prepared.ensures.fits c.args.self.now.job.program (is.fits host.grant host held)))
 
 pub returns : goal.returns
@@ -36,9 +38,19 @@ returns c =
     let host : host_in c.args.outcome.grant node.subs ≡ Some sub = search rules in
     let found : record_in c.args.outcome.grant sub.content.records ≡ Some record-of = search rules in
     let held : sub_in sub.grant node.subs ≡ Some sub = search rules in
-    let there : sub_in c.grant-held.result node.subs ≡ Some sub = ap (λ (g : Grant). sub_in g node.subs) c.grant-held.ensures ∙ held in
-    let is : Some changed ≡ changed_by sub (closed_in c.args.outcome.outcome sub.content (record_in c.args.outcome.grant sub.content.records)) = ap (changed_of_some sub) (sym c.in-Some-2.is) ∙ c.in_ok-prepared.ensures.change in
+    let there : sub_in c.grant-held.result node.subs ≡ Some sub =
+    ap (λ (g : Grant). sub_in g node.subs) c.grant-held.ensures ∙ held in
+    let is : Some changed ≡ changed_by sub
+    (closed_in c.args.outcome.outcome sub.content (record_in c.args.outcome.grant sub.content.records)) =
+    ap (changed_of_some sub) (sym c.in-Some-2.is) ∙ c.in_ok-prepared.ensures.change in
     let sent : c.in_ok-sent.sent ≡ ack_of job c.args.outcome ∷ [] = search rules in
-    let last : c.in_ok-last.last ≡ save_of job node.incarnation roster record-of.task.place c.args.outcome.outcome = c.in_ok-last.ensures in
-    let around : MeetsAround (ack_of job c.args.outcome ∷ []) (save_of job node.incarnation roster record-of.task.place c.args.outcome.outcome) (changes_of job changed node) c.change.result c.args.self.now c.change.new.self = rw (sent, last) at (c.change.ensures sub there) in
-    rw (result_known job (own_candidate c.args.self.now.posts) roster c.args.outcome node sub record-of changed member host found is) (meets_around (ack_of job c.args.outcome) (save_of job node.incarnation roster record-of.task.place c.args.outcome.outcome) (changes_of job changed node) c.change.result c.args.self.now c.change.new.self around)
+    let last : c.in_ok-last.last ≡ save_of job node.incarnation roster record-of.task.place c.args.outcome.outcome =
+    c.in_ok-last.ensures in
+    let around : MeetsAround (ack_of job c.args.outcome ∷ [])
+    (save_of job node.incarnation roster record-of.task.place c.args.outcome.outcome)
+    (changes_of job changed node) c.change.result c.args.self.now c.change.new.self =
+    rw (sent, last) at (c.change.ensures sub there) in
+    rw (result_known job (own_candidate c.args.self.now.posts) roster c.args.outcome node sub record-of changed member
+    host found is) (meets_around (ack_of job c.args.outcome)
+    (save_of job node.incarnation roster record-of.task.place c.args.outcome.outcome)
+    (changes_of job changed node) c.change.result c.args.self.now c.change.new.self around)

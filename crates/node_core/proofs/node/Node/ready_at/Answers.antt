@@ -8,13 +8,15 @@ use Rattle.node_core.proofs.node.Node.ready_at.Goals as goal
 
 pub returns-in_default : goal.returns-in_default
 returns-in_default c = record {
-  work = sym (nothing_outside c.args.self.now.node c.args.self.now.posts c.args.index (λ r is. c.in_default.not-Member r (c.state.ensures ∙ (ap (λ (v : NodeOn). v.node.state) c.self.view_is ∙ is))));
+  work = sym (nothing_outside c.args.self.now.node c.args.self.now.posts c.args.index
+      (λ r is. c.in_default.not-Member r (c.state.ensures ∙ (ap (λ (v : NodeOn). v.node.state) c.self.view_is ∙ is))));
   memory = tt;
 }
 
 pub returns-in_default-sub-clause-work : goal.returns-in_default-sub-clause-work
 returns-in_default-sub-clause-work c =
-    let stands : c.args.self.now.node.state ≡ Member c.in-Member.field-0 = sym (ap (λ (v : NodeOn). v.node.state) c.self.view_is) ∙ (sym c.state.ensures ∙ c.in-Member.is) in
+    let stands : c.args.self.now.node.state ≡ Member c.in-Member.field-0 =
+    sym (ap (λ (v : NodeOn). v.node.state) c.self.view_is) ∙ (sym c.state.ensures ∙ c.in-Member.is) in
     let member = is_member c.args.self.now.node.state c.in-Member.field-0 stands in
     let post : slice_get (by_depth c.args.self.now.posts) c.args.index ≡ Some c.in-Some.post = search rules in
     let there : sub_in c.in-Some.post.grant c.args.self.now.node.subs ≡ None = search rules in
@@ -22,9 +24,11 @@ returns-in_default-sub-clause-work c =
 
 pub returns-clause-work : goal.returns-clause-work
 returns-clause-work c =
-    let stands : c.args.self.now.node.state ≡ Member c.in-Member.field-0 = sym (ap (λ (v : NodeOn). v.node.state) c.self.view_is) ∙ (sym c.state.ensures ∙ c.in-Member.is) in
+    let stands : c.args.self.now.node.state ≡ Member c.in-Member.field-0 =
+    sym (ap (λ (v : NodeOn). v.node.state) c.self.view_is) ∙ (sym c.state.ensures ∙ c.in-Member.is) in
     let member = is_member c.args.self.now.node.state c.in-Member.field-0 stands in
     let post : slice_get (by_depth c.args.self.now.posts) c.args.index ≡ Some c.in-Some.post = search rules in
     let there : sub_in c.in-Some.post.grant c.args.self.now.node.subs ≡ Some c.in-Some-sub.sub.now = search rules in
-    let work = held_by c.args.self.now.node c.args.self.now.posts c.args.index c.in-Some.post c.in-Some-sub.sub.now member post there in
+    let work = held_by c.args.self.now.node c.args.self.now.posts c.args.index c.in-Some.post c.in-Some-sub.sub.now
+    member post there in
     c.in_ok-work_in.ensures ∙ sym work

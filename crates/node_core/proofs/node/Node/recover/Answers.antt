@@ -20,10 +20,17 @@ invariant_of-self-2 c = record {
 pub returns : goal.returns
 returns c =
     let plan : IsPlan c.args.roster.members c.args.self.now.node.subs c.in_ok-plan.plan =
-    subst (λ (subs : List SubOf). IsPlan c.args.roster.members subs c.in_ok-plan.plan) (c.held.ensures ∙ ap (λ (v : NodeOn). v.node.subs) c.self.view_is)
-    (subst (λ (members : List Member). IsPlan members c.held.result.now c.in_ok-plan.plan) c.as_slice.ensures c.in_ok-plan.ensures) in
-    let told : c.stopped.result.now ≡ map stop_of (recovered c.args.roster.members (grants_of_subs c.args.self.now.node.subs) c.args.self.now.node.subs).stopped = c.stopped.ensures ∙ plan.stopped in
+    subst (λ (subs : List SubOf). IsPlan c.args.roster.members subs c.in_ok-plan.plan) (c.held.ensures
+    ∙ ap (λ (v : NodeOn). v.node.subs) c.self.view_is)
+    (subst (λ (members : List Member). IsPlan members c.held.result.now c.in_ok-plan.plan) c.as_slice.ensures
+    c.in_ok-plan.ensures) in
+    let told : c.stopped.result.now ≡ map stop_of
+    (recovered c.args.roster.members (grants_of_subs c.args.self.now.node.subs) c.args.self.now.node.subs).stopped =
+    c.stopped.ensures ∙ plan.stopped in
     let sent : c.send_stops.new.sent ≡ map (stops c.args.self.now.job) c.stopped.result.now = search rules in (
-      c.sends.ensures ∙ ap (λ bytes. record { sent = bytes; fills = []; ignored = false }) (sent ∙ stops_sent c.args.self.now.job (recovered c.args.roster.members (grants_of_subs c.args.self.now.node.subs) c.args.self.now.node.subs).stopped c.stopped.result.now told),
-      recovered_view _ c.args.self.now c.recover.new.self c.args.roster c.victim_status-victim.result c.self.view_is c.in_ok-recover.ensures.ok c.victim_status-victim.ensures,
+      c.sends.ensures ∙ ap (λ bytes. record { sent = bytes; fills = []; ignored = false }) (sent
+          ∙ stops_sent c.args.self.now.job (recovered c.args.roster.members
+          (grants_of_subs c.args.self.now.node.subs) c.args.self.now.node.subs).stopped c.stopped.result.now told),
+      recovered_view _ c.args.self.now c.recover.new.self c.args.roster c.victim_status-victim.result c.self.view_is
+          c.in_ok-recover.ensures.ok c.victim_status-victim.ensures,
     )

@@ -16,22 +16,27 @@ pub returns-in_default-sub : goal.returns-in_default-sub
 returns-in_default-sub c =
     let first : shallowest c.args.self.now.posts ≡ Some c.in-Some.post = search rules in
     let there : sub_in c.in-Some.post.grant c.args.self.now.node.subs ≡ None = search rules in
-    rw (not_held c.args.self.now.job c.args.steal c.args.self.now.node c.args.self.now.posts c.in-Some.post c.requires first there) c.refuse-in_default-sub.ensures
+    rw (not_held c.args.self.now.job c.args.steal c.args.self.now.node c.args.self.now.posts c.in-Some.post c.requires
+    first there) c.refuse-in_default-sub.ensures
 
 pub returns-then-not-is_ready : goal.returns-then-not-is_ready
 returns-then-not-is_ready c =
     let first : shallowest c.args.self.now.posts ≡ Some c.in-Some.post = search rules in
     let there : sub_in c.in-Some.post.grant c.args.self.now.node.subs ≡ Some c.in-Some-sub.sub.now = search rules in
     let unready : is_some (ready_in c.in-Some.post.frame c.in-Some-sub.sub.now.content) ≡ false = search rules in
-    rw (not_ready c.args.self.now.job c.args.steal c.args.self.now.node c.args.self.now.posts c.in-Some.post c.requires first c.in-Some-sub.sub.now there unready) c.refuse-then-not-is_ready.ensures
+    rw (not_ready c.args.self.now.job c.args.steal c.args.self.now.node c.args.self.now.posts c.in-Some.post c.requires
+    first c.in-Some-sub.sub.now there unready) c.refuse-then-not-is_ready.ensures
 
 pub returns-in_default-next_grant : goal.returns-in_default-next_grant
 returns-in_default-next_grant c =
     let first : shallowest c.args.self.now.posts ≡ Some c.in-Some.post = search rules in
     let there : sub_in c.in-Some.post.grant c.args.self.now.node.subs ≡ Some c.in-Some-sub.sub.now = search rules in
     let ready : is_some (ready_in c.in-Some.post.frame c.in-Some-sub.sub.now.content) ≡ true = search rules in
-    let last : nat_lt (c.args.self.now.node.minted + 1) (2 ^ 64) ≡ false = search rules in
-    (spent c.args.self.now.job c.args.steal c.args.self.now.node c.args.self.now.posts c.in-Some.post c.requires first c.in-Some-sub.sub.now there ready last, refl)
+    let last : nat_lt (c.args.self.now.node.minted + 1) (2 ^ 64) ≡ false = search rules in (
+      spent c.args.self.now.job c.args.steal c.args.self.now.node c.args.self.now.posts c.in-Some.post c.requires first
+          c.in-Some-sub.sub.now there ready last,
+      refl,
+    )
 
 pub give-requires-clause-may : goal.give-requires-clause-may
 give-requires-clause-may c =
@@ -47,9 +52,16 @@ give-requires-clause-may c =
       there = there;
       named = named;
       begun = rw c.in-Some-2.is at c.in_ok-opening.ensures.begun;
-      next = record { member = c.requires; before = sub; there = ap (λ (g : Grant). sub_in g n.subs) named ∙ there; ready = rw c.in-Some-2.is at c.in_ok-opening.ensures.ready };
+      next = record {
+        member = c.requires;
+        before = sub;
+        there = ap (λ (g : Grant). sub_in g n.subs) named ∙ there;
+        ready = rw c.in-Some-2.is at c.in_ok-opening.ensures.ready;
+      };
       counted = counted;
-      records = fresh_after n c.in-Some-next_grant.name sub.content.records (opened_in c.in-Some-2.opening.opened sub.content).records name none (rw c.in-Some-2.is at c.in_ok-opening.ensures.records);
+      records = fresh_after n c.in-Some-next_grant.name sub.content.records
+          (opened_in c.in-Some-2.opening.opened sub.content).records name none
+          (rw c.in-Some-2.is at c.in_ok-opening.ensures.records);
     }
 
 pub give-requires-clause-fits : goal.give-requires-clause-fits
@@ -58,13 +70,15 @@ give-requires-clause-fits c = λ s at.
     let there : sub_in c.in-Some.post.grant c.args.self.now.node.subs ≡ Some sub = search rules in
     let same : sub ≡ s = cc in
     let is : IsNode c.args.self.now = rw (← c.self.view_is) c.self.invariant in
-    rw (← same) (rw c.in-Some-2.is at (c.in_ok-opening.ensures.fits c.args.self.now.job.program (is.fits c.in-Some.post.grant sub there)))
+    rw (← same) (rw c.in-Some-2.is at (c.in_ok-opening.ensures.fits c.args.self.now.job.program
+    (is.fits c.in-Some.post.grant sub there)))
 
 pub give-requires-clause-task : goal.give-requires-clause-task
 give-requires-clause-task c =
     let there : sub_in c.in-Some.post.grant c.args.self.now.node.subs ≡ Some c.in-Some-sub.sub.now = search rules in
     let is : IsNode c.args.self.now = rw (← c.self.view_is) c.self.invariant in
-    rw c.in-Some-2.is at (c.in_ok-opening.ensures.task c.args.self.now.job.program (is.fits c.in-Some.post.grant c.in-Some-sub.sub.now there))
+    rw c.in-Some-2.is at (c.in_ok-opening.ensures.task c.args.self.now.job.program
+    (is.fits c.in-Some.post.grant c.in-Some-sub.sub.now there))
 
 pub give-requires-clause-saved : goal.give-requires-clause-saved
 give-requires-clause-saved c = λ s at.
@@ -79,5 +93,9 @@ returns-in_ok-saved-in-Some-2 c =
     let first : shallowest c.args.self.now.posts ≡ Some c.in-Some.post = search rules in
     let there : sub_in c.in-Some.post.grant c.args.self.now.node.subs ≡ Some sub = search rules in
     let more : nat_lt (c.args.self.now.node.minted + 1) (2 ^ 64) ≡ true = search rules in
-    let named : c.in-Some-next_grant.name ≡ record { minter = c.args.self.now.node.incarnation; number = c.args.self.now.node.minted + 1 } = search rules in
-    rw (given c.args.self.now.job c.args.steal c.args.self.now.node c.args.self.now.posts c.in-Some.post c.requires first sub c.in-Some-next_grant.name (sub_grant_of sub c.in-Some-2.opening) there more named (rw c.in-Some-2.is at c.in_ok-opening.ensures.given)) (c.give.ensures sub there)
+    let named : c.in-Some-next_grant.name
+    ≡ record { minter = c.args.self.now.node.incarnation; number = c.args.self.now.node.minted + 1 } =
+    search rules in
+    rw (given c.args.self.now.job c.args.steal c.args.self.now.node c.args.self.now.posts c.in-Some.post c.requires
+    first sub c.in-Some-next_grant.name (sub_grant_of sub c.in-Some-2.opening) there more named
+    (rw c.in-Some-2.is at c.in_ok-opening.ensures.given)) (c.give.ensures sub there)

@@ -11,10 +11,20 @@ pub returns-in_err-step : goal.returns-in_err-step
 returns-in_err-step c = λ r at.
     let failed : c.member_offer.result ≡ Err c.in_err-step.field-0.0 = search rules in
     let same : c.from_residual.result ≡ Err c.in_err-step.field-0.0 = search rules in
-    rw (c.in-Some.is, same) (lacks_joined c.args.self.now.job (own_candidate c.args.self.now.posts) r c.in-Some.offer (without_assembly c.args.grant c.args.self.now.node.assemblies) c.args.self.now c.member_offer.new.self at c.in_err-step.field-0.0 (rw failed at c.member_offer.ensures))
+    rw (c.in-Some.is, same) (lacks_joined c.args.self.now.job (own_candidate c.args.self.now.posts) r c.in-Some.offer
+    (without_assembly c.args.grant c.args.self.now.node.assemblies) c.args.self.now c.member_offer.new.self at
+    c.in_err-step.field-0.0 (rw failed at c.member_offer.ensures))
 
 pub returns : goal.returns
 returns c = λ r at.
-    let came : Carries (on_body c.args.self.now.job (own_candidate c.args.self.now.posts) (body.Offer c.in-Some.offer) c.args.self.now.node) c.in_ok-step.step c.args.self.now c.member_offer.new.self = c.in_ok-step.ensures in
-    let others : c.member_offer.new.self.node.assemblies ≡ c.args.self.now.node.assemblies = keeps_others c.args.self.now.job (own_candidate c.args.self.now.posts) r c.in-Some.offer (without_assembly c.args.grant c.args.self.now.node.assemblies) c.args.self.now c.member_offer.new.self at c.in_ok-step.step came in
-    rw (c.in-Some.is, c.forget-2.ensures, others) (takes_joined c.args.self.now.job (own_candidate c.args.self.now.posts) r c.in-Some.offer (without_assembly c.args.grant c.args.self.now.node.assemblies) c.args.self.now c.member_offer.new.self at c.in_ok-step.step came)
+    let came : Carries (on_body c.args.self.now.job (own_candidate c.args.self.now.posts)
+    (body.Offer c.in-Some.offer) c.args.self.now.node) c.in_ok-step.step c.args.self.now c.member_offer.new.self =
+    c.in_ok-step.ensures in
+    let others : c.member_offer.new.self.node.assemblies ≡ c.args.self.now.node.assemblies =
+    keeps_others c.args.self.now.job (own_candidate c.args.self.now.posts) r c.in-Some.offer
+    (without_assembly c.args.grant c.args.self.now.node.assemblies) c.args.self.now c.member_offer.new.self at
+    c.in_ok-step.step came in
+    rw (c.in-Some.is, c.forget-2.ensures, others)
+    (takes_joined c.args.self.now.job (own_candidate c.args.self.now.posts) r c.in-Some.offer
+    (without_assembly c.args.grant c.args.self.now.node.assemblies) c.args.self.now c.member_offer.new.self at
+    c.in_ok-step.step came)

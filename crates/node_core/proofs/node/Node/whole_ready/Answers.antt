@@ -12,7 +12,8 @@ returns-in_err-work-clause-out_of_memory c =
     let member : IsMember c.args.self.now.node.state = search rules in
     let there : sub_in c.args.grant c.args.self.now.node.subs ≡ Some c.in-Some.sub.now = search rules in
     let some : is_some (ready_in c.args.frame c.in-Some.sub.now.content) ≡ true = search rules in
-    λ _. whole_lacks_memory c.args.self.now.job c.args.grant c.args.frame c.args.self.now.node c.in-Some.sub.now member there c.args.most_turns some
+    λ _. whole_lacks_memory c.args.self.now.job c.args.grant c.args.frame c.args.self.now.node c.in-Some.sub.now member
+    there c.args.most_turns some
 
 pub of-requires-clause-takes : goal.of-requires-clause-takes
 of-requires-clause-takes c =
@@ -20,11 +21,14 @@ of-requires-clause-takes c =
     let is : IsNode c.args.self.now = rw (← c.self.view_is) c.self.invariant in
     let told : Some c.in-Some-2.work ≡ work_in c.args.grant c.args.frame c.in-Some.sub.now.content = search rules in
     let program : c.checked-checked.result.now ≡ c.args.self.now.job.program = search rules in
-    work_takes c.args.self.now.job.program c.checked-checked.result.now c.args.grant c.args.frame c.in-Some.sub.now.content c.in-Some-2.work c.in-Some-2.work.numbers (is.fits c.args.grant c.in-Some.sub.now there) told program refl
+    work_takes c.args.self.now.job.program c.checked-checked.result.now c.args.grant c.args.frame
+    c.in-Some.sub.now.content c.in-Some-2.work c.in-Some-2.work.numbers
+    (is.fits c.args.grant c.in-Some.sub.now there) told program refl
 
 pub returns-in-Err-default-Memory-clause-out_of_memory : goal.returns-in-Err-default-Memory-clause-out_of_memory
 returns-in-Err-default-Memory-clause-out_of_memory c =
     let member : IsMember c.args.self.now.node.state = search rules in
     let there : sub_in c.args.grant c.args.self.now.node.subs ≡ Some c.in-Some.sub.now = search rules in
     let some : is_some (ready_in c.args.frame c.in-Some.sub.now.content) ≡ true = search rules in
-    λ _. whole_lacks_memory c.args.self.now.job c.args.grant c.args.frame c.args.self.now.node c.in-Some.sub.now member there c.args.most_turns some
+    λ _. whole_lacks_memory c.args.self.now.job c.args.grant c.args.frame c.args.self.now.node c.in-Some.sub.now member
+    there c.args.most_turns some

@@ -10,6 +10,8 @@ invariant_of-self c = assemblies_kept _ c.discard.new.self c.self.invariant
 
 pub returns : goal.returns
 returns c =
-    assemblies_view _ c.args.self.now c.discard.new.self (without_assembly c.args.grant c.args.self.now.node.assemblies) c.self.view_is
-    (c.discard.ensures ∙ ap (λ (n : Name). without_in name_of_assembly n c.self.inside.assemblies) c.name_of.ensures ∙ ap (λ (v : PartsOf). without_assembly c.args.grant v.node.assemblies) c.self.view_is)
+    assemblies_view _ c.args.self.now c.discard.new.self
+    (without_assembly c.args.grant c.args.self.now.node.assemblies) c.self.view_is
+    (c.discard.ensures ∙ ap (λ (n : Name). without_in name_of_assembly n c.self.inside.assemblies) c.name_of.ensures
+    ∙ ap (λ (v : PartsOf). without_assembly c.args.grant v.node.assemblies) c.self.view_is)
     (rw (← c.self.view_is) c.self.invariant)

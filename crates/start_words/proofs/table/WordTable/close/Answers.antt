@@ -14,7 +14,8 @@ pub loop-pen-preserved : goal.loop-pen-preserved
 loop-pen-preserved c = record {
   here = search rules;
   parts = omega (arith, c.in-Some.ensures.cases, c.gather.ensures.part, c.loop-pen.invariant.parts);
-  own = (All-pop (λ (p : PenOf). p.table ≡ c.self.inside.table.shared.table_id) _ _ _ c.pop.ensures.items c.loop-pen.invariant.own).0;
+  own = (All-pop (λ (p : PenOf). p.table
+      ≡ c.self.inside.table.shared.table_id) _ _ _ c.pop.ensures.items c.loop-pen.invariant.own).0;
   drawn = λ x.
       let was = c.loop-pen.invariant.drawn x in
       let all = ap (times_drawn x) c.gather.ensures.drawn in
@@ -29,5 +30,6 @@ returns c = λ x.
     let was = c.loop-pen.invariant.drawn x in
     let empty = c.in_default.ensures.cases in
     let none = times_of_no_pens x c.loop-pen.pens.items (omega arith) in
-    let once = closed_each_once _ _ c.loop-pen.all.me.0 _ _ c.word-count.result (omega arith) c.close_with-closed.ensures.values.2 c.word-count.ensures x in
+    let once = closed_each_once _ _ c.loop-pen.all.me.0 _ _ c.word-count.result
+    (omega arith) c.close_with-closed.ensures.values.2 c.word-count.ensures x in
     omega arith

@@ -14,8 +14,12 @@ returns-in-Some-clause-ready c =
     let content = c.args.self.now.content in
     let same : c.self.inside.content ≡ content = search rules in
     let frames : AreInOrder name_of_frame content.frames = search rules in
-    let given : ContentGrant = record { after = opened_in c.in-Some.opening.opened content; task = c.in-Some.opening.task } in
-    let is = opening_gives content c.self.inside.content c.args.grant c.args.thief c.args.number c.in-Some.opening same (sym c.in-Some.is ∙ c.in_ok-opening.ensures.opening) in
+    let given : ContentGrant = record {
+      after = opened_in c.in-Some.opening.opened content;
+      task = c.in-Some.opening.task;
+    } in
+    let is = opening_gives content c.self.inside.content c.args.grant c.args.thief c.args.number c.in-Some.opening same
+    (sym c.in-Some.is ∙ c.in_ok-opening.ensures.opening) in
     (grant_tells content content c.args.grant c.args.thief c.args.number given refl frames is).ready
 
 pub returns-in-Some-clause-records : goal.returns-in-Some-clause-records
@@ -23,22 +27,34 @@ returns-in-Some-clause-records c =
     let content = c.args.self.now.content in
     let same : c.self.inside.content ≡ content = search rules in
     let frames : AreInOrder name_of_frame content.frames = search rules in
-    let given : ContentGrant = record { after = opened_in c.in-Some.opening.opened content; task = c.in-Some.opening.task } in
-    let is = opening_gives content c.self.inside.content c.args.grant c.args.thief c.args.number c.in-Some.opening same (sym c.in-Some.is ∙ c.in_ok-opening.ensures.opening) in
+    let given : ContentGrant = record {
+      after = opened_in c.in-Some.opening.opened content;
+      task = c.in-Some.opening.task;
+    } in
+    let is = opening_gives content c.self.inside.content c.args.grant c.args.thief c.args.number c.in-Some.opening same
+    (sym c.in-Some.is ∙ c.in_ok-opening.ensures.opening) in
     (grant_tells content content c.args.grant c.args.thief c.args.number given refl frames is).records
 
 pub returns-in-Some-clause-fits : goal.returns-in-Some-clause-fits
 returns-in-Some-clause-fits c = λ p fits.
     let content = c.args.self.now.content in
     let same : c.self.inside.content ≡ content = search rules in
-    let given : ContentGrant = record { after = opened_in c.in-Some.opening.opened content; task = c.in-Some.opening.task } in
-    let is = opening_gives content c.self.inside.content c.args.grant c.args.thief c.args.number c.in-Some.opening same (sym c.in-Some.is ∙ c.in_ok-opening.ensures.opening) in
+    let given : ContentGrant = record {
+      after = opened_in c.in-Some.opening.opened content;
+      task = c.in-Some.opening.task;
+    } in
+    let is = opening_gives content c.self.inside.content c.args.grant c.args.thief c.args.number c.in-Some.opening same
+    (sym c.in-Some.is ∙ c.in_ok-opening.ensures.opening) in
     (grant_fits p content content c.args.grant c.args.thief c.args.number given refl is fits).after
 
 pub returns-in-Some-clause-task : goal.returns-in-Some-clause-task
 returns-in-Some-clause-task c = λ p fits.
     let content = c.args.self.now.content in
     let same : c.self.inside.content ≡ content = search rules in
-    let given : ContentGrant = record { after = opened_in c.in-Some.opening.opened content; task = c.in-Some.opening.task } in
-    let is = opening_gives content c.self.inside.content c.args.grant c.args.thief c.args.number c.in-Some.opening same (sym c.in-Some.is ∙ c.in_ok-opening.ensures.opening) in
+    let given : ContentGrant = record {
+      after = opened_in c.in-Some.opening.opened content;
+      task = c.in-Some.opening.task;
+    } in
+    let is = opening_gives content c.self.inside.content c.args.grant c.args.thief c.args.number c.in-Some.opening same
+    (sym c.in-Some.is ∙ c.in_ok-opening.ensures.opening) in
     (grant_fits p content content c.args.grant c.args.thief c.args.number given refl is fits).task

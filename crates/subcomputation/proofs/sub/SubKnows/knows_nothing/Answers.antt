@@ -8,9 +8,11 @@ use Rattle.subcomputation.proofs.sub.SubKnows.knows_nothing.Goals as goal
 
 nothing_came : (saved : List SavedValue) → has_none saved ≡ true → known_by saved ≡ nothing_known
 nothing_came [] none = refl
-nothing_came (x ∷ saved) none = (let some : length (x ∷ saved) ≡ 0 = eqb-true (length (x ∷ saved)) 0 none in absurd (omega (arith, some)))
+nothing_came (x ∷ saved) none = (let some : length (x ∷ saved) ≡ 0 =
+    eqb-true (length (x ∷ saved)) 0 none in absurd (omega (arith, some)))
 
 pub returns-clause-nothing : goal.returns-clause-nothing
 returns-clause-nothing c = λ none.
     let same : c.self.inside.saved ≡ c.args.self.now.saved = search rules in
-    subst (λ saved. known_by saved ≡ nothing_known) same (nothing_came c.self.inside.saved (rw c.is_empty.ensures at none))
+    subst (λ saved. known_by saved ≡ nothing_known) same
+    (nothing_came c.self.inside.saved (rw c.is_empty.ensures at none))

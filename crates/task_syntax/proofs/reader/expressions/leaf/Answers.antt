@@ -20,8 +20,11 @@ pub returns-in_default-clause-met : goal.returns-in_default-clause-met
 returns-in_default-clause-met c = λ m. ap (first_refusal leaf_refusal) c.in_default.ensures.none
 
 pub returns-in-LargeNumeral-clause-met : goal.returns-in-LargeNumeral-clause-met
-returns-in-LargeNumeral-clause-met c = λ m. refused_kind _ _ _ _ kind.LargeNumeral _ c.in-Some.ensures.some c.in-LargeNumeral.is refl
+returns-in-LargeNumeral-clause-met c =
+    λ m. refused_kind _ _ _ _ kind.LargeNumeral _ c.in-Some.ensures.some c.in-LargeNumeral.is refl
 
 pub returns-in_err-variable-in_default-kind-clause-met : goal.returns-in_err-variable-in_default-kind-clause-met
 returns-in_err-variable-in_default-kind-clause-met c =
-    failed _ _ _ c.from_residual.ensures.1 (λ m. leaf_first _ _ _ _ c.in-Some.ensures.some c.in_default-kind.not-Numeral c.in_default-kind.not-LargeNumeral (c.in_err-variable-in_default-kind.ensures.met m))
+    failed _ _ _ c.from_residual.ensures.1
+    (λ m. leaf_first _ _ _ _ c.in-Some.ensures.some c.in_default-kind.not-Numeral c.in_default-kind.not-LargeNumeral
+    (c.in_err-variable-in_default-kind.ensures.met m))

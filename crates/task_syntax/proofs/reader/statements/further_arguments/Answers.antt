@@ -8,13 +8,21 @@ use Rattle.task_syntax.proofs.Reading.{many_end}
 use Rattle.task_syntax.proofs.reader.statements.further_arguments.Goals as goal
 
 pub loop-after-init : goal.loop-after-init
-loop-after-init c = record { read = rw c.new-all.ensures none; parts = λ to r. r; met = λ e m. m; shorter = search rules }
+loop-after-init c = record {
+  read = rw c.new-all.ensures none;
+  parts = λ to r. r;
+  met = λ e m. m;
+  shorter = search rules;
+}
 
 pub loop-after-preserved : goal.loop-after-preserved
 loop-after-preserved c = record {
-  read = rw c.in_ok-push.ensures.ok (many_end c.loop-after.invariant.read (further c.in-Some.ensures.some c.in_ok-one.ensures.read));
-  parts = λ to r. c.loop-after.invariant.parts _ (again (stands c.in-Some.ensures.some) (both c.in-Some.ensures.some c.in_ok-one.ensures.parts) r);
-  met = λ e m. c.loop-after.invariant.met _ (later (stands c.in-Some.ensures.some) (both c.in-Some.ensures.some c.in_ok-one.ensures.parts) m);
+  read = rw c.in_ok-push.ensures.ok (many_end c.loop-after.invariant.read
+      (further c.in-Some.ensures.some c.in_ok-one.ensures.read));
+  parts = λ to r. c.loop-after.invariant.parts _
+      (again (stands c.in-Some.ensures.some) (both c.in-Some.ensures.some c.in_ok-one.ensures.parts) r);
+  met = λ e m. c.loop-after.invariant.met _
+      (later (stands c.in-Some.ensures.some) (both c.in-Some.ensures.some c.in_ok-one.ensures.parts) m);
   shorter = search rules;
 }
 
@@ -23,4 +31,6 @@ returns-clause-parts c = c.loop-after.invariant.parts _ (done (lacks_stands c.in
 
 pub returns-in_err-one-clause-met : goal.returns-in_err-one-clause-met
 returns-in_err-one-clause-met c =
-    failed _ _ _ c.from_residual.ensures.1 (λ m. c.loop-after.invariant.met _ (now (stands c.in-Some.ensures.some) (behind c.in-Some.ensures.some (c.in_err-one.ensures.met m))))
+    failed _ _ _ c.from_residual.ensures.1
+    (λ m. c.loop-after.invariant.met _
+    (now (stands c.in-Some.ensures.some) (behind c.in-Some.ensures.some (c.in_err-one.ensures.met m))))

@@ -5,28 +5,56 @@ use Rattle.task_syntax.proofs.reader.statements.spawn_next.Goals as goal
 
 pub returns-clause-read : goal.returns-clause-read
 returns-clause-read c =
-    next c.in_ok-rest.ensures.ok c.in_ok-thread.ensures.read c.in_ok-rest-2.ensures.ok c.in_ok-continuation.ensures.read c.in_ok-arguments.ensures.read c.in_ok-rest-3.ensures.ok c.in_ok-rest-4.ensures.ok
+    next c.in_ok-rest.ensures.ok c.in_ok-thread.ensures.read c.in_ok-rest-2.ensures.ok c.in_ok-continuation.ensures.read
+    c.in_ok-arguments.ensures.read c.in_ok-rest-3.ensures.ok c.in_ok-rest-4.ensures.ok
 
 pub returns-in_err-rest-clause-met : goal.returns-in_err-rest-clause-met
 returns-in_err-rest-clause-met c = failed _ _ _ c.from_residual.ensures.1 (λ m. here c.in_err-rest.ensures.err)
 
 pub returns-in_err-thread-clause-met : goal.returns-in_err-thread-clause-met
-returns-in_err-thread-clause-met c = failed _ _ _ c.from_residual-in_err-thread.ensures.1 (λ m. behind c.in_ok-rest.ensures.ok (here (c.in_err-thread.ensures.met m)))
+returns-in_err-thread-clause-met c =
+    failed _ _ _ c.from_residual-in_err-thread.ensures.1
+    (λ m. behind c.in_ok-rest.ensures.ok (here (c.in_err-thread.ensures.met m)))
 
 pub returns-in_err-rest-2-clause-met : goal.returns-in_err-rest-2-clause-met
-returns-in_err-rest-2-clause-met c = failed _ _ _ c.from_residual-in_err-rest-2.ensures.1 (λ m. behind c.in_ok-rest.ensures.ok (behind (named c.in_ok-thread.ensures.read) (here c.in_err-rest-2.ensures.err)))
+returns-in_err-rest-2-clause-met c =
+    failed _ _ _ c.from_residual-in_err-rest-2.ensures.1
+    (λ m. behind c.in_ok-rest.ensures.ok
+    (behind (named c.in_ok-thread.ensures.read) (here c.in_err-rest-2.ensures.err)))
 
 pub returns-in_err-continuation-clause-met : goal.returns-in_err-continuation-clause-met
-returns-in_err-continuation-clause-met c = failed _ _ _ c.from_residual-in_err-continuation.ensures.1 (λ m. behind c.in_ok-rest.ensures.ok (behind (named c.in_ok-thread.ensures.read) (behind c.in_ok-rest-2.ensures.ok (here (c.in_err-continuation.ensures.met m)))))
+returns-in_err-continuation-clause-met c =
+    failed _ _ _ c.from_residual-in_err-continuation.ensures.1
+    (λ m. behind c.in_ok-rest.ensures.ok
+    (behind (named c.in_ok-thread.ensures.read)
+    (behind c.in_ok-rest-2.ensures.ok (here (c.in_err-continuation.ensures.met m)))))
 
 pub returns-in_err-arguments-clause-met : goal.returns-in_err-arguments-clause-met
-returns-in_err-arguments-clause-met c = failed _ _ _ c.from_residual-in_err-arguments.ensures.1 (λ m. behind c.in_ok-rest.ensures.ok (behind (named c.in_ok-thread.ensures.read) (behind c.in_ok-rest-2.ensures.ok (behind (named c.in_ok-continuation.ensures.read) (here (c.in_err-arguments.ensures.met m))))))
+returns-in_err-arguments-clause-met c =
+    failed _ _ _ c.from_residual-in_err-arguments.ensures.1
+    (λ m. behind c.in_ok-rest.ensures.ok
+    (behind (named c.in_ok-thread.ensures.read)
+    (behind c.in_ok-rest-2.ensures.ok (behind (named c.in_ok-continuation.ensures.read)
+    (here (c.in_err-arguments.ensures.met m))))))
 
 pub returns-in_err-rest-3-clause-met : goal.returns-in_err-rest-3-clause-met
-returns-in_err-rest-3-clause-met c = failed _ _ _ c.from_residual-in_err-rest-3.ensures.1 (λ m. behind c.in_ok-rest.ensures.ok (behind (named c.in_ok-thread.ensures.read) (behind c.in_ok-rest-2.ensures.ok (behind (named c.in_ok-continuation.ensures.read) (behind c.in_ok-arguments.ensures.parts (here c.in_err-rest-3.ensures.err))))))
+returns-in_err-rest-3-clause-met c =
+    failed _ _ _ c.from_residual-in_err-rest-3.ensures.1
+    (λ m. behind c.in_ok-rest.ensures.ok
+    (behind (named c.in_ok-thread.ensures.read)
+    (behind c.in_ok-rest-2.ensures.ok (behind (named c.in_ok-continuation.ensures.read)
+    (behind c.in_ok-arguments.ensures.parts (here c.in_err-rest-3.ensures.err))))))
 
 pub returns-in_err-rest-4-clause-met : goal.returns-in_err-rest-4-clause-met
-returns-in_err-rest-4-clause-met c = failed _ _ _ c.from_residual-in_err-rest-4.ensures.1 (λ m. behind c.in_ok-rest.ensures.ok (behind (named c.in_ok-thread.ensures.read) (behind c.in_ok-rest-2.ensures.ok (behind (named c.in_ok-continuation.ensures.read) (behind c.in_ok-arguments.ensures.parts (behind c.in_ok-rest-3.ensures.ok c.in_err-rest-4.ensures.err))))))
+returns-in_err-rest-4-clause-met c =
+    failed _ _ _ c.from_residual-in_err-rest-4.ensures.1
+    (λ m. behind c.in_ok-rest.ensures.ok
+    (behind (named c.in_ok-thread.ensures.read)
+    (behind c.in_ok-rest-2.ensures.ok (behind (named c.in_ok-continuation.ensures.read)
+    (behind c.in_ok-arguments.ensures.parts (behind c.in_ok-rest-3.ensures.ok c.in_err-rest-4.ensures.err))))))
 
 pub returns-clause-parts : goal.returns-clause-parts
-returns-clause-parts c = both c.in_ok-rest.ensures.ok (both (named c.in_ok-thread.ensures.read) (both c.in_ok-rest-2.ensures.ok (both (named c.in_ok-continuation.ensures.read) (both c.in_ok-arguments.ensures.parts (both c.in_ok-rest-3.ensures.ok c.in_ok-rest-4.ensures.ok)))))
+returns-clause-parts c = both c.in_ok-rest.ensures.ok
+    (both (named c.in_ok-thread.ensures.read)
+    (both c.in_ok-rest-2.ensures.ok (both (named c.in_ok-continuation.ensures.read)
+    (both c.in_ok-arguments.ensures.parts (both c.in_ok-rest-3.ensures.ok c.in_ok-rest-4.ensures.ok)))))

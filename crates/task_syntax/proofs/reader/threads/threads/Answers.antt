@@ -7,7 +7,12 @@ use Rattle.task_syntax.proofs.Reading.{many_end}
 use Rattle.task_syntax.proofs.reader.threads.threads.Goals as goal
 
 pub loop-alloc-init : goal.loop-alloc-init
-loop-alloc-init c = record { read = rw c.new-all.ensures none; parts = λ to r. r; met = λ e m. m; shorter = search rules }
+loop-alloc-init c = record {
+  read = rw c.new-all.ensures none;
+  parts = λ to r. r;
+  met = λ e m. m;
+  shorter = search rules;
+}
 
 pub loop-alloc-preserved : goal.loop-alloc-preserved
 loop-alloc-preserved c = record {
@@ -22,4 +27,5 @@ returns-clause-parts c = c.loop-alloc.invariant.parts _ (done (lacks_stands c.lo
 
 pub returns-in_err-one-clause-met : goal.returns-in_err-one-clause-met
 returns-in_err-one-clause-met c =
-    failed _ _ _ c.from_residual.ensures.1 (λ m. c.loop-alloc.invariant.met _ (now c.loop-alloc-test.ensures (c.in_err-one.ensures.met m)))
+    failed _ _ _ c.from_residual.ensures.1
+    (λ m. c.loop-alloc.invariant.met _ (now c.loop-alloc-test.ensures (c.in_err-one.ensures.met m)))

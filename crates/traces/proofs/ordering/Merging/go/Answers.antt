@@ -28,7 +28,9 @@ returns-clause-moves c =
       next = c.requires.next.3;
       comes = c.requires.comes c.requires.next.0 c.requires.next.1 c.requires.next.2 c.requires.next.3;
       actors = c.in_ok-add-2.ensures.actors ∙ (c.in_ok-add.ensures.actors ∙ (c.in_ok-note.ensures.actors ∙ t.1));
-      events = both ∙ append_assoc (events_of c.args.self.now.entries.items) (if_there c.args.coming.first) (if_there c.args.coming.second);
+      events = both ∙ append_assoc (events_of c.args.self.now.entries.items) (if_there c.args.coming.first)
+          (if_there c.args.coming.second);
       sent = c.in_ok-add-2.ensures.sent ∙ (c.in_ok-add.ensures.sent ∙ (c.in_ok-note.ensures.sent
-          ∙ (ap (λ ns. ns ++ name_sent c.in-Some.taken) c.advance.ensures.sent ∙ ap (λ l. c.args.self.now.sent.items ++ name_sent l) own)));
+          ∙ (ap (λ ns. ns ++ name_sent c.in-Some.taken) c.advance.ensures.sent
+          ∙ ap (λ l. c.args.self.now.sent.items ++ name_sent l) own)));
     }

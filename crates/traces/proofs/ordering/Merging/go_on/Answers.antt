@@ -10,4 +10,7 @@ pub returns-then-not-branch-clause-moves : goal.returns-then-not-branch-clause-m
 returns-then-not-branch-clause-moves c = leads_on c.loop.invariant.led c.in_ok-step.ensures.moves
 
 pub loop-preserved : goal.loop-preserved
-loop-preserved c = record { led = leads_on c.loop.invariant.led c.in_ok-step.ensures.moves; kept = c.in_ok-step.ensures.kept }
+loop-preserved c = record {
+  led = leads_on c.loop.invariant.led c.in_ok-step.ensures.moves;
+  kept = c.in_ok-step.ensures.kept;
+}

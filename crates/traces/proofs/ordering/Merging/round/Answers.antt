@@ -7,4 +7,7 @@ pub loop-a-init : goal.loop-a-init
 loop-a-init c = record { led = stays; kept = c.requires }
 
 pub loop-a-preserved : goal.loop-a-preserved
-loop-a-preserved c = record { led = leads_on c.loop-a.invariant.led c.in_ok-go_on.ensures.moves; kept = c.in_ok-go_on.ensures.kept }
+loop-a-preserved c = record {
+  led = leads_on c.loop-a.invariant.led c.in_ok-go_on.ensures.moves;
+  kept = c.in_ok-go_on.ensures.kept;
+}

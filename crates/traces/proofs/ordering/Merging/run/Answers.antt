@@ -10,7 +10,10 @@ pub returns-then-not-branch-clause-moves : goal.returns-then-not-branch-clause-m
 returns-then-not-branch-clause-moves c = leads_on c.loop.invariant.led c.in_ok-round.ensures.moves
 
 pub loop-preserved : goal.loop-preserved
-loop-preserved c = record { led = leads_on c.loop.invariant.led c.in_ok-round.ensures.moves; kept = c.in_ok-round.ensures.kept }
+loop-preserved c = record {
+  led = leads_on c.loop.invariant.led c.in_ok-round.ensures.moves;
+  kept = c.in_ok-round.ensures.kept;
+}
 
 pub returns-else-not-branch-clause-moves : goal.returns-else-not-branch-clause-moves
 returns-else-not-branch-clause-moves c = leads_on c.loop.invariant.led c.in_ok-round.ensures.moves

@@ -15,15 +15,20 @@ returns-in_ok-go-in-Ok-clause-moves c = goes stays c.in_ok-go-in-Ok.ensures.move
 
 pub go-requires-clause-comes : goal.go-requires-clause-comes
 go-requires-clause-comes c = λ l ls at was.
-    let actor = got c.deref.result.now c.args.self.now.actors.items c.args.a c.in-Some.actor.now c.deref.ensures.value c.in-Some.ensures.lookup.0 c.in-Some.ensures.lookup.1 in
-    let s = same_front c.args.self.now.actors.items c.args.a c.in-Some.actor.now l c.in-Some-next.next.now ls at actor was (sym c.in-Some-next.ensures) in
-    comes_same (merge_of c.args.self.now) c.args.a c.line.result.now l c.stands.result at c.in-Ok.coming.then (coming_events c.in-Ok.coming)
+    let actor = got c.deref.result.now c.args.self.now.actors.items c.args.a c.in-Some.actor.now c.deref.ensures.value
+    c.in-Some.ensures.lookup.0 c.in-Some.ensures.lookup.1 in
+    let s = same_front c.args.self.now.actors.items c.args.a c.in-Some.actor.now l c.in-Some-next.next.now ls at actor
+    was (sym c.in-Some-next.ensures) in
+    comes_same (merge_of c.args.self.now) c.args.a c.line.result.now l c.stands.result at
+    c.in-Ok.coming.then (coming_events c.in-Ok.coming)
     (c.line.ensures ∙ s.0) (c.stands.ensures ∙ s.1) c.in-Ok.ensures
 
 pub go-requires-clause-next : goal.go-requires-clause-next
 go-requires-clause-next c =
-    let actor = got c.deref.result.now c.args.self.now.actors.items c.args.a c.in-Some.actor.now c.deref.ensures.value c.in-Some.ensures.lookup.0 c.in-Some.ensures.lookup.1 in
-    next_is c.args.self.now.actors.items c.args.a c.in-Some.actor.now c.in-Some-next.next.now actor (sym c.in-Some-next.ensures)
+    let actor = got c.deref.result.now c.args.self.now.actors.items c.args.a c.in-Some.actor.now c.deref.ensures.value
+    c.in-Some.ensures.lookup.0 c.in-Some.ensures.lookup.1 in
+    next_is c.args.self.now.actors.items c.args.a c.in-Some.actor.now c.in-Some-next.next.now actor
+    (sym c.in-Some-next.ensures)
 
 pub returns-in-Err : goal.returns-in-Err
 returns-in-Err c = record { moves = stays; kept = c.requires }

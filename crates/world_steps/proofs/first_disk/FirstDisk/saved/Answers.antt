@@ -5,4 +5,5 @@ pub returns-clause-first : goal.returns-clause-first
 returns-clause-first g c = rw (← c.self.view_is) c.self.invariant
 
 pub returns-clause-agree : goal.returns-clause-agree
-returns-clause-agree g c = rw (← c.self.view_is) (first_agree c.self.inside.job.now (g.D.Disk.device c.self.inside.disk) c.self.inside.saved c.self.invariant)
+returns-clause-agree g c = rw (← c.self.view_is)
+    (first_agree c.self.inside.job.now (g.D.Disk.device c.self.inside.disk) c.self.inside.saved c.self.invariant)

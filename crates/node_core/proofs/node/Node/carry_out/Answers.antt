@@ -11,7 +11,7 @@ use Rattle.node_core.proofs.Changing.{may_change}
 use Rattle.node_state.specs.Node.{by_state}
 use Rattle.node_core.specs.Calls as calls
 use Rattle.node_core.specs.Cases.{by_option}
-use Rattle.node_core.proofs.node.Node.ends.Goals as goal
+use Rattle.node_core.proofs.node.Node.carry_out.Goals as goal
 
 pub change-requires : goal.change-requires
 change-requires c =
@@ -22,16 +22,19 @@ change-requires c =
     let named : sub.grant ≡ c.args.grant = search rules in
     let none : HasNoNewRecord c.args.self.now.node sub = search rules in
     let is : IsNode c.args.self.now = rw (← c.self.view_is) c.self.invariant in
-    may_change c.args.self.now c.args.grant sub prepared member there named c.in_ok-prepared.ensures.may c.in_ok-prepared.ensures.ready c.in_ok-prepared.ensures.records none
+    may_change c.args.self.now c.args.grant sub prepared member there named c.in_ok-prepared.ensures.may
+    c.in_ok-prepared.ensures.ready c.in_ok-prepared.ensures.records none
     (c.in_ok-prepared.ensures.fits c.args.self.now.job.program (is.fits c.args.grant sub there) c.requires.fits)
 
 pub returns-in_err-prepared-clause-answer : goal.returns-in_err-prepared-clause-answer
 unfolding calls.exec by_option by_state
-returns-in_err-prepared-clause-answer c = let refused = c.in_err-prepared.ensures.answer c.args.self.now.job.program in search (rules, refused)
+returns-in_err-prepared-clause-answer c = let refused =
+    c.in_err-prepared.ensures.answer c.args.self.now.job.program in search (rules, refused)
 
 pub returns-in_err-prepared-clause-out_of_memory : goal.returns-in_err-prepared-clause-out_of_memory
 unfolding calls.exec by_option by_state
-returns-in_err-prepared-clause-out_of_memory c = let lacks = c.in_err-prepared.ensures.out_of_memory c.args.self.now.job.program in search (rules, lacks)
+returns-in_err-prepared-clause-out_of_memory c = let lacks =
+    c.in_err-prepared.ensures.out_of_memory c.args.self.now.job.program in search (rules, lacks)
 
 pub returns-clause-answer : goal.returns-clause-answer
 returns-clause-answer c =
@@ -40,6 +43,10 @@ returns-clause-answer c =
     let changed = changed_of sub c.in_ok-prepared.prepared in
     let member : IsMember c.args.self.now.node.state = search rules in
     let there : sub_in c.args.grant c.args.self.now.node.subs ≡ Some sub = search rules in
-    let is : carried_out sub (exec_content (known_by sub.saved) done c.args.frame sub.content) ≡ Ok changed = c.in_ok-prepared.ensures.answer c.args.self.now.job.program in
-    let behind : MeetsAround [] [] (changes_of c.args.self.now.job changed c.args.self.now.node) c.change.result c.args.self.now c.change.new.self = rw (c.new.ensures, c.new-2.ensures) at (c.change.ensures sub there) in
-    rw (exec_known c.args.self.now.job done c.args.grant c.args.frame c.args.self.now.node sub changed member there is) (meets_alone (changes_of c.args.self.now.job changed c.args.self.now.node) c.change.result c.args.self.now c.change.new.self behind)
+    let is : carried_out sub (exec_content (known_by sub.saved) done c.args.frame sub.content) ≡ Ok changed =
+    c.in_ok-prepared.ensures.answer c.args.self.now.job.program in
+    let behind : MeetsAround [] [] (changes_of c.args.self.now.job changed c.args.self.now.node) c.change.result
+    c.args.self.now c.change.new.self = rw (c.new.ensures, c.new-2.ensures) at (c.change.ensures sub there) in
+    rw (exec_known c.args.self.now.job done c.args.grant c.args.frame c.args.self.now.node sub changed member there is)
+    (meets_alone (changes_of c.args.self.now.job changed c.args.self.now.node) c.change.result c.args.self.now
+    c.change.new.self behind)
