@@ -11,7 +11,7 @@ ghost use Rattle.actors.specs.declared.error.NodeCallError.TheVariants.{Unsent};
 
 use crate::error::NodeCallError;
 use crate::outbox::Outbox;
-use grain::{KeptValues, TaskSizes, evaluate, takes_its_numbers};
+use grain::{Grain, KeptValues, TaskSizes, evaluate, takes_its_numbers};
 use ids::{FrameNo, GrantId, Incarnation};
 use node_core::{Node, NodeError, Step, Victim, Work};
 use serial_meaning::{Flat, Job, Whole};
@@ -27,6 +27,9 @@ pub struct Worked {
     pub frame: u64,
     pub turns: Option<u64>,
 }
+
+/// So many evaluate at once in a run of hosts. A node isn't told how many do.
+const EVALUATORS: u64 = 16;
 
 /// A node of a host, and the packets that wait for it. Contracts see the node with its job, and
 /// these packets in their order.
@@ -78,7 +81,13 @@ impl<'a> NodeActor<'a> {
         ensures memory { IfErr result (λ e. e ≡ Memory) }
     {
         let flat = Flat::of(alloc, job.checked())?;
-        let sizes = TaskSizes::new(alloc, most_turns)?;
+        let sizes = TaskSizes::new(
+            alloc,
+            Grain {
+                most_turns,
+                evaluators: EVALUATORS,
+            },
+        )?;
         let kept = KeptValues::new(alloc, job.checked());
         let (node, step) = Node::start(alloc, job, incarnation)?;
         let mut outbox = Outbox::new(alloc);

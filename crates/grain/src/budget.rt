@@ -1,10 +1,20 @@
 //! In how many turns a node lets its body workers evaluate a task.
 
+/// How a run evaluates tasks whole: each in at most so many turns, or, where these are 0, only as
+/// its own turn; and how many threads of it evaluate at once.
+#[derive(Clone, Copy)]
+pub struct Grain {
+    pub most_turns: u64,
+    pub evaluators: u64,
+}
+
 /// So many turns a task may take at least, where a run allows as many: they take about as long as
 /// the events of its frame.
 const LEAST: u64 = 1_024;
 
-/// The first task of a node may take one in so many of the turns that a run allows.
+/// The first task of a node may take one in so many of the turns that a run allows, divided by all
+/// that evaluate: so each of them has something soon, and little is lost where another node is
+/// granted that task meanwhile.
 const FIRST: u64 = 8;
 
 /// Where less than one in so many turns of values that were used was in vain, a task may take one
@@ -14,13 +24,18 @@ const FEW: u64 = 8;
 const PART: u64 = 32;
 
 /// In at most how many turns the next task is evaluated. They are halved where one didn't come to
-/// its end in as many, and doubled where one took more than half of them; there are more where
-/// little was in vain so far. So what is evaluated in vain is at most some times as much as what
-/// isn't, however many of a node's tasks are large.
+/// its end in as many, but to no fewer than the first one had, and doubled where one took more than
+/// half of them; there are more where little was in vain so far. So what is evaluated in vain is at
+/// most some times as much as what isn't, however many of a node's tasks are large. Where one
+/// thread evaluates alone nobody waits for a part of what it has, and all but the first task may
+/// take as many turns as the run allows.
 #[derive(Clone, Copy)]
 pub(crate) struct Budget {
     // How many a run allows; 0 where each frame takes its own turn.
-    grain: u64,
+    allowed: u64,
+    // How many the first task may take, and how many each other one at least.
+    first: u64,
+    least: u64,
     most: u64,
     // The turns of values by which frames were carried out, and of those that were tried in vain,
     // but for kept values that were used.
@@ -30,10 +45,17 @@ pub(crate) struct Budget {
 
 impl Budget {
     /// None was evaluated yet.
-    pub(crate) fn new(grain: u64) -> Budget {
+    pub(crate) fn new(grain: Grain) -> Budget {
+        let allowed = grain.most_turns;
+        let parts = FIRST.saturating_mul(grain.evaluators);
+        let part = allowed.checked_div(parts).unwrap_or(allowed);
+        let first = part.max(LEAST).min(allowed);
+        let is_alone = grain.evaluators <= 1;
         Budget {
-            grain,
-            most: (grain / FIRST).max(LEAST).min(grain),
+            allowed,
+            first,
+            least: if is_alone { allowed } else { first },
+            most: first,
             used: 0,
             vain: 0,
         }
@@ -41,13 +63,13 @@ impl Budget {
 
     /// Whether tasks are evaluated whole.
     pub(crate) fn is_some(&self) -> bool {
-        self.grain > 0
+        self.allowed > 0
     }
 
     /// In at most how many turns the next task is evaluated.
     pub(crate) fn most_turns(&self) -> u64 {
         if self.vain < self.used / FEW {
-            self.most.max(self.used / PART).min(self.grain)
+            self.most.max(self.used / PART).min(self.allowed)
         } else {
             self.most
         }
@@ -57,7 +79,7 @@ impl Budget {
     pub(crate) fn succeed(&mut self, turns: u64) {
         self.used = self.used.saturating_add(turns);
         if turns > self.most / 2 {
-            self.most = self.most.saturating_mul(2).min(self.grain);
+            self.most = self.most.saturating_mul(2).min(self.allowed);
         }
     }
 
@@ -71,12 +93,14 @@ impl Budget {
     pub(crate) fn fail(&mut self, turns: u64) {
         self.vain = self.vain.saturating_add(turns);
         if turns <= self.most {
-            self.most = (self.most / 2).max(LEAST).min(self.grain);
+            self.most = (self.most / 2).max(self.least);
         }
     }
 
     /// Another node starts at the place: nothing is known of its tasks.
     pub(crate) fn forget(&mut self) {
-        *self = Budget::new(self.grain);
+        self.most = self.first;
+        self.used = 0;
+        self.vain = 0;
     }
 }

@@ -9,8 +9,11 @@ use std::alloc::Global;
 const MOST_LARGE: usize = 4_096;
 
 /// A task that was under way where an evaluation broke off is known to be large where that
-/// evaluation had done one in so many of its turns below it. One that began later may be small.
+/// evaluation had done one in so many of its turns below it, or so many. One that began later may
+/// be small, and what was done of it is done again.
 const PART: u64 = 8;
+
+const MOST_AGAIN: u64 = 1_024;
 
 /// The tasks that are known to be large, by how deep their places are: so few are looked at for a
 /// ready frame, however many are known.
@@ -89,7 +92,7 @@ fn depth_of(room: u16) -> usize {
 /// Of the tasks that were under way where an evaluation of so many turns broke off, from the
 /// outermost one on, those that are large by what was kept, which stands in the same order.
 pub(crate) fn large_of(under_way: &mut Vec<UnderWay>, kept: &[Whole], turns: u64) {
-    let room = room_of_part(kept, turns / PART);
+    let room = room_of_part(kept, (turns / PART).min(MOST_AGAIN));
     if let Some(first) = under_way.iter().position(|task| task.room <= room) {
         under_way.truncate(first);
     }

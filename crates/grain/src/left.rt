@@ -10,9 +10,9 @@ use node_core::Work;
 use serial_meaning::{ALL_LEVELS, Flat, Keeper, UnderWay, Whole};
 use std::alloc::Global;
 
-/// On how many levels below a task an evaluation keeps values at most. To do so on all of them
-/// takes up to a half longer.
-pub(crate) const LEVELS: u16 = 7;
+/// On how many levels below a task an evaluation keeps values, where not on all. To do so on all of
+/// them takes up to a half longer.
+pub(crate) const LEVELS: u16 = 9;
 
 /// What is left of an evaluation that broke off: in how many turns it did; the values of tasks
 /// below that it finished; those tasks that are known to be large; and on how many levels the next

@@ -20,6 +20,7 @@ mod left;
 mod sizes;
 mod threads;
 
+pub use budget::Grain;
 pub use kept::KeptValues;
 pub use left::{Left, evaluate, takes_its_numbers};
 pub use sizes::TaskSizes;

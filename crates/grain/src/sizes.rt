@@ -2,7 +2,7 @@
 ghost use Rattle.std.specs.Prelude.{◌≡◌, length};
 ghost use Rattle.kind_check.specs.Total.{Takes};
 
-use crate::budget::Budget;
+use crate::budget::{Budget, Grain};
 use crate::large::LargeTasks;
 use crate::left::Left;
 use crate::threads::Threads;
@@ -21,11 +21,10 @@ pub struct TaskSizes {
 }
 
 impl TaskSizes {
-    /// None was evaluated yet; each may be in at most so many turns, or, where these are 0, only as
-    /// its own turn.
-    pub fn new(alloc: Global, most_turns: u64) -> Result<TaskSizes, AllocError> {
+    /// None was evaluated yet.
+    pub fn new(alloc: Global, grain: Grain) -> Result<TaskSizes, AllocError> {
         Ok(TaskSizes {
-            budget: Budget::new(most_turns),
+            budget: Budget::new(grain),
             large: LargeTasks::new(alloc),
             threads: Threads::new(alloc)?,
         })

@@ -205,11 +205,8 @@ desk_field = struct_send (shape Desk.the_type) (
           (
             search sendable depth 12,
             (
-              search (sendable, crosses) depth 12,
-              (
-                search (sendable, frames) depth 12,
-                tt,
-              ),
+              search sendable depth 12,
+              (search (sendable, crosses) depth 12, (search (sendable, frames) depth 12, tt)),
             ),
           ),
         ),

@@ -1,6 +1,7 @@
 ghost use Rattle.std.specs.Prelude.{◌≡◌, ◌≤◌, ◌<◌, ◌↔◌, IfSome, IsSome, Some};
 ghost use Rattle.node_runner.specs.Configs.{IsConfig};
 
+use grain::Grain;
 use std::marker::Model;
 
 /// The faults of a run. They are drawn from a word, so the same word draws the same ones at each
@@ -101,6 +102,15 @@ impl RunConfig {
     /// No clause speaks of it.
     pub fn grain(&self) -> u64 {
         self.grain
+    }
+
+    /// How the body workers of all nodes evaluate tasks whole.
+    pub(crate) fn task_grain(&self) -> Grain {
+        let (nodes, bodies) = (u64::from(self.nodes), u64::from(self.bodies));
+        Grain {
+            most_turns: self.grain,
+            evaluators: nodes.saturating_mul(bodies),
+        }
     }
 
     /// How many nodes.

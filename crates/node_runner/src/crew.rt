@@ -11,7 +11,7 @@ use crate::line::Line;
 use crate::turn::Finished;
 use chronicle::ActorSeat;
 use disk::SteadyDisk;
-use grain::KeptValues;
+use grain::{Grain, KeptValues};
 use local_pool::{BodyWorker, LocalPool, TurnPass, TurnQueue};
 use serial_meaning::Job;
 use start_words::Pen;
@@ -50,7 +50,7 @@ pub(crate) fn contexts<'a, R: Wait, D: SteadyDisk + Drop>(
     alloc: Global,
     job: &Job,
     bodies: u8,
-    grain: u64,
+    grain: Grain,
     mut seats: Vec<ActorSeat<'a, D>>,
     mut pens: Vec<Pen>,
 ) -> Result<(Vec<ActorContext<'a, D>>, Vec<WorkerContext>), AllocError>
@@ -84,7 +84,7 @@ fn node_of<R: Wait, D: SteadyDisk + Drop>(
     alloc: Global,
     job: &Job,
     bodies: u8,
-    grain: u64,
+    grain: Grain,
     seat: &ActorSeat<'_, D>,
     pens: &mut Vec<Pen>,
     workers: &mut Vec<WorkerContext>,
@@ -110,7 +110,7 @@ fn desk_of<R: Wait>(
     alloc: Global,
     job: &Job,
     bodies: u8,
-    grain: u64,
+    grain: Grain,
     workers: &mut Vec<WorkerContext>,
 ) -> Result<Desk, AllocError>
     requires { bodies ≤ 8 }

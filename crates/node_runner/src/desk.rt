@@ -8,7 +8,7 @@ use crate::line::Line;
 use crate::turn::{Evaluated, Found};
 use chronicle::frame_of;
 use event_script::FrameOf;
-use grain::{KeptValues, TaskSizes, evaluate};
+use grain::{Grain, KeptValues, TaskSizes, evaluate};
 use kind_check::Checked;
 use local_pool::Owner;
 use node_core::Work;
@@ -18,6 +18,9 @@ use std::sync::{Arc, Wait};
 
 /// How many tickets of a node are out at most for each of its body workers.
 const TICKETS: usize = 2;
+
+/// From how many turns on an evaluation takes long: longer than to wake a thread that sleeps.
+const LONG: u64 = 16_384;
 
 /// A ready frame of a node that waits for a body worker, with the number of the ticket, and in at
 /// most how many turns its task is to be evaluated whole; 0 where only its own turn is. On so many
@@ -54,6 +57,8 @@ pub(crate) struct Desk {
     bells: Arc<Bells, Global>,
     workers: usize,
     sizes: TaskSizes,
+    // In how many turns that task was evaluated that came back last, or wasn't.
+    last: u64,
     next: u64,
     // The tickets that are out, and the frame of each at the same index.
     tickets: Vec<u64>,
@@ -68,7 +73,7 @@ impl Desk {
         home: Home,
         bells: Arc<Bells, Global>,
         workers: usize,
-        grain: u64,
+        grain: Grain,
     ) -> Result<Desk, AllocError>
         ensures { IfOk result (λ d. d.home ≡ home) }
     {
@@ -79,6 +84,7 @@ impl Desk {
             bells,
             workers,
             sizes: TaskSizes::new(alloc, grain)?,
+            last: 0,
             next: 0,
             tickets: Vec::with_capacity(alloc, room)?,
             frames: Vec::with_capacity(alloc, room)?,
@@ -108,6 +114,11 @@ impl Desk {
     /// Whether no more tickets may be out.
     pub(crate) fn is_full(&self) -> bool {
         self.tickets.len() >= self.workers.saturating_mul(TICKETS)
+    }
+
+    /// Whether no more tickets may be out, and to wait for one takes long.
+    pub(crate) fn has_long_work(&self) -> bool {
+        self.is_full() && self.last >= LONG
     }
 
     /// Offers a ready frame to the workers; whether it is out now. It isn't where there is no
@@ -241,8 +252,14 @@ impl Desk {
         } = self.home.line.take(rt, checked)?;
         self.remove(ticket);
         match &found {
-            Found::Whole(whole) => self.sizes.succeed(whole),
-            Found::Turn(turn) => self.home.kept.add(self.sizes.fail(turn.thread(), left)),
+            Found::Whole(whole) => {
+                self.last = whole.turns();
+                self.sizes.succeed(whole);
+            }
+            Found::Turn(turn) => {
+                self.last = left.turns;
+                self.home.kept.add(self.sizes.fail(turn.thread(), left));
+            }
         }
         Some(Returned { frame, found })
     }

@@ -225,7 +225,7 @@ fn do_next<'a, R: Wait + Clock, G: Gate + Sync, D: SteadyDisk + Drop>(
             None => return false,
         }
     }
-    if run.desk.is_waiting() && run.node.stay_awake() {
+    if run.desk.is_waiting() && !run.desk.has_long_work() && run.node.stay_awake() {
         return true;
     }
     if run.node.idle < run.node.patience {
@@ -684,12 +684,12 @@ impl Node {
     }
 
     /// It lets others go on, in a run of so many nodes; where its body workers have something,
-    /// until a turn comes back, unless one did since it rested last. Where it is left out it sleeps
-    /// in each turn.
+    /// until a turn comes back, unless one did since it rested last: at once where that takes long,
+    /// so that it doesn't take a processor from them. Where it is left out it sleeps in each turn.
     fn rest<R: Wait + Clock>(&mut self, rt: &R, desk: &Desk, counts: &Counts, nodes: u8) {
         self.rested = self.rested.saturating_add(1);
         if desk.is_waiting() {
-            if is_to_sleep(self.rested) {
+            if desk.has_long_work() || is_to_sleep(self.rested) {
                 desk.bells().sleep_node(rt, self.returned, nap(nodes));
             }
         } else if is_beginning(counts.events(), nodes, self.rested) {

@@ -159,7 +159,7 @@ fn traced<'a, R: Threads + Wait + Clock + Sync, G: Gate + Sync, D: SteadyDisk + 
         alloc,
         job,
         config.bodies(),
-        config.grain(),
+        config.task_grain(),
         seats,
         pens,
     ) else {
