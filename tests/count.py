@@ -25,6 +25,8 @@ named:
     wrong-bodies    edits that stand beside it
     edits           both
     tests           functions that are tests
+    wide-proofs     lines of proofs of more than 120 columns, but for imports, which the formatter lays out
+    wide-comments   lines of comments of more than 100 columns
     crates          crates
     transcripts     files of transcripts/
     scripts         scripts of examples/scripts
@@ -79,6 +81,21 @@ def tests_of(crate):
     return sum(len(re.findall(r"(?m)^ *#\[test\]", read(it))) for it in files_in(f"{CRATES}/{crate}/src", ".rt"))
 
 
+def wide(crate, folders, most, is_one):
+    """How many lines of a crate's files in some folders, of one kind, have more columns than that."""
+    places = [f"{CRATES}/{crate}/{folder}" for folder in folders]
+    found = [it for place in places for ending in (".rt", ".antt") for it in files_in(place, ending)]
+    return sum(len(line) > most and is_one(line.lstrip()) for it in found for line in read(it).split("\n"))
+
+
+# Lines that are too wide: in which folders, from how many columns on, and which ones.
+IMPORTS, COMMENTS = ("use ", "pub use "), ("//", "--")
+WIDE = {
+    "wide-proofs": (["proofs"], 120, lambda line: not line.startswith(IMPORTS)),
+    # (a row of a table can't be broken)
+    "wide-comments": (["src", "specs", "proofs"], 100, lambda line: line.startswith(COMMENTS) and "|" not in line),
+}
+
 # What is counted of a crate.
 OF_CRATE = {
     "code": lambda it: lines_of(it, "src", ".rt"),
@@ -89,6 +106,7 @@ OF_CRATE = {
     "edits": lambda it: edits_of(it, "must-fail") + edits_of(it, "wrong-bodies"),
     "tests": tests_of,
     "crates": lambda it: 1,
+    **{what: functools.partial(lambda how, it: wide(it, *how), how) for what, how in WIDE.items()},
 }
 
 

@@ -14,7 +14,7 @@ use crate::inbox::{Delivered, Inbox};
 use crate::members::Members;
 use crate::plans::Plans;
 use crate::resting::{
-    YIELDS, asks_in_vain, is_beginning, is_to_sleep, nap, pause, pauses, rest, rest_idle,
+    YIELDS, asks_in_vain, is_beginning, is_to_sleep, pause, pauses, rest, rest_idle, wait,
 };
 use crate::shared::{Shared, commit, commit_found};
 use crate::turn::Found;
@@ -689,8 +689,10 @@ impl Node {
     fn rest<R: Wait + Clock>(&mut self, rt: &R, desk: &Desk, counts: &Counts, nodes: u8) {
         self.rested = self.rested.saturating_add(1);
         if desk.is_waiting() {
-            if desk.has_long_work() || is_to_sleep(self.rested) {
-                desk.bells().sleep_node(rt, self.returned, nap(nodes));
+            let long = desk.has_long_work();
+            if long || is_to_sleep(self.rested) {
+                desk.bells()
+                    .sleep_node(rt, self.returned, wait(nodes, long));
             }
         } else if is_beginning(counts.events(), nodes, self.rested) {
             yield_now();

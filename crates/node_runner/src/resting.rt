@@ -20,6 +20,9 @@ const SLEEP: u64 = 50;
 /// The same in a run of one node, which nobody asks for work.
 const SLEEP_ALONE: u64 = 200;
 
+/// The same where that node's body workers are busy for long, by one of which it is woken.
+const SLEEP_BUSY: u64 = 2_000;
+
 /// How long a node sleeps at least that asks in vain while others go on, in microseconds.
 const LONG_SLEEP: u64 = 250;
 
@@ -90,9 +93,19 @@ fn rest_after(rt: &impl Clock, nodes: u8, idle: u64, yields: u64) {
     }
 }
 
+/// How long a node sleeps at most in a run of so many until a turn comes back, in microseconds;
+/// longer where its body workers are busy for long, and nobody else asks for work.
+pub(crate) fn wait(nodes: u8, long: bool) -> u64 {
+    if long && nodes == 1 {
+        SLEEP_BUSY
+    } else {
+        nap(nodes)
+    }
+}
+
 /// How long an actor sleeps in a run of so many nodes, in microseconds: so long that all of them
 /// together wake as often as a few do.
-pub(crate) fn nap(nodes: u8) -> u64 {
+fn nap(nodes: u8) -> u64 {
     if nodes == 1 {
         return SLEEP_ALONE;
     }
