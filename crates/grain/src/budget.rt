@@ -28,7 +28,7 @@ const PART: u64 = 32;
 /// half of them; there are more where little was in vain so far. So what is evaluated in vain is at
 /// most some times as much as what isn't, however many of a node's tasks are large. Where one
 /// thread evaluates alone nobody waits for a part of what it has, and all but the first task may
-/// take as many turns as the run allows.
+/// take as many turns as the run allows, unless the program goes deep.
 #[derive(Clone, Copy)]
 pub(crate) struct Budget {
     // How many a run allows; 0 where each frame takes its own turn.
@@ -89,11 +89,14 @@ impl Budget {
         self.vain = self.vain.saturating_sub(turns);
     }
 
-    /// A task wasn't evaluated to its end in so many turns.
-    pub(crate) fn fail(&mut self, turns: u64) {
+    /// A task wasn't evaluated to its end in so many turns. Where most of these were deep below it
+    /// the next one of such a program may fail as well, and tasks may take as few turns as the
+    /// first one.
+    pub(crate) fn fail(&mut self, turns: u64, is_deep: bool) {
         self.vain = self.vain.saturating_add(turns);
         if turns <= self.most {
-            self.most = (self.most / 2).max(self.least);
+            let least = if is_deep { self.first } else { self.least };
+            self.most = (self.most / 2).max(least);
         }
     }
 

@@ -8,7 +8,7 @@ use crate::left::Left;
 use crate::threads::Threads;
 use kind_check::{BlockCode, Checked, EndCode, Leaf};
 use node_core::Work;
-use serial_meaning::Whole;
+use serial_meaning::{ALL_LEVELS, Whole};
 use std::alloc::{AllocError, Global};
 
 /// In how many turns a node's next task should be evaluated, and which ones are known to be large,
@@ -89,7 +89,7 @@ impl TaskSizes {
             levels,
         } = left;
         if turns > 0 {
-            self.budget.fail(turns);
+            self.budget.fail(turns, levels == ALL_LEVELS);
             self.threads.fail(thread, levels);
         }
         self.large.learn(large);

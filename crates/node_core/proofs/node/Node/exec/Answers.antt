@@ -5,16 +5,16 @@ use Rattle.node_core.specs.Calls as calls
 use Rattle.node_core.specs.Meeting.{Meets}
 use Rattle.node_core.proofs.node.Node.exec.Goals as goal
 
-pub ends-requires-clause-fits : goal.ends-requires-clause-fits
-ends-requires-clause-fits c = rw (c.turn.ensures.same, sym c.requires) c.turn.ensures.evaluated.fits
+pub carry_out-requires-clause-fits : goal.carry_out-requires-clause-fits
+carry_out-requires-clause-fits c = rw (c.turn.ensures.same, sym c.requires) c.turn.ensures.evaluated.fits
 
 pub returns-clause-answer : goal.returns-clause-answer
 returns-clause-answer c =
     let d = c.args.done.now in
     let met : Meets (calls.exec c.args.self.now.job
     (ended c.args.self.now.job.program d.thread d.numbers d.turn) c.args.grant c.args.frame c.args.self.now.node)
-    c.ends.result c.args.self.now c.ends.new.self =
-    rw (c.thread.ensures.same, c.numbers.ensures.same, c.turn.ensures.same) at c.ends.ensures.answer in
+    c.carry_out.result c.args.self.now c.carry_out.new.self =
+    rw (c.thread.ensures.same, c.numbers.ensures.same, c.turn.ensures.same) at c.carry_out.ensures.answer in
     subst (λ (p : Program). Meets (calls.exec c.args.self.now.job
-    (ended p d.thread d.numbers d.turn) c.args.grant c.args.frame c.args.self.now.node) c.ends.result
-    c.args.self.now c.ends.new.self) (sym c.requires) met
+    (ended p d.thread d.numbers d.turn) c.args.grant c.args.frame c.args.self.now.node) c.carry_out.result
+    c.args.self.now c.carry_out.new.self) (sym c.requires) met
