@@ -24,18 +24,19 @@ const FEW: u64 = 8;
 const PART: u64 = 32;
 
 /// In at most how many turns the next task is evaluated. They are halved where one didn't come to
-/// its end in as many, but to no fewer than the first one had, and doubled where one took more than
-/// half of them; there are more where little was in vain so far. So what is evaluated in vain is at
-/// most some times as much as what isn't, however many of a node's tasks are large. Where one
-/// thread evaluates alone nobody waits for a part of what it has, and all but the first task may
-/// take as many turns as the run allows, unless the program goes deep.
+/// its end in as many, and doubled where one took more than half of them; there are more where
+/// little was in vain so far. So what is evaluated in vain is at most some times as much as what
+/// isn't, however many of a node's tasks are large. They are no fewer than the first one had, and
+/// where one thread evaluates alone, and nobody waits for a part of what it has, as many as the run
+/// allows; but in a program that goes deep, of which little is kept, as few as are worth it.
 #[derive(Clone, Copy)]
 pub(crate) struct Budget {
     // How many a run allows; 0 where each frame takes its own turn.
     allowed: u64,
-    // How many the first task may take, and how many each other one at least.
+    // How many the first task may take, and how many each other one at least, at first and now.
     first: u64,
     least: u64,
+    floor: u64,
     most: u64,
     // The turns of values by which frames were carried out, and of those that were tried in vain,
     // but for kept values that were used.
@@ -51,10 +52,12 @@ impl Budget {
         let part = allowed.checked_div(parts).unwrap_or(allowed);
         let first = part.max(LEAST).min(allowed);
         let is_alone = grain.evaluators <= 1;
+        let least = if is_alone { allowed } else { first };
         Budget {
             allowed,
             first,
-            least: if is_alone { allowed } else { first },
+            least,
+            floor: least,
             most: first,
             used: 0,
             vain: 0,
@@ -90,18 +93,20 @@ impl Budget {
     }
 
     /// A task wasn't evaluated to its end in so many turns. Where most of these were deep below it
-    /// the next one of such a program may fail as well, and tasks may take as few turns as the
-    /// first one.
+    /// little may be kept of the next ones too, so that they may be as few as are worth it.
     pub(crate) fn fail(&mut self, turns: u64, is_deep: bool) {
         self.vain = self.vain.saturating_add(turns);
+        if is_deep {
+            self.floor = LEAST.min(self.allowed);
+        }
         if turns <= self.most {
-            let least = if is_deep { self.first } else { self.least };
-            self.most = (self.most / 2).max(least);
+            self.most = (self.most / 2).max(self.floor);
         }
     }
 
     /// Another node starts at the place: nothing is known of its tasks.
     pub(crate) fn forget(&mut self) {
+        self.floor = self.least;
         self.most = self.first;
         self.used = 0;
         self.vain = 0;
