@@ -37,11 +37,16 @@ not_moved (Some TooDeep) t = absurd (omega (arith, t))
 abbrev made : ℕ → ℕ → Option Outcome → List SavedValue → CheckpointRecord
 made j e o s = record { job = j; epoch = e; outcome = o; saved = s }
 
-record_is : (r s : CheckpointRecord) → r.job ≡ s.job → r.epoch ≡ s.epoch → r.outcome ≡ s.outcome → r.saved ≡ s.saved → r ≡ s
+record_is : (r s : CheckpointRecord) → r.job ≡ s.job → r.epoch ≡ s.epoch → r.outcome ≡ s.outcome → r.saved ≡ s.saved
+    → r ≡ s
 record_is r s j e o l =
-    ap (λ x. made x r.epoch r.outcome r.saved) j ∙ ap (λ x. made s.job x r.outcome r.saved) e ∙ ap (λ x. made s.job s.epoch x r.saved) o ∙ ap (λ x. made s.job s.epoch s.outcome x) l
+    ap (λ x. made x r.epoch r.outcome r.saved) j ∙ ap (λ x. made s.job x r.outcome r.saved) e
+    ∙ ap (λ x. made s.job s.epoch x r.saved) o ∙ ap (λ x. made s.job s.epoch s.outcome x) l
 
-by_fields : (bytes : List ℕ) (n m size : ℕ) (r s : CheckpointRecord) → HasFields bytes n size r.job r.epoch (tag_of r.outcome) (value_of r.outcome) → HasFields bytes m size s.job s.epoch (tag_of s.outcome) (value_of s.outcome) → r.saved ≡ s.saved → (n ≡ m) × (r ≡ s)
+by_fields : (bytes : List ℕ) (n m size : ℕ) (r s : CheckpointRecord)
+    → HasFields bytes n size r.job r.epoch (tag_of r.outcome) (value_of r.outcome)
+    → HasFields bytes m size s.job s.epoch (tag_of s.outcome) (value_of s.outcome) → r.saved ≡ s.saved
+    → (n ≡ m) × (r ≡ s)
 by_fields bytes n m size r s a b saved = (
   sym a.sequence_at ∙ b.sequence_at,
   record_is r s (sym a.job_at ∙ b.job_at) (sym a.epoch_at ∙ b.epoch_at)
@@ -60,7 +65,8 @@ one_small bytes n m (Here r) Moved a b = absurd (not_moved r.outcome (sym a.fiel
 one_small bytes n m Moved (Here s) a b = absurd (not_moved s.outcome (sym b.fields.outcome_at ∙ a.fields.outcome_at))
 
 pub one_large : SaysOne SpellsLarge
-one_large bytes n m r s a b = by_fields bytes n m 2101 r s a.fields b.fields (one_list (drop 63 bytes) r.saved s.saved (sym a.count_at ∙ b.count_at) a.entries b.entries)
+one_large bytes n m r s a b = by_fields bytes n m 2101 r s a.fields b.fields
+    (one_list (drop 63 bytes) r.saved s.saved (sym a.count_at ∙ b.count_at) a.entries b.entries)
 
 -- # What an answer tells
 
@@ -82,7 +88,11 @@ pub closed_gate : (slot : List ℕ) → ¬ IsOpen slot → is_open slot ≡ fals
 closed_gate slot closed = ne_eqb (get_or slot 0 0) 165 closed
 
 module _ {R : Type 0} (Spells : Spelling R) (one : SaysOne Spells) (base size : ℕ) (file : List ℕ) where
-  current : base + (1 + size) + (1 + size) ≤ length file → (second : Bool) (here there : Option (ℕ × R)) (gate : Bool) (n : ℕ) (r : R) → Holds Spells (slot base size second file) here → Holds Spells (slot base size (not second) file) there → here ≡ Some (n, r) → IsOlder there n gate → IsCurrent Spells base size file second n r × (gate ≡ is_open (slot base size (not second) file))
+  current : base + (1 + size) + (1 + size) ≤ length file
+      → (second : Bool) (here there : Option (ℕ × R)) (gate : Bool) (n : ℕ) (r : R)
+      → Holds Spells (slot base size second file) here → Holds Spells (slot base size (not second) file) there
+      → here ≡ Some (n, r) → IsOlder there n gate
+      → IsCurrent Spells base size file second n r × (gate ≡ is_open (slot base size (not second) file))
   current room second here None gate n r holds closed is older =
       let mine = subst (λ x. Holds Spells (slot base size second file) x) is holds in (
         record { room = room; gate = mine.0; content = mine.1; other = λ opened. absurd (closed opened) },
@@ -94,24 +104,35 @@ module _ {R : Type 0} (Spells : Spelling R) (one : SaysOne Spells) (base size : 
         older.1 ∙ sym (open_gate (slot base size (not second) file) opened.0),
       )
 
-  pub newest_current : base + (1 + size) + (1 + size) ≤ length file → (first last : Option (ℕ × R)) (second gate : Bool) (n : ℕ) (r : R) → Holds Spells (slot base size false file) first → Holds Spells (slot base size true file) last → IsNewest first last second n r gate → IsCurrent Spells base size file second n r × (gate ≡ is_open (slot base size (not second) file))
-  newest_current room first last false gate n r first_holds last_holds newest = current room false first last gate n r first_holds last_holds newest.0 newest.1
-  newest_current room first last true gate n r first_holds last_holds newest = current room true last first gate n r last_holds first_holds newest.0 newest.1
+  pub newest_current : base + (1 + size) + (1 + size) ≤ length file
+      → (first last : Option (ℕ × R)) (second gate : Bool) (n : ℕ) (r : R)
+      → Holds Spells (slot base size false file) first → Holds Spells (slot base size true file) last
+      → IsNewest first last second n r gate
+      → IsCurrent Spells base size file second n r × (gate ≡ is_open (slot base size (not second) file))
+  newest_current room first last false gate n r first_holds last_holds newest =
+      current room false first last gate n r first_holds last_holds newest.0 newest.1
+  newest_current room first last true gate n r first_holds last_holds newest =
+      current room true last first gate n r last_holds first_holds newest.0 newest.1
 
-  held : (second : Bool) (here : Option (ℕ × R)) (n : ℕ) (r : R) → Holds Spells (slot base size second file) here → IsOpen (slot base size second file) → Spells (body (slot base size second file)) n r → here ≡ Some (n, r)
+  held : (second : Bool) (here : Option (ℕ × R)) (n : ℕ) (r : R) → Holds Spells (slot base size second file) here
+      → IsOpen (slot base size second file) → Spells (body (slot base size second file)) n r → here ≡ Some (n, r)
   held second None n r closed opened says = absurd (closed opened)
   held second (Some x) n r holds opened says =
       let same = one (body (slot base size second file)) x.0 n x.1 r holds.1 says in
       ap (λ m. Some (m, x.1)) same.0 ∙ ap (λ s. Some (n, s)) same.1
 
-  older : (second : Bool) (there : Option (ℕ × R)) (n : ℕ) (r : R) → Holds Spells (slot base size (not second) file) there → IsCurrent Spells base size file second n r → (gate : Bool) × IsOlder there n gate
+  older : (second : Bool) (there : Option (ℕ × R)) (n : ℕ) (r : R)
+      → Holds Spells (slot base size (not second) file) there → IsCurrent Spells base size file second n r
+      → (gate : Bool) × IsOlder there n gate
   older second None n r closed is = (false, refl)
   older second (Some x) n r holds is =
       let other = is.other holds.0 in
       let same = one (body (slot base size (not second) file)) x.0 other.0 x.1 other.1 holds.1 other.2 in
       (true, (omega (arith, other.3, same.0), refl))
 
-  pub current_newest : (first last : Option (ℕ × R)) (second : Bool) (n : ℕ) (r : R) → Holds Spells (slot base size false file) first → Holds Spells (slot base size true file) last → IsCurrent Spells base size file second n r → (gate : Bool) × IsNewest first last second n r gate
+  pub current_newest : (first last : Option (ℕ × R)) (second : Bool) (n : ℕ) (r : R)
+      → Holds Spells (slot base size false file) first → Holds Spells (slot base size true file) last
+      → IsCurrent Spells base size file second n r → (gate : Bool) × IsNewest first last second n r gate
   current_newest first last false n r first_holds last_holds is =
       let behind = older false last n r last_holds is in
       (behind.0, (held false first n r first_holds is.gate is.content, behind.1))
@@ -120,16 +141,21 @@ module _ {R : Type 0} (Spells : Spelling R) (one : SaysOne Spells) (base size : 
       (behind.0, (held true last n r last_holds is.gate is.content, behind.1))
 
   -- an open slot that says nothing
-  pub refused : (bad second : Bool) (n : ℕ) (r : R) → IsOpen (slot base size bad file) → ((m : ℕ) (s : R) → ¬ Spells (body (slot base size bad file)) m s) → IsCurrent Spells base size file second n r → ⊥
+  pub refused : (bad second : Bool) (n : ℕ) (r : R) → IsOpen (slot base size bad file)
+      → ((m : ℕ) (s : R) → ¬ Spells (body (slot base size bad file)) m s) → IsCurrent Spells base size file second n r
+      → ⊥
   refused false false n r opened nothing is = nothing n r is.content
   refused true true n r opened nothing is = nothing n r is.content
   refused true false n r opened nothing is = let other = is.other opened in nothing other.0 other.1 other.2
   refused false true n r opened nothing is = let other = is.other opened in nothing other.0 other.1 other.2
 
   -- two slots have one current record
-  pub one_current : (a b : Bool) (n m : ℕ) (r s : R) → IsCurrent Spells base size file a n r → IsCurrent Spells base size file b m s → (a ≡ b) × (n ≡ m) × (r ≡ s)
-  one_current false false n m r s x y = let same = one (body (slot base size false file)) n m r s x.content y.content in (refl, same.0, same.1)
-  one_current true true n m r s x y = let same = one (body (slot base size true file)) n m r s x.content y.content in (refl, same.0, same.1)
+  pub one_current : (a b : Bool) (n m : ℕ) (r s : R) → IsCurrent Spells base size file a n r
+      → IsCurrent Spells base size file b m s → (a ≡ b) × (n ≡ m) × (r ≡ s)
+  one_current false false n m r s x y = let same =
+      one (body (slot base size false file)) n m r s x.content y.content in (refl, same.0, same.1)
+  one_current true true n m r s x y = let same =
+      one (body (slot base size true file)) n m r s x.content y.content in (refl, same.0, same.1)
   one_current false true n m r s x y =
       let xo = x.other y.gate in
       let yo = y.other x.gate in
@@ -146,10 +172,13 @@ module _ {R : Type 0} (Spells : Spelling R) (one : SaysOne Spells) (base size : 
 -- # A file
 
 -- what its small slots say is one thing, and so is what its large ones do
-pub one_entry : (file : List ℕ) (a b : Bool) (n m : ℕ) (r s : Entry) → IsCurrent SpellsSmall 8 63 file a n r → IsCurrent SpellsSmall 8 63 file b m s → (a ≡ b) × (n ≡ m) × (r ≡ s)
+pub one_entry : (file : List ℕ) (a b : Bool) (n m : ℕ) (r s : Entry) → IsCurrent SpellsSmall 8 63 file a n r
+    → IsCurrent SpellsSmall 8 63 file b m s → (a ≡ b) × (n ≡ m) × (r ≡ s)
 one_entry file = one_current SpellsSmall one_small 8 63 file
 
-pub one_record : (file : List ℕ) (a b : Bool) (n m : ℕ) (r s : CheckpointRecord) → IsCurrent SpellsLarge 136 2111 file a n r → IsCurrent SpellsLarge 136 2111 file b m s → (a ≡ b) × (n ≡ m) × (r ≡ s)
+pub one_record : (file : List ℕ) (a b : Bool) (n m : ℕ) (r s : CheckpointRecord)
+    → IsCurrent SpellsLarge 136 2111 file a n r → IsCurrent SpellsLarge 136 2111 file b m s
+    → (a ≡ b) × (n ≡ m) × (r ≡ s)
 one_record file = one_current SpellsLarge one_large 136 2111 file
 
 here_moved : (r : CheckpointRecord) → Here r ≡ Moved → ⊥
@@ -159,13 +188,19 @@ same_here : (r s : CheckpointRecord) → Here r ≡ Here s → r ≡ s
 same_here r s e = cc
 
 -- a file has one current record, in one place
-pub one_store : (file : List ℕ) (a b : SlotId) (n m : ℕ) (r s : CheckpointRecord) → IsStore file a n r → IsStore file b m s → (a ≡ b) × (n ≡ m) × (r ≡ s)
-one_store file (Small a) (Small b) n m r s x y = let same = one_entry file a b n m (Here r) (Here s) x.current y.current in (ap Small same.0, same.1, same_here r s same.2)
-one_store file (Large a) (Large b) n m r s x y = let same = one_record file a b n m r s x.current y.current in (ap Large same.0, same.1, same.2)
-one_store file (Small a) (Large b) n m r s x y = absurd (here_moved r (one_entry file a y.front.second n y.front.moves (Here r) Moved x.current y.front.moved).2)
-one_store file (Large a) (Small b) n m r s x y = absurd (here_moved s (one_entry file b x.front.second m x.front.moves (Here s) Moved y.current x.front.moved).2)
+pub one_store : (file : List ℕ) (a b : SlotId) (n m : ℕ) (r s : CheckpointRecord) → IsStore file a n r
+    → IsStore file b m s → (a ≡ b) × (n ≡ m) × (r ≡ s)
+one_store file (Small a) (Small b) n m r s x y = let same =
+    one_entry file a b n m (Here r) (Here s) x.current y.current in (ap Small same.0, same.1, same_here r s same.2)
+one_store file (Large a) (Large b) n m r s x y = let same =
+    one_record file a b n m r s x.current y.current in (ap Large same.0, same.1, same.2)
+one_store file (Small a) (Large b) n m r s x y =
+    absurd (here_moved r (one_entry file a y.front.second n y.front.moves (Here r) Moved x.current y.front.moved).2)
+one_store file (Large a) (Small b) n m r s x y =
+    absurd (here_moved s (one_entry file b x.front.second m x.front.moves (Here s) Moved y.current x.front.moved).2)
 
-pub version_of : (file : List ℕ) (at : SlotId) (n : ℕ) (r : CheckpointRecord) → IsStore file at n r → get_or file 7 0 ≡ 1
+pub version_of : (file : List ℕ) (at : SlotId) (n : ℕ) (r : CheckpointRecord) → IsStore file at n r
+    → get_or file 7 0 ≡ 1
 version_of file (Small second) n r is = is.version
 version_of file (Large second) n r is = is.front.version
 
@@ -180,10 +215,13 @@ IsNone file = (n : ℕ) (r : CheckpointRecord) → ¬ ReadsAsStore file n r
 
 -- its small slots say nothing, or that the record has moved where there are no large ones, or these
 -- say nothing
-pub none_small : (file : List ℕ) → ((second : Bool) (n : ℕ) (x : Entry) → ¬ IsCurrent SpellsSmall 8 63 file second n x) → IsNone file
+pub none_small : (file : List ℕ) → ((second : Bool) (n : ℕ) (x : Entry) → ¬ IsCurrent SpellsSmall 8 63 file second n x)
+    → IsNone file
 none_small file none n r (Small second, is) = none second n (Here r) is.current
 none_small file none n r (Large second, is) = none is.front.second is.front.moves Moved is.front.moved
 
-pub none_moved : (file : List ℕ) (second : Bool) (m : ℕ) → IsCurrent SpellsSmall 8 63 file second m Moved → ((other : Bool) (n : ℕ) (r : CheckpointRecord) → ¬ IsNew file other n r) → IsNone file
-none_moved file second m moved none n r (Small other, is) = here_moved r (one_entry file other second n m (Here r) Moved is.current moved).2
+pub none_moved : (file : List ℕ) (second : Bool) (m : ℕ) → IsCurrent SpellsSmall 8 63 file second m Moved
+    → ((other : Bool) (n : ℕ) (r : CheckpointRecord) → ¬ IsNew file other n r) → IsNone file
+none_moved file second m moved none n r (Small other, is) =
+    here_moved r (one_entry file other second n m (Here r) Moved is.current moved).2
 none_moved file second m moved none n r (Large other, is) = none other n r is

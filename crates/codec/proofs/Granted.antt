@@ -18,31 +18,37 @@ use Rattle.codec.specs.declared.body.Grant.{Grant}
 use Rattle.codec.specs.Table.{fits_body, grant_format, granted, is_saved, saved_grant}
 
 -- a value that can be written alone can be written behind one that stands before it
-value_fits : (last : Option (List ℕ)) (x : SavedValue) → field.is_later last x.place ≡ true → (field.saved_value None).fits x ≡ true → (field.saved_value last).fits x ≡ true
+value_fits : (last : Option (List ℕ)) (x : SavedValue) → field.is_later last x.place ≡ true
+    → (field.saved_value None).fits x ≡ true → (field.saved_value last).fits x ≡ true
 unfolding field.saved_value
 value_fits last x later alone =
     let h = and_parts (field.saved_place.fits x.place && true) (field.signed.fits x.value) alone in
     let place = (and_parts (field.saved_place.fits x.place) true h.0).0 in
-    and_from (field.saved_place.fits x.place && field.is_later last x.place) (field.signed.fits x.value) (and_from (field.saved_place.fits x.place) (field.is_later last x.place) place later) h.1
+    and_from (field.saved_place.fits x.place && field.is_later last x.place) (field.signed.fits x.value)
+    (and_from (field.saved_place.fits x.place) (field.is_later last x.place) place later) h.1
 
 -- whether the first value, if there is one, stands behind the last one before it
 abbrev starts_later : Option (List ℕ) → List SavedValue → Bool
 starts_later last [] = true
 starts_later last (x ∷ xs) = field.is_later last x.place
 
-goes_on : (x : SavedValue) (xs : List SavedValue) → IsStrictlySortedBy place_cmp (map place_of (x ∷ xs)) → starts_later (Some x.place) xs ≡ true
+goes_on : (x : SavedValue) (xs : List SavedValue) → IsStrictlySortedBy place_cmp (map place_of (x ∷ xs))
+    → starts_later (Some x.place) xs ≡ true
 goes_on x [] rising = refl
 goes_on x (y ∷ xs) rising = ap is_lt (sorted_head place_cmp x.place (map place_of (y ∷ xs)) rising).0
 
-each_fits : (last : Option (List ℕ)) (xs : List SavedValue) → starts_later last xs ≡ true → list_all (field.saved_value None).fits xs ≡ true → IsStrictlySortedBy place_cmp (map place_of xs)
+each_fits : (last : Option (List ℕ)) (xs : List SavedValue) → starts_later last xs ≡ true
+    → list_all (field.saved_value None).fits xs ≡ true → IsStrictlySortedBy place_cmp (map place_of xs)
     → (items place_of field.saved_value last (length xs)).fits xs ≡ true
 each_fits last [] later each rising = refl
 each_fits last (x ∷ xs) later each rising =
     let h = and_parts ((field.saved_value None).fits x) (list_all (field.saved_value None).fits xs) each in
-    and_from ((field.saved_value last).fits x) ((items place_of field.saved_value (Some x.place) (length xs)).fits xs) (value_fits last x later h.0)
+    and_from ((field.saved_value last).fits x) ((items place_of field.saved_value (Some x.place) (length xs)).fits xs)
+    (value_fits last x later h.0)
     (each_fits (Some x.place) xs (goes_on x xs rising) h.1 (sorted_tail place_cmp x.place (map place_of xs) rising))
 
-values_fit : (xs : List SavedValue) → not (is_empty xs) ≡ true → list_all (field.saved_value None).fits xs ≡ true → IsSavedList xs → field.saved_values.fits xs ≡ true
+values_fit : (xs : List SavedValue) → not (is_empty xs) ≡ true → list_all (field.saved_value None).fits xs ≡ true
+    → IsSavedList xs → field.saved_values.fits xs ≡ true
 unfolding field.saved_values
 values_fit [] some each list = cc
 values_fit (x ∷ xs) some each list =
@@ -57,7 +63,9 @@ none_there [] none = refl
 none_there (x ∷ xs) none = cc
 
 -- a Grant can be written, as far as its numbers can
-pub grant_fits : (b : Grant) → field.counted.fits b.seq ≡ true → field.grant.fits b.grant ≡ true → field.task.fits b.task ≡ true → list_all (field.saved_value None).fits b.saved ≡ true → IsSavedList b.saved → fits_body (body.Grant b) ≡ true
+pub grant_fits : (b : Grant) → field.counted.fits b.seq ≡ true → field.grant.fits b.grant ≡ true
+    → field.task.fits b.task ≡ true → list_all (field.saved_value None).fits b.saved ≡ true → IsSavedList b.saved
+    → fits_body (body.Grant b) ≡ true
 unfolding granted saved_grant field.no_values
 grant_fits b seq grant task each list = by_saved (is_saved b) refl
   where
@@ -66,10 +74,12 @@ grant_fits b seq grant task each list = by_saved (is_saved b) refl
     by_saved false is = rw (seq, grant, task) (none_there b.saved is)
 
 -- a value that can be written behind another one stands behind it
-is_later : (last : List ℕ) (x : SavedValue) → (field.saved_value (Some last)).fits x ≡ true → place_cmp last x.place ≡ Less
+is_later : (last : List ℕ) (x : SavedValue) → (field.saved_value (Some last)).fits x ≡ true
+    → place_cmp last x.place ≡ Less
 unfolding field.saved_value
 is_later last x fits =
-    let h = and_parts (field.saved_place.fits x.place && is_lt (place_cmp last x.place)) (field.signed.fits x.value) fits in
+    let h = and_parts (field.saved_place.fits x.place && is_lt (place_cmp last x.place))
+    (field.signed.fits x.value) fits in
     less (place_cmp last x.place) (and_parts (field.saved_place.fits x.place) (is_lt (place_cmp last x.place)) h.0).1
   where
     less : (o : Ordering) → is_lt o ≡ true → o ≡ Less
@@ -77,30 +87,36 @@ is_later last x fits =
     less Equal is = cc
     less Greater is = cc
 
-all_later : (least last : List ℕ) (count : ℕ) (xs : List SavedValue) → ((q : List ℕ) → place_cmp last q ≡ Less → place_cmp least q ≡ Less) → (items place_of field.saved_value (Some last) count).fits xs ≡ true
+all_later : (least last : List ℕ) (count : ℕ) (xs : List SavedValue)
+    → ((q : List ℕ) → place_cmp last q ≡ Less → place_cmp least q ≡ Less)
+    → (items place_of field.saved_value (Some last) count).fits xs ≡ true
     → AllByRecursion (λ q. place_cmp least q ≡ Less) (map place_of xs)
 all_later least last zero [] low fits = tt
 all_later least last zero (x ∷ xs) low fits = cc
 all_later least last (suc count) [] low fits = tt
 all_later least last (suc count) (x ∷ xs) low fits =
-    let h = and_parts ((field.saved_value (Some last)).fits x) ((items place_of field.saved_value (Some x.place) count).fits xs) fits in
+    let h = and_parts ((field.saved_value (Some last)).fits x)
+    ((items place_of field.saved_value (Some x.place) count).fits xs) fits in
     let here : place_cmp least x.place ≡ Less = low x.place (is_later last x h.0) in
     (here, all_later least x.place count xs (λ q later. places_total.trans least x.place q here later) h.1)
 
-values_rise : (last : Option (List ℕ)) (count : ℕ) (xs : List SavedValue) → (items place_of field.saved_value last count).fits xs ≡ true → IsStrictlySortedBy place_cmp (map place_of xs)
+values_rise : (last : Option (List ℕ)) (count : ℕ) (xs : List SavedValue)
+    → (items place_of field.saved_value last count).fits xs ≡ true → IsStrictlySortedBy place_cmp (map place_of xs)
 unfolding IsStrictlySortedBy
 values_rise last zero [] fits = tt
 values_rise last zero (x ∷ xs) fits = cc
 values_rise last (suc count) [] fits = tt
 values_rise last (suc count) (x ∷ xs) fits =
-    let h = and_parts ((field.saved_value last).fits x) ((items place_of field.saved_value (Some x.place) count).fits xs) fits in
+    let h = and_parts ((field.saved_value last).fits x)
+    ((items place_of field.saved_value (Some x.place) count).fits xs) fits in
     (all_later x.place x.place count xs (λ q later. later) h.1, values_rise (Some x.place) count xs h.1)
 
 saved_list : (xs : List SavedValue) → field.saved_values.fits xs ≡ true → IsSavedList xs
 unfolding field.saved_values
 saved_list xs fits =
     let n : ℕ = length xs in
-    let h = and_parts (nat_lt n (256 ^ 1) && (nat_lt 0 n && nat_le n 64)) ((items place_of field.saved_value None n).fits xs) fits in
+    let h = and_parts (nat_lt n (256 ^ 1) && (nat_lt 0 n && nat_le n 64))
+    ((items place_of field.saved_value None n).fits xs) fits in
     let few = and_parts (nat_lt 0 n) (nat_le n 64) (and_parts (nat_lt n (256 ^ 1)) (nat_lt 0 n && nat_le n 64) h.0).1 in
     record { few = leb-true n 64 few.1; rising = values_rise None n xs h.1 }
 
@@ -115,10 +131,12 @@ saved_rises b fits = by_saved (is_saved b) fits
   where
     by_saved : (some : Bool) → (grant_format some).fits b ≡ true → IsSavedList b.saved
     by_saved true f =
-        let h = and_parts (field.counted.fits b.seq) (field.grant.fits b.grant && (field.task.fits b.task && field.saved_values.fits b.saved)) f in
+        let h = and_parts (field.counted.fits b.seq)
+        (field.grant.fits b.grant && (field.task.fits b.task && field.saved_values.fits b.saved)) f in
         let g = and_parts (field.grant.fits b.grant) (field.task.fits b.task && field.saved_values.fits b.saved) h.1 in
         saved_list b.saved (and_parts (field.task.fits b.task) (field.saved_values.fits b.saved) g.1).1
     by_saved false f =
-        let h = and_parts (field.counted.fits b.seq) (field.grant.fits b.grant && (field.task.fits b.task && is_empty b.saved)) f in
+        let h = and_parts (field.counted.fits b.seq)
+        (field.grant.fits b.grant && (field.task.fits b.task && is_empty b.saved)) f in
         let g = and_parts (field.grant.fits b.grant) (field.task.fits b.task && is_empty b.saved) h.1 in
         no_list b.saved (and_parts (field.task.fits b.task) (is_empty b.saved) g.1).1

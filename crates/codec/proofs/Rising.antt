@@ -21,26 +21,33 @@ is_before a b less = rw (lt-ltb a b less) refl
 is_above : (last : ℕ) (m : Member) → (field.member (Some last)).fits m ≡ true → last < m.incarnation
 unfolding field.member
 is_above last m fits =
-    let h = and_parts (field.worker.fits m.incarnation && nat_lt last m.incarnation) ((field.status m.incarnation).fits m.status) fits in
+    let h = and_parts (field.worker.fits m.incarnation && nat_lt last m.incarnation)
+    ((field.status m.incarnation).fits m.status) fits in
     ltb-true last m.incarnation (and_parts (field.worker.fits m.incarnation) (nat_lt last m.incarnation) h.0).1
 
-all_above : (least last count : ℕ) (ms : List Member) → least ≤ last → (items field.name_of_member field.member (Some last) count).fits ms ≡ true
+all_above : (least last count : ℕ) (ms : List Member) → least ≤ last
+    → (items field.name_of_member field.member (Some last) count).fits ms ≡ true
     → AllByRecursion (λ n. name_cmp (least, 0) n ≡ Less) (map name_of_member ms)
 all_above least last zero [] low fits = tt
 all_above least last zero (m ∷ ms) low fits = cc
 all_above least last (suc count) [] low fits = tt
 all_above least last (suc count) (m ∷ ms) low fits =
-    let h = and_parts ((field.member (Some last)).fits m) ((items field.name_of_member field.member (Some m.incarnation) count).fits ms) fits in
-    let above = is_above last m h.0 in
-    (is_before least m.incarnation (omega (arith, above, low)), all_above least m.incarnation count ms (omega (arith, above, low)) h.1)
+    let h = and_parts ((field.member (Some last)).fits m)
+    ((items field.name_of_member field.member (Some m.incarnation) count).fits ms) fits in
+    let above = is_above last m h.0 in (
+      is_before least m.incarnation (omega (arith, above, low)),
+      all_above least m.incarnation count ms (omega (arith, above, low)) h.1,
+    )
 
-members_rise : (last : Option ℕ) (count : ℕ) (ms : List Member) → (items field.name_of_member field.member last count).fits ms ≡ true → AreInOrder name_of_member ms
+members_rise : (last : Option ℕ) (count : ℕ) (ms : List Member)
+    → (items field.name_of_member field.member last count).fits ms ≡ true → AreInOrder name_of_member ms
 unfolding IsStrictlySortedBy
 members_rise last zero [] fits = tt
 members_rise last zero (m ∷ ms) fits = cc
 members_rise last (suc count) [] fits = tt
 members_rise last (suc count) (m ∷ ms) fits =
-    let h = and_parts ((field.member last).fits m) ((items field.name_of_member field.member (Some m.incarnation) count).fits ms) fits in
+    let h = and_parts ((field.member last).fits m)
+    ((items field.name_of_member field.member (Some m.incarnation) count).fits ms) fits in
     (all_above m.incarnation m.incarnation count ms (omega arith) h.1, members_rise (Some m.incarnation) count ms h.1)
 
 pub roster_rises : (r : Roster) → IsTrue (fits_body (body.Roster r)) → AreInOrder name_of_member r.members
@@ -49,4 +56,5 @@ roster_rises r fits =
     let h = and_parts (field.epoch.fits r.epoch) (field.counted.fits r.version && field.members.fits r.members) fits in
     let g = and_parts (field.counted.fits r.version) (field.members.fits r.members) h.1 in
     let few = nat_lt (length r.members) (256 ^ 2) && at_most 4096 (length r.members) in
-    members_rise None (length r.members) r.members (and_parts few ((items field.name_of_member field.member None (length r.members)).fits r.members) g.1).1
+    members_rise None (length r.members) r.members
+    (and_parts few ((items field.name_of_member field.member None (length r.members)).fits r.members) g.1).1

@@ -20,16 +20,19 @@ use Rattle.codec.specs.Rosters.{has_another, names_workers}
 abbrev HasAnother : Member → Type 0
 HasAnother m = IsTrue (has_another m.incarnation m.status)
 
-status_fits : (own : ℕ) (s : Status) → of_part true field.worker.fits (field.heir_in s) ≡ true → IsTrue (has_another own s) → (field.status own).fits s ≡ true
+status_fits : (own : ℕ) (s : Status) → of_part true field.worker.fits (field.heir_in s) ≡ true
+    → IsTrue (has_another own s) → (field.status own).fits s ≡ true
 unfolding field.status
 status_fits own Live range another = refl
 status_fits own Dead range another = refl
 status_fits own (Left heir) range another = rw range another
 
-member_fits : (last : Option ℕ) (m : Member) → field.is_above last m.incarnation ≡ true → names_workers m ≡ true → HasAnother m → (field.member last).fits m ≡ true
+member_fits : (last : Option ℕ) (m : Member) → field.is_above last m.incarnation ≡ true → names_workers m ≡ true
+    → HasAnother m → (field.member last).fits m ≡ true
 unfolding field.member
 member_fits last m above range another =
-    let h = and_parts (field.worker.fits m.incarnation) (of_part true field.worker.fits (field.heir_in m.status)) range in
+    let h = and_parts (field.worker.fits m.incarnation)
+    (of_part true field.worker.fits (field.heir_in m.status)) range in
     rw (h.0, above, status_fits m.incarnation m.status h.1 another) refl
 
 -- a name that stands before another has the smaller number
@@ -46,23 +49,30 @@ abbrev starts_above : Option ℕ → List Member → Bool
 starts_above last [] = true
 starts_above last (m ∷ ms) = field.is_above last m.incarnation
 
-goes_on : (m : Member) (ms : List Member) → AreInOrder name_of_member (m ∷ ms) → starts_above (Some m.incarnation) ms ≡ true
+goes_on : (m : Member) (ms : List Member) → AreInOrder name_of_member (m ∷ ms)
+    → starts_above (Some m.incarnation) ms ≡ true
 goes_on m [] rising = refl
-goes_on m (n ∷ ms) rising = is_less m.incarnation n.incarnation (sorted_head name_cmp (name_of_member m) (map name_of_member (n ∷ ms)) rising).0
+goes_on m (n ∷ ms) rising = is_less m.incarnation n.incarnation
+    (sorted_head name_cmp (name_of_member m) (map name_of_member (n ∷ ms)) rising).0
 
-each_fits : (last : Option ℕ) (ms : List Member) → starts_above last ms ≡ true → list_all names_workers ms ≡ true → AreInOrder name_of_member ms → AllByRecursion HasAnother ms
+each_fits : (last : Option ℕ) (ms : List Member) → starts_above last ms ≡ true → list_all names_workers ms ≡ true
+    → AreInOrder name_of_member ms → AllByRecursion HasAnother ms
     → (items field.name_of_member field.member last (length ms)).fits ms ≡ true
 each_fits last [] above range rising heirs = refl
 each_fits last (m ∷ ms) above range rising heirs =
     let h = and_parts (names_workers m) (list_all names_workers ms) range in
-    rw (member_fits last m above h.0 heirs.0) (each_fits (Some m.incarnation) ms (goes_on m ms rising) h.1 (sorted_tail name_cmp (name_of_member m) (map name_of_member ms) rising) heirs.1)
+    rw (member_fits last m above h.0 heirs.0)
+    (each_fits (Some m.incarnation) ms (goes_on m ms rising) h.1
+    (sorted_tail name_cmp (name_of_member m) (map name_of_member ms) rising) heirs.1)
 
 -- the members can be written, as far as their words are those of workers
-pub members_fit : (ms : List Member) → list_all names_workers ms ≡ true → length ms ≤ 4096 → AreInOrder name_of_member ms → AllByRecursion HasAnother ms → field.members.fits ms ≡ true
+pub members_fit : (ms : List Member) → list_all names_workers ms ≡ true → length ms ≤ 4096
+    → AreInOrder name_of_member ms → AllByRecursion HasAnother ms → field.members.fits ms ≡ true
 unfolding field.members
 members_fit ms range few rising heirs =
     let wide : length ms < 256 ^ 2 = omega arith in
-    rw (lt-ltb (length ms) (256 ^ 2) wide, le-leb (length ms) 4096 few) (each_fits None ms (starts ms) range rising heirs)
+    rw (lt-ltb (length ms) (256 ^ 2) wide, le-leb (length ms) 4096 few)
+    (each_fits None ms (starts ms) range rising heirs)
   where
     starts : (ms : List Member) → starts_above None ms ≡ true
     starts [] = refl

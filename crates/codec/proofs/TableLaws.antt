@@ -30,20 +30,24 @@ use Rattle.codec.specs.Table.{IsSpelled, IsTooBig, PacketOf, SpelledBody, Spelli
 
 pub join_lawful : Lawful join
 unfolding join
-join_lawful = made_lawful field.worker (λ x. record { from = x }) (λ b. b.from) worker_lawful (λ b. refl) (λ from to x s. refl)
+join_lawful = made_lawful field.worker (λ x. record { from = x }) (λ b. b.from) worker_lawful (λ b. refl)
+    (λ from to x s. refl)
 
 pub roster_lawful : Lawful roster
 unfolding roster
 roster_lawful =
-    made_lawful (followed field.epoch (λ _. followed field.counted (λ _. field.members))) (λ x. record { epoch = x.0; version = x.1.0; members = x.1.1 }) (λ b. (b.epoch, (b.version, b.members)))
-    (followed_lawful field.epoch (λ _. followed field.counted (λ _. field.members)) epoch_lawful (λ _. followed_lawful field.counted (λ _. field.members) counted_lawful (λ _. members_lawful)))
+    made_lawful (followed field.epoch (λ _. followed field.counted (λ _. field.members)))
+    (λ x. record { epoch = x.0; version = x.1.0; members = x.1.1 }) (λ b. (b.epoch, (b.version, b.members)))
+    (followed_lawful field.epoch (λ _. followed field.counted (λ _. field.members)) epoch_lawful
+    (λ _. followed_lawful field.counted (λ _. field.members) counted_lawful (λ _. members_lawful)))
     (λ b. refl)
     (λ from to x s. refl)
 
 pub steal_lawful : Lawful steal
 unfolding steal
 steal_lawful =
-    made_lawful (followed field.worker (λ _. field.counted)) (λ x. record { from = x.0; seq = x.1 }) (λ b. (b.from, b.seq))
+    made_lawful (followed field.worker (λ _. field.counted)) (λ x. record { from = x.0; seq = x.1 })
+    (λ b. (b.from, b.seq))
     (followed_lawful field.worker (λ _. field.counted) worker_lawful (λ _. counted_lawful))
     (λ b. refl)
     (λ from to x s. refl)
@@ -54,7 +58,8 @@ granted_lawful =
     made_lawful (followed field.counted (λ _. followed field.grant (λ _. followed field.task (λ _. field.no_values))))
     (λ x. record { seq = x.0; grant = x.1.0; task = x.1.1.0; saved = x.1.1.1 })
     (λ b. (b.seq, (b.grant, (b.task, b.saved))))
-    (followed_lawful field.counted (λ _. followed field.grant (λ _. followed field.task (λ _. field.no_values))) counted_lawful (λ _.
+    (followed_lawful field.counted (λ _.
+    followed field.grant (λ _. followed field.task (λ _. field.no_values))) counted_lawful (λ _.
     followed_lawful field.grant (λ _. followed field.task (λ _. field.no_values)) grant_lawful (λ _.
     followed_lawful field.task (λ _. field.no_values) task_lawful (λ _. no_values_lawful))))
     (λ b. refl)
@@ -63,10 +68,12 @@ granted_lawful =
 pub saved_grant_lawful : Lawful saved_grant
 unfolding saved_grant
 saved_grant_lawful =
-    made_lawful (followed field.counted (λ _. followed field.grant (λ _. followed field.task (λ _. field.saved_values))))
+    made_lawful (followed field.counted
+    (λ _. followed field.grant (λ _. followed field.task (λ _. field.saved_values))))
     (λ x. record { seq = x.0; grant = x.1.0; task = x.1.1.0; saved = x.1.1.1 })
     (λ b. (b.seq, (b.grant, (b.task, b.saved))))
-    (followed_lawful field.counted (λ _. followed field.grant (λ _. followed field.task (λ _. field.saved_values))) counted_lawful (λ _.
+    (followed_lawful field.counted (λ _.
+    followed field.grant (λ _. followed field.task (λ _. field.saved_values))) counted_lawful (λ _.
     followed_lawful field.grant (λ _. followed field.task (λ _. field.saved_values)) grant_lawful (λ _.
     followed_lawful field.task (λ _. field.saved_values) task_lawful (λ _. saved_values_lawful))))
     (λ b. refl)
@@ -93,40 +100,51 @@ some_spelled from to b s = some_fit b.saved (saved_values_lawful.fit s.2.2.0 to 
 kind_of_saved : (b : Grant) (some : Bool) → is_saved b ≡ some → kind_of (body.Grant b) ≡ cond some 15 4
 kind_of_saved b some is = ap (λ (v : Bool). cond v 15 4) is
 
-spells_grant : (some : Bool) (from to : List ℕ) (b : Grant) → is_saved b ≡ some → (grant_format some).Spelled from to b → SpelledBody from to (body.Grant b)
+spells_grant : (some : Bool) (from to : List ℕ) (b : Grant) → is_saved b ≡ some → (grant_format some).Spelled from to b
+    → SpelledBody from to (body.Grant b)
 spells_grant some from to b is s = subst (λ (v : Bool). (grant_format v).Spelled from to b) (sym is) s
 
 pub refuse_lawful : Lawful refuse
 unfolding refuse
-refuse_lawful = made_lawful field.counted (λ x. record { seq = x }) (λ b. b.seq) counted_lawful (λ b. refl) (λ from to x s. refl)
+refuse_lawful = made_lawful field.counted (λ x. record { seq = x }) (λ b. b.seq) counted_lawful (λ b. refl)
+    (λ from to x s. refl)
 
 pub task_result_lawful : Lawful task_result
 unfolding task_result
 task_result_lawful =
-    made_lawful (followed field.worker (λ _. followed field.grant (λ _. field.outcome))) (λ x. record { from = x.0; grant = x.1.0; outcome = x.1.1 }) (λ b. (b.from, (b.grant, b.outcome)))
-    (followed_lawful field.worker (λ _. followed field.grant (λ _. field.outcome)) worker_lawful (λ _. followed_lawful field.grant (λ _. field.outcome) grant_lawful (λ _. outcome_lawful)))
+    made_lawful (followed field.worker (λ _. followed field.grant (λ _. field.outcome)))
+    (λ x. record { from = x.0; grant = x.1.0; outcome = x.1.1 }) (λ b. (b.from, (b.grant, b.outcome)))
+    (followed_lawful field.worker (λ _. followed field.grant (λ _. field.outcome)) worker_lawful
+    (λ _. followed_lawful field.grant (λ _. field.outcome) grant_lawful (λ _. outcome_lawful)))
     (λ b. refl)
     (λ from to x s. refl)
 
 pub result_ack_lawful : Lawful result_ack
 unfolding result_ack
-result_ack_lawful = made_lawful field.grant (λ x. record { grant = x }) (λ b. b.grant) grant_lawful (λ b. refl) (λ from to x s. refl)
+result_ack_lawful = made_lawful field.grant (λ x. record { grant = x }) (λ b. b.grant) grant_lawful (λ b. refl)
+    (λ from to x s. refl)
 
 -- what stands in an offer behind how far it is
 offer_rest : Progress → Format (Task × (ℕ × (List Frame × List Record)))
-offer_rest progress = followed field.task (λ _. followed field.raised (λ next. followed (field.frames progress next) (λ _. field.records progress next)))
+offer_rest progress = followed field.task
+    (λ _. followed field.raised (λ next. followed (field.frames progress next) (λ _. field.records progress next)))
 
 offer_rest_lawful : (progress : Progress) → Lawful (offer_rest progress)
 unfolding offer_rest
 offer_rest_lawful progress =
-    followed_lawful field.task (λ _. followed field.raised (λ next. followed (field.frames progress next) (λ _. field.records progress next))) task_lawful (λ _.
-    followed_lawful field.raised (λ next. followed (field.frames progress next) (λ _. field.records progress next)) raised_lawful (λ next.
-    followed_lawful (field.frames progress next) (λ _. field.records progress next) (frames_lawful progress next) (λ _. records_lawful progress next)))
+    followed_lawful field.task (λ _. followed field.raised
+    (λ next. followed (field.frames progress next) (λ _. field.records progress next))) task_lawful (λ _.
+    followed_lawful field.raised (λ next.
+    followed (field.frames progress next) (λ _. field.records progress next)) raised_lawful (λ next.
+    followed_lawful (field.frames progress next) (λ _. field.records progress next) (frames_lawful progress next)
+    (λ _. records_lawful progress next)))
 
 pub offer_lawful : Lawful offer
 unfolding offer offer_rest
 offer_lawful =
-    made_lawful (followed field.worker (λ _. followed field.grant (λ _. followed field.raised (λ _. followed field.actor (λ _. followed field.progress offer_rest)))))
+    made_lawful (followed field.worker (λ _.
+    followed field.grant (λ _. followed field.raised
+    (λ _. followed field.actor (λ _. followed field.progress offer_rest)))))
     (λ x. record {
       from = x.0;
       grant = x.1.0;
@@ -139,9 +157,13 @@ offer_lawful =
       records = x.1.1.1.1.1.1.1.1;
     })
     (λ b. (b.from, (b.grant, (b.hop, (b.parent, (b.progress, (b.task, (b.next, (b.frames, b.records)))))))))
-    (followed_lawful field.worker (λ _. followed field.grant (λ _. followed field.raised (λ _. followed field.actor (λ _. followed field.progress offer_rest)))) worker_lawful (λ _.
-    followed_lawful field.grant (λ _. followed field.raised (λ _. followed field.actor (λ _. followed field.progress offer_rest))) grant_lawful (λ _.
-    followed_lawful field.raised (λ _. followed field.actor (λ _. followed field.progress offer_rest)) raised_lawful (λ _.
+    (followed_lawful field.worker (λ _.
+    followed field.grant (λ _. followed field.raised
+    (λ _. followed field.actor (λ _. followed field.progress offer_rest)))) worker_lawful (λ _.
+    followed_lawful field.grant (λ _. followed field.raised
+    (λ _. followed field.actor (λ _. followed field.progress offer_rest))) grant_lawful (λ _.
+    followed_lawful field.raised (λ _. followed field.actor (λ _. followed field.progress offer_rest)) raised_lawful
+    (λ _.
     followed_lawful field.actor (λ _. followed field.progress offer_rest) actor_lawful (λ _.
     followed_lawful field.progress offer_rest progress_lawful offer_rest_lawful)))))
     (λ b. refl)
@@ -150,22 +172,26 @@ offer_lawful =
 pub offer_ack_lawful : Lawful offer_ack
 unfolding offer_ack
 offer_ack_lawful =
-    made_lawful (followed field.worker (λ _. followed field.grant (λ _. field.hop))) (λ x. record { from = x.0; grant = x.1.0; hop = x.1.1 }) (λ b. (b.from, (b.grant, b.hop)))
-    (followed_lawful field.worker (λ _. followed field.grant (λ _. field.hop)) worker_lawful (λ _. followed_lawful field.grant (λ _. field.hop) grant_lawful (λ _. hop_lawful)))
+    made_lawful (followed field.worker (λ _. followed field.grant (λ _. field.hop)))
+    (λ x. record { from = x.0; grant = x.1.0; hop = x.1.1 }) (λ b. (b.from, (b.grant, b.hop)))
+    (followed_lawful field.worker (λ _. followed field.grant (λ _. field.hop)) worker_lawful
+    (λ _. followed_lawful field.grant (λ _. field.hop) grant_lawful (λ _. hop_lawful)))
     (λ b. refl)
     (λ from to x s. refl)
 
 pub leave_lawful : Lawful leave
 unfolding leave
 leave_lawful =
-    made_lawful (followed field.worker (λ own. field.other_worker own)) (λ x. record { from = x.0; heir = x.1 }) (λ b. (b.from, b.heir))
+    made_lawful (followed field.worker (λ own. field.other_worker own)) (λ x. record { from = x.0; heir = x.1 })
+    (λ b. (b.from, b.heir))
     (followed_lawful field.worker (λ own. field.other_worker own) worker_lawful other_worker_lawful)
     (λ b. refl)
     (λ from to x s. refl)
 
 pub abort_lawful : Lawful abort
 unfolding abort
-abort_lawful = made_lawful field.grant (λ x. record { grant = x }) (λ b. b.grant) grant_lawful (λ b. refl) (λ from to x s. refl)
+abort_lawful = made_lawful field.grant (λ x. record { grant = x }) (λ b. b.grant) grant_lawful (λ b. refl)
+    (λ from to x s. refl)
 
 pub save_lawful : Lawful save
 unfolding save
@@ -173,14 +199,16 @@ save_lawful =
     made_lawful (followed field.worker (λ _. followed field.place (λ _. field.signed)))
     (λ x. record { from = x.0; place = x.1.0; value = x.1.1 })
     (λ b. (b.from, (b.place, b.value)))
-    (followed_lawful field.worker (λ _. followed field.place (λ _. field.signed)) worker_lawful (λ _. followed_lawful field.place (λ _. field.signed) place_lawful (λ _. signed_lawful)))
+    (followed_lawful field.worker (λ _. followed field.place (λ _. field.signed)) worker_lawful
+    (λ _. followed_lawful field.place (λ _. field.signed) place_lawful (λ _. signed_lawful)))
     (λ b. refl)
     (λ from to x s. refl)
 
 pub beat_lawful : Lawful beat
 unfolding beat
 beat_lawful =
-    made_lawful (followed field.worker (λ _. field.counted)) (λ x. record { from = x.0; version = x.1 }) (λ b. (b.from, b.version))
+    made_lawful (followed field.worker (λ _. field.counted)) (λ x. record { from = x.0; version = x.1 })
+    (λ b. (b.from, b.version))
     (followed_lawful field.worker (λ _. field.counted) worker_lawful (λ _. counted_lawful))
     (λ b. refl)
     (λ from to x s. refl)
@@ -188,50 +216,94 @@ beat_lawful =
 pub piece_lawful : Lawful piece
 unfolding piece
 piece_lawful =
-    made_lawful (followed field.worker (λ _. followed field.grant (λ _. followed field.raised (λ _. followed field.pieces (λ pieces. followed (field.piece_of pieces) (λ number. field.part pieces number))))))
-    (λ x. record { from = x.0; grant = x.1.0; hop = x.1.1.0; pieces = x.1.1.1.0; number = x.1.1.1.1.0; bytes = x.1.1.1.1.1 })
+    made_lawful (followed field.worker (λ _.
+    followed field.grant (λ _. followed field.raised
+    (λ _. followed field.pieces (λ pieces.
+    followed (field.piece_of pieces) (λ number. field.part pieces number))))))
+    (λ x. record {
+      from = x.0;
+      grant = x.1.0;
+      hop = x.1.1.0;
+      pieces = x.1.1.1.0;
+      number = x.1.1.1.1.0;
+      bytes = x.1.1.1.1.1;
+    })
     (λ b. (b.from, (b.grant, (b.hop, (b.pieces, (b.number, b.bytes))))))
-    (followed_lawful field.worker (λ _. followed field.grant (λ _. followed field.raised (λ _. followed field.pieces (λ pieces. followed (field.piece_of pieces) (λ number. field.part pieces number))))) worker_lawful (λ _.
-    followed_lawful field.grant (λ _. followed field.raised (λ _. followed field.pieces (λ pieces. followed (field.piece_of pieces) (λ number. field.part pieces number)))) grant_lawful (λ _.
-    followed_lawful field.raised (λ _. followed field.pieces (λ pieces. followed (field.piece_of pieces) (λ number. field.part pieces number))) raised_lawful (λ _.
-    followed_lawful field.pieces (λ pieces. followed (field.piece_of pieces) (λ number. field.part pieces number)) pieces_lawful (λ pieces.
-    followed_lawful (field.piece_of pieces) (λ number. field.part pieces number) (piece_of_lawful pieces) (part_lawful pieces))))))
+    (followed_lawful field.worker (λ _.
+    followed field.grant (λ _. followed field.raised
+    (λ _. followed field.pieces (λ pieces. followed (field.piece_of pieces) (λ number. field.part pieces number)))))
+    worker_lawful (λ _.
+    followed_lawful field.grant (λ _. followed field.raised
+    (λ _. followed field.pieces (λ pieces. followed (field.piece_of pieces) (λ number. field.part pieces number))))
+    grant_lawful (λ _.
+    followed_lawful field.raised (λ _. followed field.pieces
+    (λ pieces. followed (field.piece_of pieces) (λ number. field.part pieces number))) raised_lawful (λ _.
+    followed_lawful field.pieces (λ pieces.
+    followed (field.piece_of pieces) (λ number. field.part pieces number)) pieces_lawful (λ pieces.
+    followed_lawful (field.piece_of pieces) (λ number. field.part pieces number) (piece_of_lawful pieces)
+    (part_lawful pieces))))))
     (λ b. refl)
     (λ from to x s. refl)
 
 -- ---- the fields of a kind
 
-reads_found : {X : Type 0} (F : Format X) (make : X → Body) (kind : ℕ) → Lawful F → ((from to : List ℕ) (x : X) → F.Spelled from to x → kind_of (make x) ≡ kind) → ((from to : List ℕ) (x : X) → F.Spelled from to x → SpelledBody from to (make x))
-    → (from to : List ℕ) (b : Body) → IsBytes from → reads F make from ≡ Ok (b, to) → ((kind_of b ≡ kind) × SpelledBody from to b) × IsBytes to
+reads_found : {X : Type 0} (F : Format X) (make : X → Body) (kind : ℕ) → Lawful F
+    → ((from to : List ℕ) (x : X) → F.Spelled from to x → kind_of (make x) ≡ kind)
+    → ((from to : List ℕ) (x : X) → F.Spelled from to x → SpelledBody from to (make x))
+    → (from to : List ℕ) (b : Body) → IsBytes from → reads F make from ≡ Ok (b, to)
+    → ((kind_of b ≡ kind) × SpelledBody from to b) × IsBytes to
 reads_found F make kind law kinds spells from to b bytes e =
     let r = bind_ok (F.read from) (λ x. Ok (make x.0, x.1)) (b, to) e in
     let s = law.found from r.0.1 r.0.0 bytes r.1 in
     let read : Body × List ℕ = (make r.0.0, r.0.1) in
-    subst (λ (q : Body × List ℕ). ((kind_of q.0 ≡ kind) × SpelledBody from q.1 q.0) × IsBytes q.1) (ok_is read (b, to) r.2) ((kinds from r.0.1 r.0.0 s.0, spells from r.0.1 r.0.0 s.0), s.1)
+    subst (λ (q : Body × List ℕ). ((kind_of q.0 ≡ kind) × SpelledBody from q.1 q.0) × IsBytes q.1)
+    (ok_is read (b, to) r.2) ((kinds from r.0.1 r.0.0 s.0, spells from r.0.1 r.0.0 s.0), s.1)
 
-reads_only : {X : Type 0} (F : Format X) (make : X → Body) → Lawful F → (from to : List ℕ) (x : X) → F.Spelled from to x → reads F make from ≡ Ok (make x, to)
+reads_only : {X : Type 0} (F : Format X) (make : X → Body) → Lawful F → (from to : List ℕ) (x : X) → F.Spelled from to x
+    → reads F make from ≡ Ok (make x, to)
 reads_only F make law from to x s = rw (law.only from to x s) refl
 
-body_found : (kind : ℕ) (from to : List ℕ) (b : Body) → IsBytes from → read_body kind from ≡ Ok (b, to) → ((kind_of b ≡ kind) × SpelledBody from to b) × IsBytes to
+body_found : (kind : ℕ) (from to : List ℕ) (b : Body) → IsBytes from → read_body kind from ≡ Ok (b, to)
+    → ((kind_of b ≡ kind) × SpelledBody from to b) × IsBytes to
 body_found zero from to b bytes e = absurd cc
-body_found (suc zero) from to b bytes e = reads_found join body.Join 1 join_lawful (λ f t x s. refl) (λ f t x s. s) from to b bytes e
-body_found (suc (suc zero)) from to b bytes e = reads_found roster body.Roster 2 roster_lawful (λ f t x s. refl) (λ f t x s. s) from to b bytes e
-body_found (suc (suc (suc zero))) from to b bytes e = reads_found steal body.Steal 3 steal_lawful (λ f t x s. refl) (λ f t x s. s) from to b bytes e
-body_found (suc (suc (suc (suc zero)))) from to b bytes e = reads_found granted body.Grant 4 granted_lawful (λ f t b s. kind_of_saved b false (none_spelled f t b s)) (λ f t b s. spells_grant false f t b (none_spelled f t b s) s) from to b bytes e
-body_found (suc (suc (suc (suc (suc zero))))) from to b bytes e = reads_found refuse body.Refuse 5 refuse_lawful (λ f t x s. refl) (λ f t x s. s) from to b bytes e
-body_found (suc (suc (suc (suc (suc (suc zero)))))) from to b bytes e = reads_found task_result body.Result 6 task_result_lawful (λ f t x s. refl) (λ f t x s. s) from to b bytes e
-body_found (suc (suc (suc (suc (suc (suc (suc zero))))))) from to b bytes e = reads_found result_ack body.ResultAck 7 result_ack_lawful (λ f t x s. refl) (λ f t x s. s) from to b bytes e
-body_found (suc (suc (suc (suc (suc (suc (suc (suc zero)))))))) from to b bytes e = reads_found offer body.Offer 8 offer_lawful (λ f t x s. refl) (λ f t x s. s) from to b bytes e
-body_found (suc (suc (suc (suc (suc (suc (suc (suc (suc zero))))))))) from to b bytes e = reads_found offer_ack body.OfferAck 9 offer_ack_lawful (λ f t x s. refl) (λ f t x s. s) from to b bytes e
-body_found (suc (suc (suc (suc (suc (suc (suc (suc (suc (suc zero)))))))))) from to b bytes e = reads_found leave body.Leave 10 leave_lawful (λ f t x s. refl) (λ f t x s. s) from to b bytes e
-body_found (suc (suc (suc (suc (suc (suc (suc (suc (suc (suc (suc zero))))))))))) from to b bytes e = reads_found abort body.Abort 11 abort_lawful (λ f t x s. refl) (λ f t x s. s) from to b bytes e
-body_found (suc (suc (suc (suc (suc (suc (suc (suc (suc (suc (suc (suc zero)))))))))))) from to b bytes e = reads_found beat body.Beat 12 beat_lawful (λ f t x s. refl) (λ f t x s. s) from to b bytes e
-body_found (suc (suc (suc (suc (suc (suc (suc (suc (suc (suc (suc (suc (suc zero))))))))))))) from to b bytes e = reads_found piece body.Piece 13 piece_lawful (λ f t x s. refl) (λ f t x s. s) from to b bytes e
-body_found (suc (suc (suc (suc (suc (suc (suc (suc (suc (suc (suc (suc (suc (suc zero)))))))))))))) from to b bytes e = reads_found save body.Save 14 save_lawful (λ f t x s. refl) (λ f t x s. s) from to b bytes e
-body_found (suc (suc (suc (suc (suc (suc (suc (suc (suc (suc (suc (suc (suc (suc (suc zero))))))))))))))) from to b bytes e = reads_found saved_grant body.Grant 15 saved_grant_lawful (λ f t b s. kind_of_saved b true (some_spelled f t b s)) (λ f t b s. spells_grant true f t b (some_spelled f t b s) s) from to b bytes e
-body_found (suc (suc (suc (suc (suc (suc (suc (suc (suc (suc (suc (suc (suc (suc (suc (suc n)))))))))))))))) from to b bytes e = absurd cc
+body_found (suc zero) from to b bytes e =
+    reads_found join body.Join 1 join_lawful (λ f t x s. refl) (λ f t x s. s) from to b bytes e
+body_found (suc (suc zero)) from to b bytes e =
+    reads_found roster body.Roster 2 roster_lawful (λ f t x s. refl) (λ f t x s. s) from to b bytes e
+body_found (suc (suc (suc zero))) from to b bytes e =
+    reads_found steal body.Steal 3 steal_lawful (λ f t x s. refl) (λ f t x s. s) from to b bytes e
+body_found (suc (suc (suc (suc zero)))) from to b bytes e =
+    reads_found granted body.Grant 4 granted_lawful (λ f t b s. kind_of_saved b false (none_spelled f t b s))
+    (λ f t b s. spells_grant false f t b (none_spelled f t b s) s) from to b bytes e
+body_found (suc (suc (suc (suc (suc zero))))) from to b bytes e =
+    reads_found refuse body.Refuse 5 refuse_lawful (λ f t x s. refl) (λ f t x s. s) from to b bytes e
+body_found (suc (suc (suc (suc (suc (suc zero)))))) from to b bytes e =
+    reads_found task_result body.Result 6 task_result_lawful (λ f t x s. refl) (λ f t x s. s) from to b bytes e
+body_found (suc (suc (suc (suc (suc (suc (suc zero))))))) from to b bytes e =
+    reads_found result_ack body.ResultAck 7 result_ack_lawful (λ f t x s. refl) (λ f t x s. s) from to b bytes e
+body_found (suc (suc (suc (suc (suc (suc (suc (suc zero)))))))) from to b bytes e =
+    reads_found offer body.Offer 8 offer_lawful (λ f t x s. refl) (λ f t x s. s) from to b bytes e
+body_found (suc (suc (suc (suc (suc (suc (suc (suc (suc zero))))))))) from to b bytes e =
+    reads_found offer_ack body.OfferAck 9 offer_ack_lawful (λ f t x s. refl) (λ f t x s. s) from to b bytes e
+body_found (suc (suc (suc (suc (suc (suc (suc (suc (suc (suc zero)))))))))) from to b bytes e =
+    reads_found leave body.Leave 10 leave_lawful (λ f t x s. refl) (λ f t x s. s) from to b bytes e
+body_found (suc (suc (suc (suc (suc (suc (suc (suc (suc (suc (suc zero))))))))))) from to b bytes e =
+    reads_found abort body.Abort 11 abort_lawful (λ f t x s. refl) (λ f t x s. s) from to b bytes e
+body_found (suc (suc (suc (suc (suc (suc (suc (suc (suc (suc (suc (suc zero)))))))))))) from to b bytes e =
+    reads_found beat body.Beat 12 beat_lawful (λ f t x s. refl) (λ f t x s. s) from to b bytes e
+body_found (suc (suc (suc (suc (suc (suc (suc (suc (suc (suc (suc (suc (suc zero))))))))))))) from to b bytes e =
+    reads_found piece body.Piece 13 piece_lawful (λ f t x s. refl) (λ f t x s. s) from to b bytes e
+body_found (suc (suc (suc (suc (suc (suc (suc (suc (suc (suc (suc (suc (suc (suc zero)))))))))))))) from to b bytes e =
+    reads_found save body.Save 14 save_lawful (λ f t x s. refl) (λ f t x s. s) from to b bytes e
+body_found (suc (suc (suc (suc (suc (suc (suc (suc (suc (suc (suc (suc (suc (suc (suc zero))))))))))))))) from to b
+    bytes e = reads_found saved_grant body.Grant 15 saved_grant_lawful
+    (λ f t b s. kind_of_saved b true (some_spelled f t b s))
+    (λ f t b s. spells_grant true f t b (some_spelled f t b s) s) from to b bytes e
+body_found (suc (suc (suc (suc (suc (suc (suc (suc (suc (suc (suc (suc (suc (suc (suc (suc n)))))))))))))))) from to b
+    bytes e = absurd cc
 
-grant_only : (some : Bool) (from to : List ℕ) (b : Grant) → (grant_format some).Spelled from to b → read_body (cond some 15 4) from ≡ Ok (body.Grant b, to)
+grant_only : (some : Bool) (from to : List ℕ) (b : Grant) → (grant_format some).Spelled from to b
+    → read_body (cond some 15 4) from ≡ Ok (body.Grant b, to)
 grant_only true from to b s = reads_only saved_grant body.Grant saved_grant_lawful from to b s
 grant_only false from to b s = reads_only granted body.Grant granted_lawful from to b s
 
@@ -305,8 +377,10 @@ fields_lawful kind = record {
   found = λ from to b bytes e. body_found kind from to b bytes e;
   only = λ from to b s. subst (λ (k : ℕ). read_body k from ≡ Ok (b, to)) s.0 (body_only from to b s.1);
   one = λ from to b s. body_one from to b s.1;
-  writes = λ b to f. let h = and_parts (eqb (kind_of b) kind) (fits_body b) f in (eqb-true (kind_of b) kind h.0, body_writes b to h.1);
-  fit = λ from to b s. and_from (eqb (kind_of b) kind) (fits_body b) (eq-eqb (kind_of b) kind s.0) (body_fit from to b s.1);
+  writes = λ b to f. let h = and_parts (eqb (kind_of b) kind)
+      (fits_body b) f in (eqb-true (kind_of b) kind h.0, body_writes b to h.1);
+  fit = λ from to b s. and_from (eqb (kind_of b) kind) (fits_body b) (eq-eqb (kind_of b) kind s.0)
+      (body_fit from to b s.1);
 }
 
 -- ---- the packet
@@ -318,11 +392,14 @@ after_kind kind = followed (number 8) (λ _. followed (field.address (suits kind
 after_kind_lawful : (kind : ℕ) → Lawful (after_kind kind)
 unfolding after_kind
 after_kind_lawful kind =
-    followed_lawful (number 8) (λ _. followed (field.address (suits kind)) (λ _. fields kind)) (number_lawful 8 wide8) (λ _.
-    followed_lawful (field.address (suits kind)) (λ _. fields kind) (address_lawful (suits kind)) (λ _. fields_lawful kind))
+    followed_lawful (number 8) (λ _. followed (field.address (suits kind)) (λ _. fields kind)) (number_lawful 8 wide8)
+    (λ _.
+    followed_lawful (field.address (suits kind)) (λ _. fields kind) (address_lawful (suits kind))
+    (λ _. fields_lawful kind))
 
 -- what is spelled behind a kind is of that kind
-kind_spelled : (kind : ℕ) (from to : List ℕ) (x : ℕ × (ℕ × Body)) → (after_kind kind).Spelled from to x → kind_of x.1.1 ≡ kind
+kind_spelled : (kind : ℕ) (from to : List ℕ) (x : ℕ × (ℕ × Body)) → (after_kind kind).Spelled from to x
+    → kind_of x.1.1 ≡ kind
 unfolding after_kind fields
 kind_spelled kind from to x s = s.2.2.0
 
@@ -332,17 +409,29 @@ in_version version = followed (tested fault.Kind (number 1) (has_kind version)) 
 
 in_version_lawful : (version : ℕ) → Lawful (in_version version)
 unfolding in_version
-in_version_lawful version = followed_lawful (tested fault.Kind (number 1) (has_kind version)) after_kind (tested_lawful fault.Kind (number 1) (has_kind version) (number_lawful 1 wide1)) after_kind_lawful
+in_version_lawful version = followed_lawful (tested fault.Kind (number 1) (has_kind version)) after_kind
+    (tested_lawful fault.Kind (number 1) (has_kind version) (number_lawful 1 wide1)) after_kind_lawful
 
 -- what is spelled behind a version is of a kind that it has
-version_spelled : (version : ℕ) (from to : List ℕ) (x : ℕ × (ℕ × (ℕ × Body))) → (in_version version).Spelled from to x → (version_of x.0 ≡ version) × (kind_of x.1.1.1 ≡ x.0)
+version_spelled : (version : ℕ) (from to : List ℕ) (x : ℕ × (ℕ × (ℕ × Body))) → (in_version version).Spelled from to x
+    → (version_of x.0 ≡ version) × (kind_of x.1.1.1 ≡ x.0)
 unfolding in_version
-version_spelled version from to x s = (eqb-true (version_of x.0) version (and_parts (is_kind x.0) (eqb (version_of x.0) version) s.1.1).1, kind_spelled x.0 s.0 to x.1 s.2)
+version_spelled version from to x s = (
+  eqb-true (version_of x.0) version (and_parts (is_kind x.0) (eqb (version_of x.0) version) s.1.1).1,
+  kind_spelled x.0 s.0 to x.1 s.2,
+)
 
 abbrev Fields : Type 0
 Fields = Unit {0} × (ℕ × (ℕ × (ℕ × (ℕ × Body))))
 
-same_fields : (x : Fields) → version_of x.1.1.0 ≡ x.1.0 → kind_of x.1.1.1.1.1 ≡ x.1.1.0 → ◌≡◌ {A = Fields} (tt, (version_of (kind_of x.1.1.1.1.1), (kind_of x.1.1.1.1.1, (x.1.1.1.0, (x.1.1.1.1.0, x.1.1.1.1.1))))) x
+same_fields : (x : Fields) → version_of x.1.1.0 ≡ x.1.0 → kind_of x.1.1.1.1.1 ≡ x.1.1.0
+    → ◌≡◌ {A = Fields} (
+      tt,
+      (
+        version_of (kind_of x.1.1.1.1.1),
+        (kind_of x.1.1.1.1.1, (x.1.1.1.0, (x.1.1.1.1.0, x.1.1.1.1.1))),
+      ),
+    ) x
 same_fields x v k = rw (k, v) refl
 
 pub packet_lawful : Lawful packet
@@ -352,8 +441,10 @@ packet_lawful =
     made_lawful (followed (constant fault.Magic 2 0x434E) (λ _. followed version in_version))
     (λ x. record { job = x.1.1.1.0; to = x.1.1.1.1.0; body = x.1.1.1.1.1 })
     (λ p. (tt, (version_of (kind_of p.body), (kind_of p.body, (p.job, (p.to, p.body))))))
-    (followed_lawful (constant fault.Magic 2 0x434E) (λ _. followed version in_version) (constant_lawful fault.Magic 2 0x434E wide2) (λ _.
-    followed_lawful version in_version (tested_lawful fault.Version (number 1) is_version (number_lawful 1 wide1)) in_version_lawful))
+    (followed_lawful (constant fault.Magic 2 0x434E) (λ _. followed version in_version)
+    (constant_lawful fault.Magic 2 0x434E wide2) (λ _.
+    followed_lawful version in_version (tested_lawful fault.Version (number 1) is_version (number_lawful 1 wide1))
+    in_version_lawful))
     (λ p. refl)
     (λ from to x s. let k = version_spelled x.1.0 s.2.0 to x.1.1 s.2.2 in same_fields x k.0 k.1)
 
@@ -365,7 +456,8 @@ version_in (body.Roster b) = refl
 version_in (body.Steal b) = refl
 version_in (body.Grant b) = by_saved (is_saved b)
   where
-    by_saved : (some : Bool) → (ltb (version_of (cond some 15 4)) (256 ^ 1) && is_version (version_of (cond some 15 4))) ≡ true
+    by_saved : (some : Bool) → (ltb (version_of (cond some 15 4)) (256 ^ 1) && is_version (version_of (cond some 15 4)))
+        ≡ true
     by_saved true = refl
     by_saved false = refl
 version_in (body.Refuse b) = refl
@@ -385,7 +477,8 @@ kind_in (body.Roster b) = refl
 kind_in (body.Steal b) = refl
 kind_in (body.Grant b) = by_saved (is_saved b)
   where
-    by_saved : (some : Bool) → (ltb (cond some 15 4) (256 ^ 1) && has_kind (version_of (cond some 15 4)) (cond some 15 4)) ≡ true
+    by_saved : (some : Bool) → (ltb (cond some 15 4) (256 ^ 1)
+        && has_kind (version_of (cond some 15 4)) (cond some 15 4)) ≡ true
     by_saved true = refl
     by_saved false = refl
 kind_in (body.Refuse b) = refl
@@ -430,9 +523,11 @@ either_way false x y z f g e = g e
 suits_address : (kind to : ℕ) → suits kind to ≡ true → is_address to ≡ true
 suits_address kind to e =
     let others : Bool = cond (eqb kind 10 || (eqb kind 12 || eqb kind 14)) (is_house to) (is_worker to) in
-    either_way (eqb kind 1) (eqb to (2 ^ 63)) (cond (eqb kind 3 || eqb kind 6) (is_actor to) others) (is_address to) (any_address to)
+    either_way (eqb kind 1) (eqb to (2 ^ 63)) (cond (eqb kind 3 || eqb kind 6) (is_actor to) others) (is_address to)
+    (any_address to)
     (λ d. either_way (eqb kind 3 || eqb kind 6) (is_actor to) others (is_address to) (actor_address to)
-    (λ c. either_way (eqb kind 10 || (eqb kind 12 || eqb kind 14)) (is_house to) (is_worker to) (is_address to) (house_address to) (worker_address to) c) d) e
+    (λ c. either_way (eqb kind 10 || (eqb kind 12 || eqb kind 14)) (is_house to) (is_worker to) (is_address to)
+    (house_address to) (worker_address to) c) d) e
 
 -- a packet can be written
 pub packet_fits : (p : PacketOf) → is_packet p ≡ true → packet.fits p ≡ true
@@ -444,14 +539,21 @@ packet_fits p whole =
     let parts = and_parts (suits kind p.to) (fits_body p.body) head.1 in
     let address : is_address p.to ≡ true = suits_address kind p.to parts.0 in
     let word = and_parts (ltb 0 p.to) (ltb p.to (2 ^ 64)) address in
-    let to : (ltb p.to (256 ^ 8) && (is_address p.to && suits kind p.to)) ≡ true = and_from (ltb p.to (256 ^ 8)) (is_address p.to && suits kind p.to) word.1 (and_from (is_address p.to) (suits kind p.to) address parts.0) in
-    let said : (eqb kind kind && fits_body p.body) ≡ true = and_from (eqb kind kind) (fits_body p.body) (eq-eqb kind kind refl) parts.1 in
+    let to : (ltb p.to (256 ^ 8) && (is_address p.to && suits kind p.to)) ≡ true =
+    and_from (ltb p.to (256 ^ 8)) (is_address p.to && suits kind p.to) word.1
+    (and_from (is_address p.to) (suits kind p.to) address parts.0) in
+    let said : (eqb kind kind && fits_body p.body) ≡ true =
+    and_from (eqb kind kind) (fits_body p.body) (eq-eqb kind kind refl) parts.1 in
     let version : ℕ = version_of kind in
-    let rest : Bool = ltb p.job (256 ^ 8) && ((ltb p.to (256 ^ 8) && (is_address p.to && suits kind p.to)) && (eqb kind kind && fits_body p.body)) in
-    and_from (ltb version (256 ^ 1) && is_version version) ((ltb kind (256 ^ 1) && has_kind version kind) && rest) (version_in p.body)
+    let rest : Bool = ltb p.job (256 ^ 8)
+    && ((ltb p.to (256 ^ 8) && (is_address p.to && suits kind p.to)) && (eqb kind kind && fits_body p.body)) in
+    and_from (ltb version (256 ^ 1) && is_version version) ((ltb kind (256 ^ 1) && has_kind version kind) && rest)
+    (version_in p.body)
     (and_from (ltb kind (256 ^ 1) && has_kind version kind) rest (kind_in p.body)
-    (and_from (ltb p.job (256 ^ 8)) ((ltb p.to (256 ^ 8) && (is_address p.to && suits kind p.to)) && (eqb kind kind && fits_body p.body)) (lt-ltb p.job (256 ^ 8) (omega arith))
-    (and_from (ltb p.to (256 ^ 8) && (is_address p.to && suits kind p.to)) (eqb kind kind && fits_body p.body) to said)))
+    (and_from (ltb p.job (256 ^ 8)) ((ltb p.to (256 ^ 8) && (is_address p.to && suits kind p.to))
+    && (eqb kind kind && fits_body p.body)) (lt-ltb p.job (256 ^ 8) (omega arith))
+    (and_from (ltb p.to (256 ^ 8) && (is_address p.to && suits kind p.to))
+    (eqb kind kind && fits_body p.body) to said)))
 
 -- what can be written is a packet
 packet_fits_parts : (p : PacketOf) → packet.fits p ≡ true → is_packet p ≡ true
@@ -459,18 +561,27 @@ unfolding packet fields
 packet_fits_parts p f =
     let kind : ℕ = kind_of p.body in
     let version : ℕ = version_of kind in
-    let first = and_parts (ltb version (256 ^ 1) && is_version version) ((ltb kind (256 ^ 1) && has_kind version kind) && (ltb p.job (256 ^ 8) && ((ltb p.to (256 ^ 8) && (is_address p.to && suits kind p.to)) && (eqb kind kind && fits_body p.body)))) f in
-    let a = and_parts (ltb kind (256 ^ 1) && has_kind version kind) (ltb p.job (256 ^ 8) && ((ltb p.to (256 ^ 8) && (is_address p.to && suits kind p.to)) && (eqb kind kind && fits_body p.body))) first.1 in
-    let b = and_parts (ltb p.job (256 ^ 8)) ((ltb p.to (256 ^ 8) && (is_address p.to && suits kind p.to)) && (eqb kind kind && fits_body p.body)) a.1 in
-    let c = and_parts (ltb p.to (256 ^ 8) && (is_address p.to && suits kind p.to)) (eqb kind kind && fits_body p.body) b.1 in
+    let first = and_parts (ltb version (256 ^ 1) && is_version version)
+    ((ltb kind (256 ^ 1) && has_kind version kind)
+    && (ltb p.job (256 ^ 8) && ((ltb p.to (256 ^ 8) && (is_address p.to && suits kind p.to))
+    && (eqb kind kind && fits_body p.body)))) f in
+    let a = and_parts (ltb kind (256 ^ 1) && has_kind version kind)
+    (ltb p.job (256 ^ 8) && ((ltb p.to (256 ^ 8) && (is_address p.to && suits kind p.to))
+    && (eqb kind kind && fits_body p.body))) first.1 in
+    let b = and_parts (ltb p.job (256 ^ 8))
+    ((ltb p.to (256 ^ 8) && (is_address p.to && suits kind p.to)) && (eqb kind kind && fits_body p.body)) a.1 in
+    let c = and_parts (ltb p.to (256 ^ 8) && (is_address p.to && suits kind p.to))
+    (eqb kind kind && fits_body p.body) b.1 in
     let to = and_parts (ltb p.to (256 ^ 8)) (is_address p.to && suits kind p.to) c.0 in
     let said = and_parts (eqb kind kind) (fits_body p.body) c.1 in
     and_from (ltb p.job (2 ^ 64)) (suits kind p.to && fits_body p.body) b.0
     (and_from (suits kind p.to) (fits_body p.body) (and_parts (is_address p.to) (suits kind p.to) to.1).1 said.1)
 
 -- what is read of bytes is a packet
-pub is_packet_read : (bytes to : List ℕ) (p : PacketOf) → IsBytes bytes → packet.read bytes ≡ Ok (p, to) → is_packet p ≡ true
-is_packet_read bytes to p fits e = packet_fits_parts p (packet_lawful.fit bytes to p (packet_lawful.found bytes to p fits e).0)
+pub is_packet_read : (bytes to : List ℕ) (p : PacketOf) → IsBytes bytes → packet.read bytes ≡ Ok (p, to)
+    → is_packet p ≡ true
+is_packet_read bytes to p fits e = packet_fits_parts p
+    (packet_lawful.fit bytes to p (packet_lawful.found bytes to p fits e).0)
 
 -- ---- all of the bytes
 
@@ -484,14 +595,19 @@ spelled_made a p s = packet_fits_parts p (packet_lawful.fit a [] p s)
 
 -- what can be made is spelled
 pub made_spelled : (p : PacketOf) → is_packet p ≡ true → IsSpelled p
-made_spelled p whole = record { bytes = packet.write p ++ []; spelling = packet_lawful.writes p [] (packet_fits p whole) }
+made_spelled p whole = record {
+  bytes = packet.write p ++ [];
+  spelling = packet_lawful.writes p [] (packet_fits p whole);
+}
 
 -- a spelling has one packet
 pub one_packet : (a : List ℕ) (p q : PacketOf) → Spelling a p → Spelling a q → p ≡ q
 one_packet a p q s t =
-    ap (λ (x : PacketOf × List ℕ). x.0) (ok_is (p, []) (q, []) (sym (packet_lawful.only a [] p s) ∙ packet_lawful.only a [] q t))
+    ap (λ (x : PacketOf × List ℕ). x.0)
+    (ok_is (p, []) (q, []) (sym (packet_lawful.only a [] p s) ∙ packet_lawful.only a [] q t))
 
-guard_err : {A : Type 0} (b : Bool) (d : Fault) (r : Result A Fault) (y : A) → cond b (Err d) r ≡ Ok y → (b ≡ false) × (r ≡ Ok y)
+guard_err : {A : Type 0} (b : Bool) (d : Fault) (r : Result A Fault) (y : A) → cond b (Err d) r ≡ Ok y
+    → (b ≡ false) × (r ≡ Ok y)
 guard_err true d r y e = absurd cc
 guard_err false d r y e = (refl, e)
 
@@ -502,28 +618,35 @@ read_whole bytes p e =
     let read = bind_ok (packet.read bytes) (λ x. cond (eqb (length x.1) 0) (Ok x.0) (Err fault.Trailing)) p e in
     let ended = test_ok (eqb (length read.0.1) 0) fault.Trailing read.0.0 p read.2 in
     let nothing : read.0.1 ≡ [] = nil_from_length read.0.1 (eqb-true (length read.0.1) 0 ended.0) in
-    subst (λ (q : PacketOf). packet.read bytes ≡ Ok (q, [])) ended.1 (subst (λ (to : List ℕ). packet.read bytes ≡ Ok (read.0.0, to)) nothing read.1)
+    subst (λ (q : PacketOf). packet.read bytes ≡ Ok (q, [])) ended.1
+    (subst (λ (to : List ℕ). packet.read bytes ≡ Ok (read.0.0, to)) nothing read.1)
 
 -- the packet in front, where all of the bytes are read
-pub is_whole : (bytes left : List ℕ) (p q : PacketOf) → long_reading bytes ≡ Ok p → packet.read bytes ≡ Ok (q, left) → long_reading bytes ≡ Ok q
+pub is_whole : (bytes left : List ℕ) (p q : PacketOf) → long_reading bytes ≡ Ok p → packet.read bytes ≡ Ok (q, left)
+    → long_reading bytes ≡ Ok q
 is_whole bytes left p q e front =
-    let same : p ≡ q = ap (λ (x : PacketOf × List ℕ). x.0) (ok_is (p, []) (q, left) (sym (read_whole bytes p e) ∙ front)) in
+    let same : p ≡ q = ap (λ (x : PacketOf × List ℕ). x.0)
+    (ok_is (p, []) (q, left) (sym (read_whole bytes p e) ∙ front)) in
     subst (λ (x : PacketOf). long_reading bytes ≡ Ok x) same e
 
 -- the reading of a packet in front has no fault then
-pub no_fault : (bytes : List ℕ) (p : PacketOf) (e : ReadError) → long_reading bytes ≡ Ok p → Fails e (packet.read bytes) → Fails e (long_reading bytes)
+pub no_fault : (bytes : List ℕ) (p : PacketOf) (e : ReadError) → long_reading bytes ≡ Ok p → Fails e (packet.read bytes)
+    → Fails e (long_reading bytes)
 no_fault bytes p errors.Memory read fails = tt
 no_fault bytes p (errors.Fault f) read fails =
-    let both : (let r : Result (PacketOf × List ℕ) Fault = Ok (p, []) in r) ≡ Err f = sym (read_whole bytes p read) ∙ fails in
+    let both : (let r : Result (PacketOf × List ℕ) Fault = Ok (p, []) in r) ≡ Err f =
+    sym (read_whole bytes p read) ∙ fails in
     absurd cc
 
 -- a packet with nothing behind it is all of the bytes
-read_to_end : (bytes left : List ℕ) (p : PacketOf) → packet.read bytes ≡ Ok (p, left) → nat_eq (length left) 0 ≡ true → long_reading bytes ≡ Ok p
+read_to_end : (bytes left : List ℕ) (p : PacketOf) → packet.read bytes ≡ Ok (p, left) → nat_eq (length left) 0 ≡ true
+    → long_reading bytes ≡ Ok p
 unfolding long_reading
 read_to_end bytes left p e nothing = rw (e, nothing) refl
 
 -- and so are bytes that were passed over to their end
-pub passed_whole : (bytes left : List ℕ) → end_of (packet.read bytes) ≡ Ok left → nat_eq (length left) 0 ≡ true → (p : PacketOf) × (long_reading bytes ≡ Ok p)
+pub passed_whole : (bytes left : List ℕ) → end_of (packet.read bytes) ≡ Ok left → nat_eq (length left) 0 ≡ true
+    → (p : PacketOf) × (long_reading bytes ≡ Ok p)
 passed_whole bytes left e nothing =
     let x = ended (packet.read bytes) left e in
     (x.0, read_to_end bytes left x.0 x.1 nothing)
@@ -538,19 +661,25 @@ unfolding reading
 reading_long bytes long = rw (lt-ltb 1048576 (length bytes) long) refl
 
 -- what is given of them is given of as many as are allowed
-pub gives_short : (bytes : List ℕ) (r : Result PacketOf ReadError) → length bytes ≤ 1048576 → Gives (λ x. x) r (long_reading bytes) → Gives (λ x. x) r (reading bytes)
-gives_short bytes r short e = subst (λ (read : Result PacketOf Fault). Gives (λ x. x) r read) (sym (reading_short bytes short)) e
+pub gives_short : (bytes : List ℕ) (r : Result PacketOf ReadError) → length bytes ≤ 1048576
+    → Gives (λ x. x) r (long_reading bytes) → Gives (λ x. x) r (reading bytes)
+gives_short bytes r short e = subst (λ (read : Result PacketOf Fault). Gives (λ x. x) r read)
+    (sym (reading_short bytes short)) e
 
 -- what the reading of all of the bytes answers is spelled so
 pub reading_found : (bytes : List ℕ) (p : PacketOf) → IsBytes bytes → reading bytes ≡ Ok p → Spells bytes p
 unfolding reading
 reading_found bytes p fits e =
-    let short = guard_err (ltb 1048576 (length bytes)) fault.TooBig (packet.read bytes >>= λ x. cond (eqb (length x.1) 0) (Ok x.0) (Err fault.Trailing)) p e in
+    let short = guard_err (ltb 1048576 (length bytes)) fault.TooBig
+    (packet.read bytes >>= λ x. cond (eqb (length x.1) 0) (Ok x.0) (Err fault.Trailing)) p e in
     let read = bind_ok (packet.read bytes) (λ x. cond (eqb (length x.1) 0) (Ok x.0) (Err fault.Trailing)) p short.1 in
     let ended = test_ok (eqb (length read.0.1) 0) fault.Trailing read.0.0 p read.2 in
     let nothing : read.0.1 ≡ [] = nil_from_length read.0.1 (eqb-true (length read.0.1) 0 ended.0) in
-    let s : packet.Spelled bytes read.0.1 read.0.0 = (packet_lawful.found bytes read.0.1 read.0.0 fits read.1).0 in
-    (subst (λ (q : PacketOf). packet.Spelled bytes [] q) ended.1 (subst (λ (to : List ℕ). packet.Spelled bytes to read.0.0) nothing s), ltb-false 1048576 (length bytes) short.0)
+    let s : packet.Spelled bytes read.0.1 read.0.0 = (packet_lawful.found bytes read.0.1 read.0.0 fits read.1).0 in (
+      subst (λ (q : PacketOf). packet.Spelled bytes [] q) ended.1
+          (subst (λ (to : List ℕ). packet.Spelled bytes to read.0.0) nothing s),
+      ltb-false 1048576 (length bytes) short.0,
+    )
 
 -- what is spelled so is the answer
 pub reading_only : (bytes : List ℕ) (p : PacketOf) → Spells bytes p → reading bytes ≡ Ok p
@@ -558,21 +687,27 @@ unfolding reading
 reading_only bytes p s = rw (le-ltb 1048576 (length bytes) s.1, packet_lawful.only bytes [] p s.0) refl
 
 -- the same of a function that gives what reading gives
-pub is_found : (bytes : List ℕ) (r : Result PacketOf ReadError) → IsBytes bytes → Gives (λ x. x) r (reading bytes) → IfOk r (λ p. Spells bytes p)
+pub is_found : (bytes : List ℕ) (r : Result PacketOf ReadError) → IsBytes bytes → Gives (λ x. x) r (reading bytes)
+    → IfOk r (λ p. Spells bytes p)
 is_found bytes (Ok p) fits e = reading_found bytes p fits e
 is_found bytes (Err d) fits e = tt
 
-pub is_only : (bytes : List ℕ) (r : Result PacketOf ReadError) (p : PacketOf) → Spells bytes p → Gives (λ x. x) r (reading bytes) → Gives (λ x. x) r (Ok p)
+pub is_only : (bytes : List ℕ) (r : Result PacketOf ReadError) (p : PacketOf) → Spells bytes p
+    → Gives (λ x. x) r (reading bytes) → Gives (λ x. x) r (Ok p)
 is_only bytes r p s e = subst (λ (read : Result PacketOf Fault). Gives (λ x. x) r read) (reading_only bytes p s) e
 
 -- what is written for a packet is its spelling
-written : (p : PacketOf) (old out : List ℕ) → old ≡ [] → out ≡ old ++ packet.write p → packet.fits p ≡ true → Spelling out p
+written : (p : PacketOf) (old out : List ℕ) → old ≡ [] → out ≡ old ++ packet.write p → packet.fits p ≡ true
+    → Spelling out p
 written p old out none e fits =
-    let all : out ≡ packet.write p ++ [] = e ∙ ap (λ (front : List ℕ). front ++ packet.write p) none ∙ sym (append-nil (packet.write p)) in
+    let all : out ≡ packet.write p ++ [] =
+    e ∙ ap (λ (front : List ℕ). front ++ packet.write p) none ∙ sym (append-nil (packet.write p)) in
     subst (λ (bytes : List ℕ). packet.Spelled bytes [] p) (sym all) (packet_lawful.writes p [] fits)
 
-pub is_written : (p : PacketOf) (old out : List ℕ) → old ≡ [] → out ≡ old ++ packet.write p → packet.fits p ≡ true → length out ≤ 1048576 → Spells out p
+pub is_written : (p : PacketOf) (old out : List ℕ) → old ≡ [] → out ≡ old ++ packet.write p → packet.fits p ≡ true
+    → length out ≤ 1048576 → Spells out p
 is_written p old out none e fits short = (written p old out none e fits, short)
 
-pub is_too_big : (p : PacketOf) (old out : List ℕ) → old ≡ [] → out ≡ old ++ packet.write p → packet.fits p ≡ true → 1048576 < length out → IsTooBig p
+pub is_too_big : (p : PacketOf) (old out : List ℕ) → old ≡ [] → out ≡ old ++ packet.write p → packet.fits p ≡ true
+    → 1048576 < length out → IsTooBig p
 is_too_big p old out none e fits long = record { bytes = out; spelling = written p old out none e fits; long = long }

@@ -21,7 +21,8 @@ by_begun on i (Some Dead) = refl
 by_begun on i (Some (Left heir)) = refl
 
 -- one worker more
-one_more : (members : List Member) (n i : ℕ) → follow (suc n) members i ≡ ended_by (follow n members) (begun i (status_in i members))
+one_more : (members : List Member) (n i : ℕ)
+    → follow (suc n) members i ≡ ended_by (follow n members) (begun i (status_in i members))
 unfolding follow
 one_more members n i = by_begun (follow n members) i (status_in i members)
 
@@ -35,9 +36,11 @@ fewer : (members : List Member) (k n i : ℕ) → k ≤ n → follow n members i
 unfolding follow
 fewer members zero n i le none = refl
 fewer members (suc k) zero i le none = absurd (search arith)
-fewer members (suc k) (suc n) i le none = by_status (λ heir. fewer members k n heir (search arith)) (status_in i members) none
+fewer members (suc k) (suc n) i le none =
+    by_status (λ heir. fewer members k n heir (search arith)) (status_in i members) none
   where
-    by_status : ((heir : ℕ) → follow n members heir ≡ None → follow k members heir ≡ None) → (s : Option Status) → bearer (follow n members) i s ≡ None → bearer (follow k members) i s ≡ None
+    by_status : ((heir : ℕ) → follow n members heir ≡ None → follow k members heir ≡ None) → (s : Option Status)
+        → bearer (follow n members) i s ≡ None → bearer (follow k members) i s ≡ None
     by_status rest None at = cc
     by_status rest (Some Live) at = cc
     by_status rest (Some Dead) at = refl
@@ -50,14 +53,16 @@ record IsFar (members : List Member) (i k : ℕ) : Type 0 where
   none : follow most members i ≡ None
 
 -- round a circle there is one
-goes_far : (members : List Member) (i p : ℕ) → ((k : ℕ) → follow (suc p + k) members i ≡ follow k members i) → (k : ℕ) → IsFar members i k
+goes_far : (members : List Member) (i p : ℕ) → ((k : ℕ) → follow (suc p + k) members i ≡ follow k members i) → (k : ℕ)
+    → IsFar members i k
 goes_far members i p round zero = record { most = 0; above = search arith; none = no_more members i }
 goes_far members i p round (suc k) =
     let far : IsFar members i k = goes_far members i p round k in
     record { most = suc p + far.most; above = omega (arith, far.above); none = round far.most ∙ far.none }
 
 -- so a circle ends at nobody
-ends_nowhere : (members : List Member) (i p : ℕ) → ((k : ℕ) → follow (suc p + k) members i ≡ follow k members i) → (k : ℕ) → follow k members i ≡ None
+ends_nowhere : (members : List Member) (i p : ℕ) → ((k : ℕ) → follow (suc p + k) members i ≡ follow k members i)
+    → (k : ℕ) → follow k members i ≡ None
 ends_nowhere members i p round k =
     let far : IsFar members i k = goes_far members i p round k in
     fewer members k far.most i far.above far.none
@@ -70,7 +75,8 @@ pub record IsOnTheWay (members : List Member) (worker mark at left : ℕ) : Type
   pub past : (k : ℕ) → follow (steps + k) members mark ≡ follow k members at
 
 -- at the worker itself
-pub way_begins : (members : List Member) (worker left : ℕ) → left ≡ suc (length members) → IsOnTheWay members worker worker worker left
+pub way_begins : (members : List Member) (worker left : ℕ) → left ≡ suc (length members)
+    → IsOnTheWay members worker worker worker left
 way_begins members worker left all = record {
   rest = ap (λ n. follow n members worker) all;
   steps = 0;
@@ -91,7 +97,8 @@ module _ (members : List Member) (worker mark at left : ℕ) (way : IsOnTheWay m
   way_out none = sym (no_more members at) ∙ ap (λ n. follow n members at) (sym none) ∙ way.rest
 
   -- what is left of the way, by the next step
-  next_step : 0 < left → (r : Reach) → begun at (status_in at members) ≡ r → ended_by (follow (left - 1) members) r ≡ resolve members worker
+  next_step : 0 < left → (r : Reach) → begun at (status_in at members) ≡ r
+      → ended_by (follow (left - 1) members) r ≡ resolve members worker
   next_step some r is =
       let one : suc (left - 1) ≡ left = omega arith in
       ap (ended_by (follow (left - 1) members)) (sym is)
@@ -104,7 +111,8 @@ module _ (members : List Member) (worker mark at left : ℕ) (way : IsOnTheWay m
   way_ends some b is = next_step some (Ended b) is
 
   -- one step more leads from the mark to the heir
-  past_heir : (heir : ℕ) → begun at (status_in at members) ≡ At heir → (k : ℕ) → follow (suc way.steps + k) members mark ≡ follow k members heir
+  past_heir : (heir : ℕ) → begun at (status_in at members) ≡ At heir → (k : ℕ)
+      → follow (suc way.steps + k) members mark ≡ follow k members heir
   past_heir heir is k =
       let sum : suc way.steps + k ≡ way.steps + suc k = omega arith in
       ap (λ n. follow n members mark) sum
@@ -113,7 +121,8 @@ module _ (members : List Member) (worker mark at left : ℕ) (way : IsOnTheWay m
       ∙ ap (ended_by (follow k members)) is
 
   -- it goes on at an heir
-  pub way_goes_on : 0 < left → (heir : ℕ) → begun at (status_in at members) ≡ At heir → IsOnTheWay members worker mark heir (left - 1)
+  pub way_goes_on : 0 < left → (heir : ℕ) → begun at (status_in at members) ≡ At heir
+      → IsOnTheWay members worker mark heir (left - 1)
   way_goes_on some heir is = record {
     rest = next_step some (At heir) is;
     steps = suc way.steps;
@@ -121,9 +130,11 @@ module _ (members : List Member) (worker mark at left : ℕ) (way : IsOnTheWay m
   }
 
   -- it comes back to the mark
-  pub way_circles : 0 < left → (heir : ℕ) → begun at (status_in at members) ≡ At heir → heir ≡ mark → None ≡ resolve members worker
+  pub way_circles : 0 < left → (heir : ℕ) → begun at (status_in at members) ≡ At heir → heir ≡ mark
+      → None ≡ resolve members worker
   way_circles some heir is back =
-      let round : (k : ℕ) → follow (suc way.steps + k) members mark ≡ follow k members mark = λ k. past_heir heir is k ∙ ap (follow k members) back in
+      let round : (k : ℕ) → follow (suc way.steps + k) members mark ≡ follow k members mark =
+      λ k. past_heir heir is k ∙ ap (follow k members) back in
       sym (ends_nowhere members mark way.steps round (left - 1))
       ∙ ap (follow (left - 1) members) (sym back)
       ∙ next_step some (At heir) is

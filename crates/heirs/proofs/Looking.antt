@@ -17,21 +17,26 @@ use Rattle.ids.proofs.NameOrder.{names_total}
 use Rattle.heirs.proofs.Tables.{apart, equal_to_itself}
 
 -- of the first member that is the worker
-said_by : (i : ℕ) (m : Member) (ms : List Member) (t : Bool) → is_eq (name_cmp (i, 0) (name_of_member m)) ≡ t → status_in i (m ∷ ms) ≡ cond t (Some m.status) (status_in i ms)
-said_by i m ms t is = ap (λ b. cond b (Some m) (item_in name_of_member (i, 0) ms) >>= (λ x. Some x.status)) is ∙ by_test t
+said_by : (i : ℕ) (m : Member) (ms : List Member) (t : Bool) → is_eq (name_cmp (i, 0) (name_of_member m)) ≡ t
+    → status_in i (m ∷ ms) ≡ cond t (Some m.status) (status_in i ms)
+said_by i m ms t is = ap (λ b. cond b (Some m) (item_in name_of_member (i, 0) ms) >>= (λ x. Some x.status)) is
+    ∙ by_test t
   where
-    by_test : (b : Bool) → (cond b (Some m) (item_in name_of_member (i, 0) ms) >>= (λ x. Some x.status)) ≡ cond b (Some m.status) (status_in i ms)
+    by_test : (b : Bool) → (cond b (Some m) (item_in name_of_member (i, 0) ms) >>= (λ x. Some x.status))
+        ≡ cond b (Some m.status) (status_in i ms)
     by_test true = refl
     by_test false = refl
 
 said_here : (i : ℕ) (m : Member) (ms : List Member) → m.incarnation ≡ i → status_in i (m ∷ ms) ≡ Some m.status
 said_here i m ms same =
-    let named : name_cmp (i, 0) (name_of_member m) ≡ Equal = ap (λ (n : ℕ). name_cmp (i, 0) (n, 0)) same ∙ equal_to_itself (i, 0) in
+    let named : name_cmp (i, 0) (name_of_member m) ≡ Equal =
+    ap (λ (n : ℕ). name_cmp (i, 0) (n, 0)) same ∙ equal_to_itself (i, 0) in
     said_by i m ms true (ap is_eq named)
 
 -- of another one nothing is said
 said_later : (i : ℕ) (m : Member) (ms : List Member) → (m.incarnation ≡ i → ⊥) → status_in i (m ∷ ms) ≡ status_in i ms
-said_later i m ms other = said_by i m ms false (apart (i, 0) (name_of_member m) (λ is. other (sym (ap (λ (n : Name). n.0) is))))
+said_later i m ms other = said_by i m ms false
+    (apart (i, 0) (name_of_member m) (λ is. other (sym (ap (λ (n : Name). n.0) is))))
 
 -- ---- after so many members that aren't the worker
 module _ (i : ℕ) (ms : List Member) (at : ℕ) (rest : status_in i (drop at ms) ≡ status_in i ms) where
@@ -73,28 +78,42 @@ some_member = record { incarnation = 0; status = Live }
 
 module _ (ms : List Member) where
   -- two neighbours, by their names
-  names_at : (k : ℕ) (d : Member) → k + 1 < length ms → name_cmp (get_or (map name_of_member ms) k (0, 0)) (get_or (map name_of_member ms) (k + 1) (0, 0)) ≡ name_cmp (name_of_member (get_or ms k d)) (name_of_member (get_or ms (k + 1) d))
+  names_at : (k : ℕ) (d : Member) → k + 1 < length ms
+      → name_cmp (get_or (map name_of_member ms) k (0, 0)) (get_or (map name_of_member ms) (k + 1) (0, 0))
+      ≡ name_cmp (name_of_member (get_or ms k d)) (name_of_member (get_or ms (k + 1) d))
   names_at k d within =
-      let first : get_or (map name_of_member ms) k (0, 0) ≡ name_of_member (get_or ms k d) = get_or-map name_of_member ms k d (0, 0) (omega arith) in
-      let second : get_or (map name_of_member ms) (k + 1) (0, 0) ≡ name_of_member (get_or ms (k + 1) d) = get_or-map name_of_member ms (k + 1) d (0, 0) within in
-      ap (λ n. name_cmp n (get_or (map name_of_member ms) (k + 1) (0, 0))) first ∙ ap (λ n. name_cmp (name_of_member (get_or ms k d)) n) second
+      let first : get_or (map name_of_member ms) k (0, 0) ≡ name_of_member (get_or ms k d) =
+      get_or-map name_of_member ms k d (0, 0) (omega arith) in
+      let second : get_or (map name_of_member ms) (k + 1) (0, 0) ≡ name_of_member (get_or ms (k + 1) d) =
+      get_or-map name_of_member ms (k + 1) d (0, 0) within in
+      ap (λ n. name_cmp n (get_or (map name_of_member ms) (k + 1) (0, 0))) first
+      ∙ ap (λ n. name_cmp (name_of_member (get_or ms k d)) n) second
 
   -- where each does, all stand in order
-  all_rise : ((k : ℕ) (d : Member) → k + 1 < length ms → true ≡ below (get_or ms k d) (get_or ms (k + 1) d)) → AreInOrder name_of_member ms
-  all_rise each = sorted_from_all_adjacent names_total (map name_of_member ms) (0, 0) (λ k within. at k (omega (arith, length-map ms name_of_member)))
+  all_rise : ((k : ℕ) (d : Member) → k + 1 < length ms → true ≡ below (get_or ms k d) (get_or ms (k + 1) d))
+      → AreInOrder name_of_member ms
+  all_rise each = sorted_from_all_adjacent names_total (map name_of_member ms) (0, 0)
+      (λ k within. at k (omega (arith, length-map ms name_of_member)))
     where
-      at : (k : ℕ) → k + 1 < length ms → name_cmp (get_or (map name_of_member ms) k (0, 0)) (get_or (map name_of_member ms) (k + 1) (0, 0)) ≡ Less
-      at k within = names_at k some_member within ∙ less_named (get_or ms k some_member).incarnation (get_or ms (k + 1) some_member).incarnation (sym (each k some_member within))
+      at : (k : ℕ) → k + 1 < length ms → name_cmp (get_or (map name_of_member ms) k (0, 0))
+          (get_or (map name_of_member ms) (k + 1) (0, 0)) ≡ Less
+      at k within = names_at k some_member within ∙ less_named (get_or ms k some_member).incarnation
+          (get_or ms (k + 1) some_member).incarnation (sym (each k some_member within))
 
   -- where one doesn't, they don't
-  one_falls : (k : ℕ) → k + 1 < length ms → ((d : Member) → false ≡ below (get_or ms k d) (get_or ms (k + 1) d)) → AreInOrder name_of_member ms → ⊥
+  one_falls : (k : ℕ) → k + 1 < length ms → ((d : Member) → false ≡ below (get_or ms k d) (get_or ms (k + 1) d))
+      → AreInOrder name_of_member ms → ⊥
   one_falls k within falls order =
       let more : k + 1 < length (map name_of_member ms) = omega (arith, length-map ms name_of_member) in
-      let less : name_cmp (get_or (map name_of_member ms) k (0, 0)) (get_or (map name_of_member ms) (k + 1) (0, 0)) ≡ Less = Less-from_sorted name_cmp (map name_of_member ms) k (k + 1) (0, 0) order (omega arith) more in
-      let rises : below (get_or ms k some_member) (get_or ms (k + 1) some_member) ≡ true = less_again (get_or ms k some_member).incarnation (get_or ms (k + 1) some_member).incarnation (sym (names_at k some_member within) ∙ less) in
+      let less : name_cmp (get_or (map name_of_member ms) k (0, 0)) (get_or (map name_of_member ms) (k + 1) (0, 0))
+      ≡ Less = Less-from_sorted name_cmp (map name_of_member ms) k (k + 1) (0, 0) order (omega arith) more in
+      let rises : below (get_or ms k some_member) (get_or ms (k + 1) some_member) ≡ true =
+      less_again (get_or ms k some_member).incarnation (get_or ms (k + 1) some_member).incarnation
+      (sym (names_at k some_member within) ∙ less) in
       false≢true (falls some_member ∙ rises)
 
   -- so the answer is right
-  pub order_told : (r : Bool) → IsAllAdjacentAnswer (λ x y b. b ≡ below x y) ms r → IsTrue r ↔ AreInOrder name_of_member ms
+  pub order_told : (r : Bool) → IsAllAdjacentAnswer (λ x y b. b ≡ below x y) ms r
+      → IsTrue r ↔ AreInOrder name_of_member ms
   order_told true each = (λ is. all_rise each, λ order. refl)
   order_told false one = (λ is. absurd (false≢true is), λ order. absurd (one_falls one.0 one.1 one.2 order))

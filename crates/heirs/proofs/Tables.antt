@@ -39,11 +39,13 @@ same_or_not n m = by_order (name_cmp n m) refl
     by_order Greater is = inr (differ Greater is (λ e. cc))
 
 -- an item that is put leaves those of other names as they are
-put_other : {Y : Type 0} (name : Y → Name) (n : Name) (y : Y) (ys : List Y) → (n ≡ name y → ⊥) → item_in name n (put_in name y ys) ≡ item_in name n ys
+put_other : {Y : Type 0} (name : Y → Name) (n : Name) (y : Y) (ys : List Y) → (n ≡ name y → ⊥)
+    → item_in name n (put_in name y ys) ≡ item_in name n ys
 put_other name n y [] other = ap (λ b. cond b (Some y) None) (apart n (name y) other)
 put_other name n y (z ∷ zs) other = by_order (put_other name n y zs other) (name_cmp (name y) (name z)) refl
   where
-    by_order : item_in name n (put_in name y zs) ≡ item_in name n zs → (r : Ordering) → name_cmp (name y) (name z) ≡ r → item_in name n (match_ordering r (y ∷ z ∷ zs) (y ∷ zs) (z ∷ put_in name y zs)) ≡ item_in name n (z ∷ zs)
+    by_order : item_in name n (put_in name y zs) ≡ item_in name n zs → (r : Ordering) → name_cmp (name y) (name z) ≡ r
+        → item_in name n (match_ordering r (y ∷ z ∷ zs) (y ∷ zs) (z ∷ put_in name y zs)) ≡ item_in name n (z ∷ zs)
     by_order rest Less is = ap (λ b. cond b (Some y) (item_in name n (z ∷ zs))) (apart n (name y) other)
     by_order rest Equal is =
         let same : name y ≡ name z = exact_names (name y) (name z) is in
@@ -55,9 +57,11 @@ module _ {X Y : Type 0} (a : X → Name) (b : Y → Name) (f : X → Y) (keeps :
   -- what is found in the list of the items made is made from what is found
   pub item_of_map : (n : Name) (xs : List X) → item_in b n (map f xs) ≡ option_map f (item_in a n xs)
   item_of_map n [] = refl
-  item_of_map n (x ∷ xs) = ap (λ m. cond (is_eq (name_cmp n m)) (Some (f x)) (item_in b n (map f xs))) (keeps x) ∙ by_test (item_of_map n xs) (is_eq (name_cmp n (a x)))
+  item_of_map n (x ∷ xs) = ap (λ m. cond (is_eq (name_cmp n m)) (Some (f x)) (item_in b n (map f xs))) (keeps x)
+      ∙ by_test (item_of_map n xs) (is_eq (name_cmp n (a x)))
     where
-      by_test : item_in b n (map f xs) ≡ option_map f (item_in a n xs) → (t : Bool) → cond t (Some (f x)) (item_in b n (map f xs)) ≡ option_map f (cond t (Some x) (item_in a n xs))
+      by_test : item_in b n (map f xs) ≡ option_map f (item_in a n xs) → (t : Bool)
+          → cond t (Some (f x)) (item_in b n (map f xs)) ≡ option_map f (cond t (Some x) (item_in a n xs))
       by_test rest true = refl
       by_test rest false = rest
 
@@ -67,8 +71,10 @@ module _ {X Y : Type 0} (a : X → Name) (b : Y → Name) (f : X → Y) (keeps :
   names_of_map (x ∷ xs) = ap (λ n. n ∷ map b (map f xs)) (keeps x) ∙ ap (λ ns. a x ∷ ns) (names_of_map xs)
 
   -- the items made of a list in order are put one behind another
-  pub put_next_made : (ys : List Y) (x : X) (rest all : List X) → ys ++ map f (x ∷ rest) ≡ map f all → AreInOrder a all → put_in b (f x) ys ++ map f rest ≡ map f all
-  put_next_made ys x rest all same order = put_next b name_cmp names_total ys (f x) (map f rest) (map f all) same (rw (names_of_map all) order)
+  pub put_next_made : (ys : List Y) (x : X) (rest all : List X) → ys ++ map f (x ∷ rest) ≡ map f all → AreInOrder a all
+      → put_in b (f x) ys ++ map f rest ≡ map f all
+  put_next_made ys x rest all same order =
+      put_next b name_cmp names_total ys (f x) (map f rest) (map f all) same (rw (names_of_map all) order)
 
   -- a table of what is made from the first item of each name
   abbrev pub IsMadeFrom : List X → List Y → Type 0
@@ -79,16 +85,20 @@ module _ {X Y : Type 0} (a : X → Name) (b : Y → Name) (f : X → Y) (keeps :
   behind_found n x z [] there = cc
   behind_found n x z (y ∷ ys) there = by_test (behind_found n x z ys) (is_eq (name_cmp n (a y))) there
     where
-      by_test : (item_in a n ys ≡ Some z → item_in a n (ys ++ x ∷ []) ≡ Some z) → (t : Bool) → cond t (Some y) (item_in a n ys) ≡ Some z → cond t (Some y) (item_in a n (ys ++ x ∷ [])) ≡ Some z
+      by_test : (item_in a n ys ≡ Some z → item_in a n (ys ++ x ∷ []) ≡ Some z) → (t : Bool)
+          → cond t (Some y) (item_in a n ys) ≡ Some z → cond t (Some y) (item_in a n (ys ++ x ∷ [])) ≡ Some z
       by_test rest true there = there
       by_test rest false there = rest there
 
   -- where nothing is found, what is behind is looked at
-  behind_new : (n : Name) (x : X) (xs : List X) → item_in a n xs ≡ None → item_in a n (xs ++ x ∷ []) ≡ item_in a n (x ∷ [])
+  behind_new : (n : Name) (x : X) (xs : List X) → item_in a n xs ≡ None
+      → item_in a n (xs ++ x ∷ []) ≡ item_in a n (x ∷ [])
   behind_new n x [] none = refl
   behind_new n x (y ∷ ys) none = by_test (behind_new n x ys) (is_eq (name_cmp n (a y))) none
     where
-      by_test : (item_in a n ys ≡ None → item_in a n (ys ++ x ∷ []) ≡ item_in a n (x ∷ [])) → (t : Bool) → cond t (Some y) (item_in a n ys) ≡ None → cond t (Some y) (item_in a n (ys ++ x ∷ [])) ≡ item_in a n (x ∷ [])
+      by_test : (item_in a n ys ≡ None → item_in a n (ys ++ x ∷ []) ≡ item_in a n (x ∷ [])) → (t : Bool)
+          → cond t (Some y) (item_in a n ys) ≡ None
+          → cond t (Some y) (item_in a n (ys ++ x ∷ [])) ≡ item_in a n (x ∷ [])
       by_test rest true none = cc
       by_test rest false none = rest none
 
@@ -98,23 +108,35 @@ module _ {X Y : Type 0} (a : X → Name) (b : Y → Name) (f : X → Y) (keeps :
   behind_other n x (y ∷ ys) other = ap (λ o. cond (is_eq (name_cmp n (a y))) (Some y) o) (behind_other n x ys other)
 
   -- a table that has an item of the next one's name stays
-  pub passed : (xs : List X) (x : X) (ys : List Y) (y : Y) → IsMadeFrom xs ys → item_in b (a x) ys ≡ Some y → IsMadeFrom (xs ++ x ∷ []) ys
-  passed xs x ys y made there n = elim (same_or_not n (a x)) [ inl same ↦ by_found (item_in a n xs) refl (rw same there) | inr other ↦ made n ∙ ap (option_map f) (sym (behind_other n x xs other)) ]
+  pub passed : (xs : List X) (x : X) (ys : List Y) (y : Y) → IsMadeFrom xs ys → item_in b (a x) ys ≡ Some y
+      → IsMadeFrom (xs ++ x ∷ []) ys
+  passed xs x ys y made there n = elim (same_or_not n (a x)) [
+    | inl same ↦ by_found (item_in a n xs) refl (rw same there)
+    | inr other ↦ made n ∙ ap (option_map f) (sym (behind_other n x xs other))
+  ]
     where
-      by_found : (o : Option X) → item_in a n xs ≡ o → item_in b n ys ≡ Some y → item_in b n ys ≡ option_map f (item_in a n (xs ++ x ∷ []))
+      by_found : (o : Option X) → item_in a n xs ≡ o → item_in b n ys ≡ Some y
+          → item_in b n ys ≡ option_map f (item_in a n (xs ++ x ∷ []))
       by_found None is found = let none : item_in b n ys ≡ None = made n ∙ ap (option_map f) is in cc
       by_found (Some z) is found = made n ∙ ap (option_map f) (is ∙ sym (behind_found n x z xs is))
 
   -- one that has none takes what is made from the next one
-  pub added : (xs : List X) (x : X) (ys : List Y) → IsMadeFrom xs ys → item_in b (a x) ys ≡ None → IsMadeFrom (xs ++ x ∷ []) (put_in b (f x) ys)
-  added xs x ys made absent n = elim (same_or_not n (a x)) [ inl same ↦ by_found (item_in a n xs) refl same | inr other ↦ put_other b n (f x) ys (λ is. other (is ∙ keeps x)) ∙ made n ∙ ap (option_map f) (sym (behind_other n x xs other)) ]
+  pub added : (xs : List X) (x : X) (ys : List Y) → IsMadeFrom xs ys → item_in b (a x) ys ≡ None
+      → IsMadeFrom (xs ++ x ∷ []) (put_in b (f x) ys)
+  added xs x ys made absent n = elim (same_or_not n (a x)) [
+    | inl same ↦ by_found (item_in a n xs) refl same
+    | inr other ↦ put_other b n (f x) ys (λ is. other (is ∙ keeps x)) ∙ made n
+        ∙ ap (option_map f) (sym (behind_other n x xs other))
+  ]
     where
       alone : item_in a (a x) (x ∷ []) ≡ Some x
       alone = put_is_found a x []
 
-      by_found : (o : Option X) → item_in a n xs ≡ o → n ≡ a x → item_in b n (put_in b (f x) ys) ≡ option_map f (item_in a n (xs ++ x ∷ []))
+      by_found : (o : Option X) → item_in a n xs ≡ o → n ≡ a x
+          → item_in b n (put_in b (f x) ys) ≡ option_map f (item_in a n (xs ++ x ∷ []))
       by_found None is same =
-          let found : item_in b n (put_in b (f x) ys) ≡ Some (f x) = rw (same ∙ sym (keeps x)) (put_is_found b (f x) ys) in
+          let found : item_in b n (put_in b (f x) ys) ≡ Some (f x) =
+          rw (same ∙ sym (keeps x)) (put_is_found b (f x) ys) in
           let last : item_in a n (x ∷ []) ≡ Some x = rw same alone in
           found ∙ ap (option_map f) (sym (behind_new n x xs is ∙ last))
       by_found (Some z) is same =

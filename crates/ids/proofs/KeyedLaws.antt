@@ -10,7 +10,8 @@ module _ {K X : Type 0} (key : X → K) (R : K → K → Ordering) where
   found_in k x [] there = cc
   found_in k x (y ∷ ys) there = by_order (found_in k x ys) (R k (key y)) refl there
     where
-      by_order : (item_at key R k ys ≡ Some x → R k (key x) ≡ Equal) → (r : Ordering) → R k (key y) ≡ r → cond (is_eq r) (Some y) (item_at key R k ys) ≡ Some x → R k (key x) ≡ Equal
+      by_order : (item_at key R k ys ≡ Some x → R k (key x) ≡ Equal) → (r : Ordering) → R k (key y) ≡ r
+          → cond (is_eq r) (Some y) (item_at key R k ys) ≡ Some x → R k (key x) ≡ Equal
       by_order rest Less is at_x = rest at_x
       by_order rest Equal is at_x = let same : y ≡ x = cc in ap (λ z. R k (key z)) (sym same) ∙ is
       by_order rest Greater is at_x = rest at_x
@@ -28,7 +29,9 @@ module _ {K X : Type 0} (key : X → K) (R : K → K → Ordering) where
   put_found o x [] = ap (λ r. cond (is_eq r) (Some x) None) (equal_to_itself o (key x))
   put_found o x (y ∷ ys) = by_order (put_found o x ys) (R (key x) (key y)) refl
     where
-      by_order : item_at key R (key x) (put key R x ys) ≡ Some x → (r : Ordering) → R (key x) (key y) ≡ r → item_at key R (key x) (match_ordering r (x ∷ y ∷ ys) (x ∷ ys) (y ∷ put key R x ys)) ≡ Some x
-      by_order rest Less is = ap (λ s. cond (is_eq s) (Some x) (item_at key R (key x) (y ∷ ys))) (equal_to_itself o (key x))
+      by_order : item_at key R (key x) (put key R x ys) ≡ Some x → (r : Ordering) → R (key x) (key y) ≡ r
+          → item_at key R (key x) (match_ordering r (x ∷ y ∷ ys) (x ∷ ys) (y ∷ put key R x ys)) ≡ Some x
+      by_order rest Less is = ap (λ s. cond (is_eq s) (Some x) (item_at key R (key x) (y ∷ ys)))
+          (equal_to_itself o (key x))
       by_order rest Equal is = ap (λ s. cond (is_eq s) (Some x) (item_at key R (key x) ys)) (equal_to_itself o (key x))
       by_order rest Greater is = ap (λ s. cond (is_eq s) (Some y) (item_at key R (key x) (put key R x ys))) is ∙ rest

@@ -31,14 +31,20 @@ steps_of l e k d h = ltb-true (get_or l k d) 9 (AllPass-from_list_all (λ step. 
 
 -- what is counted of the steps that stand before an index, and one step more
 
-pub counted_on : (steps : List ℕ) (i level : ℕ) → i < length steps → level + count_by (λ (step : ℕ). not (step == 0)) (drop i steps) ≡ count_by (λ (step : ℕ). not (step == 0)) steps → level + cond (not (get_or steps i 0 == 0)) 1 0 + count_by (λ (step : ℕ). not (step == 0)) (drop (i + 1) steps) ≡ count_by (λ (step : ℕ). not (step == 0)) steps
+pub counted_on : (steps : List ℕ) (i level : ℕ) → i < length steps
+    → level + count_by (λ (step : ℕ). not (step == 0)) (drop i steps) ≡ count_by (λ (step : ℕ). not (step == 0)) steps
+    → level + cond (not (get_or steps i 0 == 0)) 1 0 + count_by (λ (step : ℕ). not (step == 0)) (drop (i + 1) steps)
+    ≡ count_by (λ (step : ℕ). not (step == 0)) steps
 counted_on steps i level within known =
     let here = at_drop_more (λ l. count_by (λ (step : ℕ). not (step == 0)) l) steps i 0 within in
     let more = sum_by-cons (λ (step : ℕ). cond (not (step == 0)) 1 0) (get_or steps i 0) (drop (i + 1) steps) in
     omega (known, here, more, arith)
 
-pub few_counted : (steps : List ℕ) (i level : ℕ) → length steps ≤ 1024 → level + count_by (λ (step : ℕ). not (step == 0)) (drop i steps) ≡ count_by (λ (step : ℕ). not (step == 0)) steps → level ≤ 1024
-few_counted steps i level short known = let le = count_by-le-length (λ (step : ℕ). not (step == 0)) steps in omega (known, le, short, arith)
+pub few_counted : (steps : List ℕ) (i level : ℕ) → length steps ≤ 1024
+    → level + count_by (λ (step : ℕ). not (step == 0)) (drop i steps) ≡ count_by (λ (step : ℕ). not (step == 0)) steps
+    → level ≤ 1024
+few_counted steps i level short known = let le =
+    count_by-le-length (λ (step : ℕ). not (step == 0)) steps in omega (known, le, short, arith)
 
 pub one_level : (step : ℕ) → cond (not (step == 0)) 1 0 ≤ 1
 one_level step = by_test (not (step == 0))
@@ -59,7 +65,10 @@ pub and_true : (b : Bool) → (b && true) ≡ b
 and_true true = refl
 and_true false = refl
 
-pub passed_on : (steps : List ℕ) (i : ℕ) (good : Bool) → i < length steps → (good && list_all (λ step. nat_lt step 9) (drop i steps)) ≡ list_all (λ step. nat_lt step 9) steps → ((good && nat_le (get_or steps i 0) 8) && list_all (λ step. nat_lt step 9) (drop (i + 1) steps)) ≡ list_all (λ step. nat_lt step 9) steps
+pub passed_on : (steps : List ℕ) (i : ℕ) (good : Bool) → i < length steps
+    → (good && list_all (λ step. nat_lt step 9) (drop i steps)) ≡ list_all (λ step. nat_lt step 9) steps
+    → ((good && nat_le (get_or steps i 0) 8) && list_all (λ step. nat_lt step 9) (drop (i + 1) steps))
+    ≡ list_all (λ step. nat_lt step 9) steps
 passed_on steps i good within known =
     let here = at_drop_more (λ l. good && list_all (λ step. nat_lt step 9) l) steps i 0 within in
     let rest = list_all (λ step. nat_lt step 9) (drop (i + 1) steps) in
@@ -72,7 +81,9 @@ passed_on steps i good within known =
 
 -- steps from the root on that are few and pass the test are a place, at the level that counts those
 -- to kids
-pub place_of : (steps : List ℕ) (level : ℕ) → length steps ≤ 1024 → list_all (λ step. nat_lt step 9) steps ≡ true → level ≡ count_by (λ (step : ℕ). not (step == 0)) steps → IsPlace (reverse steps) × (level ≡ level_of (reverse steps))
+pub place_of : (steps : List ℕ) (level : ℕ) → length steps ≤ 1024 → list_all (λ step. nat_lt step 9) steps ≡ true
+    → level ≡ count_by (λ (step : ℕ). not (step == 0)) steps
+    → IsPlace (reverse steps) × (level ≡ level_of (reverse steps))
 place_of steps level short test counted = (
   record {
     short = rw (length-reverse steps) short;
@@ -83,7 +94,8 @@ place_of steps level short test counted = (
 
 -- one step further from a place that isn't full is a place, a level lower where the step goes to a
 -- kid
-pub place_below : (place : List ℕ) (hole level : ℕ) → IsPlace place → length place < 1024 → hole < 9 → level ≡ level_of place + cond (not (hole == 0)) 1 0 → IsPlace (hole ∷ place) × (level ≡ level_of (hole ∷ place))
+pub place_below : (place : List ℕ) (hole level : ℕ) → IsPlace place → length place < 1024 → hole < 9
+    → level ≡ level_of place + cond (not (hole == 0)) 1 0 → IsPlace (hole ∷ place) × (level ≡ level_of (hole ∷ place))
 place_below place hole level is short step counted =
     let more = sum_by-cons (λ (step : ℕ). cond (not (step == 0)) 1 0) hole place in (
       record {

@@ -19,9 +19,11 @@ no_later_trans f g h (inr a) (inr b) = inr (cc, omega (arith, a.1, b.1))
 
 -- what the test says of the order
 before_true : (f g : Fault) → is_before f g ≡ true → IsNoLater f g
-before_true f g e = by_tests (nat_lt f.0 g.0) (f.0 == g.0) (nat_lt (number_of_fault f.1) (number_of_fault g.1)) refl refl refl e
+before_true f g e = by_tests (nat_lt f.0 g.0) (f.0 == g.0)
+    (nat_lt (number_of_fault f.1) (number_of_fault g.1)) refl refl refl e
   where
-    by_tests : (a b c : Bool) → nat_lt f.0 g.0 ≡ a → (f.0 == g.0) ≡ b → nat_lt (number_of_fault f.1) (number_of_fault g.1) ≡ c → (a || (b && c)) ≡ true → IsNoLater f g
+    by_tests : (a b c : Bool) → nat_lt f.0 g.0 ≡ a → (f.0 == g.0) ≡ b
+        → nat_lt (number_of_fault f.1) (number_of_fault g.1) ≡ c → (a || (b && c)) ≡ true → IsNoLater f g
     by_tests true b c ea eb ec e = inl (grind (arith, nat_tests))
     by_tests false true true ea eb ec e = inr (grind (arith, nat_tests), grind (arith, nat_tests))
     by_tests false true false ea eb ec e = absurd cc
@@ -29,9 +31,11 @@ before_true f g e = by_tests (nat_lt f.0 g.0) (f.0 == g.0) (nat_lt (number_of_fa
 
 -- and what its failing says
 before_false : (f g : Fault) → is_before f g ≡ false → IsNoLater g f
-before_false f g e = by_tests (nat_lt f.0 g.0) (f.0 == g.0) (nat_lt (number_of_fault f.1) (number_of_fault g.1)) refl refl refl e
+before_false f g e = by_tests (nat_lt f.0 g.0) (f.0 == g.0)
+    (nat_lt (number_of_fault f.1) (number_of_fault g.1)) refl refl refl e
   where
-    by_tests : (a b c : Bool) → nat_lt f.0 g.0 ≡ a → (f.0 == g.0) ≡ b → nat_lt (number_of_fault f.1) (number_of_fault g.1) ≡ c → (a || (b && c)) ≡ false → IsNoLater g f
+    by_tests : (a b c : Bool) → nat_lt f.0 g.0 ≡ a → (f.0 == g.0) ≡ b
+        → nat_lt (number_of_fault f.1) (number_of_fault g.1) ≡ c → (a || (b && c)) ≡ false → IsNoLater g f
     by_tests true b c ea eb ec e = absurd cc
     by_tests false true true ea eb ec e = absurd cc
     by_tests false true false ea eb ec e = inr (grind (arith, nat_tests), grind (arith, nat_tests))
@@ -59,12 +63,17 @@ least_kept o [] f e = record { from = inl e; before = λ g h. at_same g cc; all 
     at_same g e = rw (← e) (no_later_self f)
 least_kept None (x ∷ fs) f e =
     let k = least_kept (Some x) fs f e in
-    record { from = inr (found k.from); before = λ g h. absurd cc; all = All-cons (IsNoLater f) x fs (k.before x refl) k.all }
+    record {
+      from = inr (found k.from);
+      before = λ g h. absurd cc;
+      all = All-cons (IsNoLater f) x fs (k.before x refl) k.all;
+    }
   where
     found : (Some x ≡ Some f) ⊎ Contains fs f → Contains (x ∷ fs) f
     found (inl e) = let s : x ≡ f = cc in rw s (contains_head f fs)
     found (inr c) = contains_tail f x fs c
-least_kept (Some g) (x ∷ fs) f e = at_test (is_before x g) refl (least_kept (if is_before x g then Some x else Some g) fs f e)
+least_kept (Some g) (x ∷ fs) f e = at_test (is_before x g) refl
+    (least_kept (if is_before x g then Some x else Some g) fs f e)
   where
     at_test : (t : Bool) → is_before x g ≡ t → Kept (if t then Some x else Some g) fs f → Kept (Some g) (x ∷ fs) f
     at_test true h k = record {
@@ -104,7 +113,8 @@ least_some : (g : Fault) (fs : List Fault) → least_with (Some g) fs ≡ None �
 least_some g [] e = cc
 least_some g (f ∷ fs) e = at_test (is_before f g) (least_some f fs) (least_some g fs) e
   where
-    at_test : (t : Bool) → (least_with (Some f) fs ≡ None → ⊥) → (least_with (Some g) fs ≡ None → ⊥) → least_with (if t then Some f else Some g) fs ≡ None → ⊥
+    at_test : (t : Bool) → (least_with (Some f) fs ≡ None → ⊥) → (least_with (Some g) fs ≡ None → ⊥)
+        → least_with (if t then Some f else Some g) fs ≡ None → ⊥
     at_test true a b e = a e
     at_test false a b e = b e
 

@@ -35,33 +35,47 @@ or_else None b = b
 or_else (Some x) b = Some x
 
 -- a further name is looked for behind the others
-pub kind_of_more : (s : Scope) (n : List ℕ) (k : Kind) (name : List ℕ) → kind_of (with_name s n k) name ≡ or_else (kind_of s name) (if bytes_eq n name then Some k else None)
+pub kind_of_more : (s : Scope) (n : List ℕ) (k : Kind) (name : List ℕ)
+    → kind_of (with_name s n k) name ≡ or_else (kind_of s name) (if bytes_eq n name then Some k else None)
 kind_of_more [] n k name = refl
 kind_of_more (b ∷ s) n k name = at_test (bytes_eq b.0 name) (kind_of_more s n k name)
   where
-    at_test : (t : Bool) → kind_of (with_name s n k) name ≡ or_else (kind_of s name) (if bytes_eq n name then Some k else None) → (if t then Some b.1 else kind_of (with_name s n k) name) ≡ or_else (if t then Some b.1 else kind_of s name) (if bytes_eq n name then Some k else None)
+    at_test : (t : Bool) → kind_of (with_name s n k) name
+        ≡ or_else (kind_of s name) (if bytes_eq n name then Some k else None)
+        → (if t then Some b.1 else kind_of (with_name s n k) name)
+        ≡ or_else (if t then Some b.1 else kind_of s name) (if bytes_eq n name then Some k else None)
     at_test true h = refl
     at_test false h = h
 
 -- so is the number of a further name
-pub number_of_more : (env : Env) (n : List ℕ) (v : ℤ) (name : List ℕ) → number_of (env ++ (n, v) ∷ []) name ≡ or_else (number_of env name) (if bytes_eq n name then Some v else None)
+pub number_of_more : (env : Env) (n : List ℕ) (v : ℤ) (name : List ℕ)
+    → number_of (env ++ (n, v) ∷ []) name ≡ or_else (number_of env name) (if bytes_eq n name then Some v else None)
 number_of_more [] n v name = refl
 number_of_more (b ∷ env) n v name = at_test (bytes_eq b.0 name) (number_of_more env n v name)
   where
-    at_test : (t : Bool) → number_of (env ++ (n, v) ∷ []) name ≡ or_else (number_of env name) (if bytes_eq n name then Some v else None) → (if t then Some b.1 else number_of (env ++ (n, v) ∷ []) name) ≡ or_else (if t then Some b.1 else number_of env name) (if bytes_eq n name then Some v else None)
+    at_test : (t : Bool) → number_of (env ++ (n, v) ∷ []) name
+        ≡ or_else (number_of env name) (if bytes_eq n name then Some v else None)
+        → (if t then Some b.1 else number_of (env ++ (n, v) ∷ []) name)
+        ≡ or_else (if t then Some b.1 else number_of env name) (if bytes_eq n name then Some v else None)
     at_test true h = refl
     at_test false h = h
 
 -- a `let`, by what each name stands for
-value_step : (o : Option Kind) (m : Option ℤ) (t : Bool) (v : ℤ) → (o ≡ Some Value → Defined m) → or_else o (if t then Some Value else None) ≡ Some Value → Defined (or_else m (if t then Some v else None))
+value_step : (o : Option Kind) (m : Option ℤ) (t : Bool) (v : ℤ) → (o ≡ Some Value → Defined m)
+    → or_else o (if t then Some Value else None) ≡ Some Value → Defined (or_else m (if t then Some v else None))
 value_step o (Some x) t v h e = record { value = x; is = refl }
 value_step (Some k) None t v h e = absurd (let d = h e in let z = d.is in cc)
 value_step None None true v h e = record { value = v; is = refl }
 value_step None None false v h e = absurd cc
 
 -- a `let` gives its name a number
-pub covers_value : (s : Scope) (env : Env) (n : List ℕ) (v : ℤ) → Covers s env → Covers (with_name s n Value) (env ++ (n, v) ∷ [])
-covers_value s env n v c = record { there = λ name e. rw number_of_more (value_step (kind_of s name) (number_of env name) (bytes_eq n name) v (c.there name) (rw kind_of_more at e)) }
+pub covers_value : (s : Scope) (env : Env) (n : List ℕ) (v : ℤ) → Covers s env
+    → Covers (with_name s n Value) (env ++ (n, v) ∷ [])
+covers_value s env n v c = record {
+  there =
+      λ name e. rw number_of_more (value_step (kind_of s name) (number_of env name) (bytes_eq n name) v (c.there name)
+      (rw kind_of_more at e));
+}
 
 -- a hole, by what a name stands for
 pub hole_step : (o : Option Kind) (t : Bool) → or_else o (if t then Some Waits else None) ≡ Some Value → o ≡ Some Value
@@ -71,7 +85,9 @@ hole_step None false e = absurd cc
 
 -- a hole takes no name's number away
 pub covers_hole : (s : Scope) (env : Env) (n : List ℕ) → Covers s env → Covers (with_name s n Waits) env
-covers_hole s env n c = record { there = λ name e. c.there name (hole_step (kind_of s name) (bytes_eq n name) (rw kind_of_more at e)) }
+covers_hole s env n c = record {
+  there = λ name e. c.there name (hole_step (kind_of s name) (bytes_eq n name) (rw kind_of_more at e));
+}
 
 -- a name without fault where a number stands is one of a number
 pub number_there : (at : ℕ) (o : Option Kind) → number_faults at o ≡ [] → o ≡ Some Value
@@ -117,8 +133,10 @@ pub record LetsKnown (s : Scope) (env : Env) (ls : List Let) : Type 0 where
 pub lets_known : (s : Scope) (env : Env) (ls : List Let) → Covers s env → lets_faults s ls ≡ [] → LetsKnown s env ls
 lets_known s env [] c h = record { after = env; is = refl; covers = c }
 lets_known s env (l ∷ ls) c h =
-    let n = none_left (new_faults l.name.offset (kind_of s l.name.text)) (expr_faults s l.value ++ lets_faults (with_name s l.name.text Value) ls) h in
+    let n = none_left (new_faults l.name.offset (kind_of s l.name.text))
+    (expr_faults s l.value ++ lets_faults (with_name s l.name.text Value) ls) h in
     let m = none_left (expr_faults s l.value) (lets_faults (with_name s l.name.text Value) ls) n.1 in
     let v = expr_known s env l.value c m.0 in
-    let r = lets_known (with_name s l.name.text Value) (env ++ (l.name.text, v.value) ∷ []) ls (covers_value s env l.name.text v.value c) m.1 in
+    let r = lets_known (with_name s l.name.text Value) (env ++ (l.name.text, v.value) ∷ []) ls
+    (covers_value s env l.name.text v.value c) m.1 in
     record { after = r.after; is = rw v.is r.is; covers = r.covers }

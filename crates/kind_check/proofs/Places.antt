@@ -17,7 +17,8 @@ pub place_within : (names : List (List ℕ)) (name : List ℕ) (i : ℕ) → pla
 place_within [] name i e = cc
 place_within (n ∷ ns) name i e = at_test (bytes_eq n name) (place_of ns name) (place_within ns name) e
   where
-    at_test : (t : Bool) (o : Option ℕ) → ((j : ℕ) → o ≡ Some j → j < length ns) → (if t then Some 0 else further o) ≡ Some i → i < suc (length ns)
+    at_test : (t : Bool) (o : Option ℕ) → ((j : ℕ) → o ≡ Some j → j < length ns)
+        → (if t then Some 0 else further o) ≡ Some i → i < suc (length ns)
     at_test true o h e = let z : 0 ≡ i = cc in omega arith
     at_test false None h e = absurd cc
     at_test false (Some j) h e =
@@ -39,27 +40,35 @@ thread_at ts None = None
 thread_at ts (Some i) = slice_get ts i
 
 -- the first thread of a name stands at the first place of the name
-pub thread_placed : (ts : List Thread) (name : List ℕ) → thread_named ts name ≡ thread_at ts (place_of (thread_names ts) name)
+pub thread_placed : (ts : List Thread) (name : List ℕ)
+    → thread_named ts name ≡ thread_at ts (place_of (thread_names ts) name)
 thread_placed [] name = refl
-thread_placed (t ∷ ts) name = at_test (bytes_eq t.name.text name) (place_of (thread_names ts) name) (thread_placed ts name)
+thread_placed (t ∷ ts) name = at_test (bytes_eq t.name.text name) (place_of (thread_names ts) name)
+    (thread_placed ts name)
   where
-    at_test : (b : Bool) (o : Option ℕ) → thread_named ts name ≡ thread_at ts o → (if b then Some t else thread_named ts name) ≡ thread_at (t ∷ ts) (if b then Some 0 else further o)
+    at_test : (b : Bool) (o : Option ℕ) → thread_named ts name ≡ thread_at ts o
+        → (if b then Some t else thread_named ts name) ≡ thread_at (t ∷ ts) (if b then Some 0 else further o)
     at_test true o h = refl
     at_test false None h = h
     at_test false (Some j) h = h
 
 -- a name is among the first threads if its first place is one of theirs
-pub thread_among : (ts : List Thread) (name : List ℕ) (i : ℕ) → is_some (thread_named (take i ts) name) ≡ is_below (place_of (thread_names ts) name) i
+pub thread_among : (ts : List Thread) (name : List ℕ) (i : ℕ)
+    → is_some (thread_named (take i ts) name) ≡ is_below (place_of (thread_names ts) name) i
 thread_among [] name zero = refl
 thread_among [] name (suc i) = refl
-thread_among (t ∷ ts) name zero = at_zero (if bytes_eq t.name.text name then Some 0 else further (place_of (thread_names ts) name))
+thread_among (t ∷ ts) name zero = at_zero
+    (if bytes_eq t.name.text name then Some 0 else further (place_of (thread_names ts) name))
   where
     at_zero : (o : Option ℕ) → false ≡ is_below o zero
     at_zero None = refl
     at_zero (Some j) = grind (arith, nat_tests)
-thread_among (t ∷ ts) name (suc i) = at_test (bytes_eq t.name.text name) (place_of (thread_names ts) name) (thread_among ts name i)
+thread_among (t ∷ ts) name (suc i) =
+    at_test (bytes_eq t.name.text name) (place_of (thread_names ts) name) (thread_among ts name i)
   where
-    at_test : (b : Bool) (o : Option ℕ) → is_some (thread_named (take i ts) name) ≡ is_below o i → is_some (if b then Some t else thread_named (take i ts) name) ≡ is_below (if b then Some 0 else further o) (suc i)
+    at_test : (b : Bool) (o : Option ℕ) → is_some (thread_named (take i ts) name) ≡ is_below o i
+        → is_some (if b then Some t else thread_named (take i ts) name)
+        ≡ is_below (if b then Some 0 else further o) (suc i)
     at_test true o h = below_front i
     at_test false None h = h
     at_test false (Some j) h = h ∙ below_next j i
@@ -69,23 +78,29 @@ pub use_placed : (us : List Use) (hole : List ℕ) → is_some (use_of us hole) 
 use_placed [] hole = refl
 use_placed (u ∷ us) hole = at_test (bytes_eq u.hole.text hole) (place_of (hole_names us) hole) (use_placed us hole)
   where
-    at_test : (b : Bool) (o : Option ℕ) → is_some (use_of us hole) ≡ is_some o → is_some (if b then Some u.given else use_of us hole) ≡ is_some (if b then Some 0 else further o)
+    at_test : (b : Bool) (o : Option ℕ) → is_some (use_of us hole) ≡ is_some o
+        → is_some (if b then Some u.given else use_of us hole) ≡ is_some (if b then Some 0 else further o)
     at_test true o h = refl
     at_test false None h = h
     at_test false (Some j) h = h
 
 -- a hole is used among the first uses if its first place is one of theirs
-pub use_among : (us : List Use) (hole : List ℕ) (i : ℕ) → is_some (use_of (take i us) hole) ≡ is_below (place_of (hole_names us) hole) i
+pub use_among : (us : List Use) (hole : List ℕ) (i : ℕ)
+    → is_some (use_of (take i us) hole) ≡ is_below (place_of (hole_names us) hole) i
 use_among [] hole zero = refl
 use_among [] hole (suc i) = refl
-use_among (u ∷ us) hole zero = at_zero (if bytes_eq u.hole.text hole then Some 0 else further (place_of (hole_names us) hole))
+use_among (u ∷ us) hole zero = at_zero
+    (if bytes_eq u.hole.text hole then Some 0 else further (place_of (hole_names us) hole))
   where
     at_zero : (o : Option ℕ) → false ≡ is_below o zero
     at_zero None = refl
     at_zero (Some j) = grind (arith, nat_tests)
-use_among (u ∷ us) hole (suc i) = at_test (bytes_eq u.hole.text hole) (place_of (hole_names us) hole) (use_among us hole i)
+use_among (u ∷ us) hole (suc i) = at_test (bytes_eq u.hole.text hole) (place_of (hole_names us) hole)
+    (use_among us hole i)
   where
-    at_test : (b : Bool) (o : Option ℕ) → is_some (use_of (take i us) hole) ≡ is_below o i → is_some (if b then Some u.given else use_of (take i us) hole) ≡ is_below (if b then Some 0 else further o) (suc i)
+    at_test : (b : Bool) (o : Option ℕ) → is_some (use_of (take i us) hole) ≡ is_below o i
+        → is_some (if b then Some u.given else use_of (take i us) hole)
+        ≡ is_below (if b then Some 0 else further o) (suc i)
     at_test true o h = below_front i
     at_test false None h = h
     at_test false (Some j) h = h ∙ below_next j i
@@ -97,7 +112,8 @@ threads_before [] (suc i) h = absurd (omega arith)
 threads_before (t ∷ ts) (suc i) h = ap suc (threads_before ts i (omega arith))
 
 -- a thread's place is that of a thread
-pub thread_within : (ts : List Thread) (names : List (List ℕ)) (name : List ℕ) (i : ℕ) → names ≡ thread_names ts → Some i ≡ place_of names name → i < length ts
+pub thread_within : (ts : List Thread) (names : List (List ℕ)) (name : List ℕ) (i : ℕ) → names ≡ thread_names ts
+    → Some i ≡ place_of names name → i < length ts
 thread_within ts names name i e f =
     let b = place_within names name i (sym f) in
     omega (arith, length-map ts (λ t. t.name.text), ap length e)
@@ -107,11 +123,14 @@ abbrev pub further_by : ℕ → Option ℕ → Option ℕ
 further_by i None = None
 further_by i (Some j) = Some (i + j)
 
-thread_from_placed : (i : ℕ) (ts : List Thread) (name : List ℕ) → thread_from i ts name ≡ further_by i (place_of (thread_names ts) name)
+thread_from_placed : (i : ℕ) (ts : List Thread) (name : List ℕ)
+    → thread_from i ts name ≡ further_by i (place_of (thread_names ts) name)
 thread_from_placed i [] name = refl
-thread_from_placed i (t ∷ ts) name = at_test (bytes_eq t.name.text name) (place_of (thread_names ts) name) (thread_from_placed (i + 1) ts name)
+thread_from_placed i (t ∷ ts) name =
+    at_test (bytes_eq t.name.text name) (place_of (thread_names ts) name) (thread_from_placed (i + 1) ts name)
   where
-    at_test : (b : Bool) (o : Option ℕ) → thread_from (i + 1) ts name ≡ further_by (i + 1) o → (if b then Some i else thread_from (i + 1) ts name) ≡ further_by i (if b then Some 0 else further o)
+    at_test : (b : Bool) (o : Option ℕ) → thread_from (i + 1) ts name ≡ further_by (i + 1) o
+        → (if b then Some i else thread_from (i + 1) ts name) ≡ further_by i (if b then Some 0 else further o)
     at_test true o h = let e : i ≡ i + 0 = omega arith in ap (λ (k : ℕ). Some k) e
     at_test false None h = h
     at_test false (Some j) h = let e : i + 1 + j ≡ i + suc j = omega arith in rw e at h
@@ -134,19 +153,22 @@ pub given_placed : (us : List Use) (hole : List ℕ) → use_of us hole ≡ give
 given_placed [] hole = refl
 given_placed (u ∷ us) hole = at_test (bytes_eq u.hole.text hole) (place_of (hole_names us) hole) (given_placed us hole)
   where
-    at_test : (b : Bool) (o : Option ℕ) → use_of us hole ≡ given_at us o → (if b then Some u.given else use_of us hole) ≡ given_at (u ∷ us) (if b then Some 0 else further o)
+    at_test : (b : Bool) (o : Option ℕ) → use_of us hole ≡ given_at us o
+        → (if b then Some u.given else use_of us hole) ≡ given_at (u ∷ us) (if b then Some 0 else further o)
     at_test true o h = refl
     at_test false None h = h
     at_test false (Some j) h = h
 
 -- a hole's place is that of a use
-pub use_within : (us : List Use) (names : List (List ℕ)) (hole : List ℕ) (i : ℕ) → names ≡ hole_names us → Some i ≡ place_of names hole → i < length us
+pub use_within : (us : List Use) (names : List (List ℕ)) (hole : List ℕ) (i : ℕ) → names ≡ hole_names us
+    → Some i ≡ place_of names hole → i < length us
 use_within us names hole i e f =
     let b = place_within names hole i (sym f) in
     omega (arith, length-map us (λ u. u.hole.text), ap length e)
 
 -- the use at the first place of a hole, read from the list
-pub given_index : (us : List Use) (hole : List ℕ) (i : ℕ) (d : Use) → i < length us → Some i ≡ place_of (hole_names us) hole → Some (get_or us i d).given ≡ use_of us hole
+pub given_index : (us : List Use) (hole : List ℕ) (i : ℕ) (d : Use) → i < length us
+    → Some i ≡ place_of (hole_names us) hole → Some (get_or us i d).given ≡ use_of us hole
 given_index us hole i d lt e =
     let at : given_at us (Some i) ≡ Some (get_or us i d).given = rw (slice_get-get_or us i d lt) refl in
     let found : use_of us hole ≡ given_at us (Some i) = given_placed us hole ∙ ap (given_at us) (sym e) in

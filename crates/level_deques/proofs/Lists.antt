@@ -4,7 +4,8 @@ use Rattle.std.specs.List.{AllByRecursion, filter}
 use Rattle.std.proofs.lemmas.List.{get_or-reverse, length-reverse}
 
 -- what holds of two lists holds of both in a row, and the other way round
-pub all_both : {X : Type 0} (P : X → Type 0) (xs ys : List X) → AllByRecursion P xs → AllByRecursion P ys → AllByRecursion P (xs ++ ys)
+pub all_both : {X : Type 0} (P : X → Type 0) (xs ys : List X) → AllByRecursion P xs → AllByRecursion P ys
+    → AllByRecursion P (xs ++ ys)
 all_both P [] ys first second = second
 all_both P (x ∷ xs) ys first second = (first.0, all_both P xs ys first.1 second)
 
@@ -16,7 +17,8 @@ pub all_second : {X : Type 0} (P : X → Type 0) (xs ys : List X) → AllByRecur
 all_second P [] ys all = all
 all_second P (x ∷ xs) ys all = all_second P xs ys all.1
 
-pub all_since : {X : Type 0} (P Q : X → Type 0) → ((x : X) → P x → Q x) → (xs : List X) → AllByRecursion P xs → AllByRecursion Q xs
+pub all_since : {X : Type 0} (P Q : X → Type 0) → ((x : X) → P x → Q x) → (xs : List X) → AllByRecursion P xs
+    → AllByRecursion Q xs
 all_since P Q since [] all = tt
 all_since P Q since (x ∷ xs) all = (since x all.0, all_since P Q since xs all.1)
 
@@ -36,7 +38,8 @@ get_some [] i d less = absurd (search arith)
 get_some (x ∷ xs) zero d less = refl
 get_some (x ∷ xs) (suc i) d less = get_some xs i d (search arith)
 
-pub get_reversed : {X : Type 0} (xs : List X) (i : ℕ) → i < length xs → slice_get (reverse xs) i ≡ slice_get xs (length xs - 1 - i)
+pub get_reversed : {X : Type 0} (xs : List X) (i : ℕ) → i < length xs
+    → slice_get (reverse xs) i ≡ slice_get xs (length xs - 1 - i)
 get_reversed [] i less = absurd (search arith)
 get_reversed (x ∷ xs) i less =
     get_some (reverse (x ∷ xs)) i x (let same = length-reverse (x ∷ xs) in omega arith)
@@ -53,6 +56,7 @@ pub filter_shorter : {X : Type 0} (test : X → Bool) (xs : List X) → length (
 filter_shorter test [] = search arith
 filter_shorter test (x ∷ xs) = by_test (filter_shorter test xs) (test x)
   where
-    by_test : length (filter test xs) ≤ length xs → (b : Bool) → length (cond b (x ∷ filter test xs) (filter test xs)) ≤ length (x ∷ xs)
+    by_test : length (filter test xs) ≤ length xs → (b : Bool)
+        → length (cond b (x ∷ filter test xs) (filter test xs)) ≤ length (x ∷ xs)
     by_test rest true = omega arith
     by_test rest false = omega arith

@@ -43,7 +43,9 @@ module _ {T : Type 0} where
   -- an owner that took nothing, and workers that took all that it offered
   pub owner_fits : (o : OwnerOf T) → o.never_empty ≡ 0 → length o.taken ≡ 0 → 0 < o.workers → AllHandedOut o
   owner_fits o none nothing some_worker =
-      let empty : (xs : List T) → length xs ≡ 0 → xs ≡ [] = λ xs. elim xs as (λ l. length l ≡ 0 → l ≡ []) [ [] ↦ λ _. refl | x ∷ rest ↦ λ e. absurd (omega arith) ] in (
+      let empty : (xs : List T) → length xs ≡ 0
+      → xs ≡ [] = λ xs. elim xs as (λ l. length l ≡ 0
+      → l ≡ []) [ [] ↦ λ _. refl | x ∷ rest ↦ λ e. absurd (omega arith) ] in (
         none,
         (o.offered, λ weight. ap (λ l. sum_by weight (l ++ o.offered)) (sym (empty o.taken nothing))),
         λ no_worker. absurd (omega arith),
@@ -51,10 +53,14 @@ module _ {T : Type 0} where
 
 module _ {D S : Type 0} {stamp_of : D → S} where
   -- a pass, and one other with all that others put and took, and more
-  refit : (v : Lane D S) (items left gone : List D) (put taken : List (ℕ × D)) (found : Found stamp_of v items) → v.parts ≡ 1
-      → ((weight : ℕ × D → ℕ) → sum_by weight (numbered (gone ++ left)) ≡ sum_by weight (numbered (found.2.gone ++ items)) + sum_by weight put)
-      → ((weight : ℕ × D → ℕ) → sum_by weight (numbered gone) ≡ sum_by weight (numbered found.2.gone) + sum_by weight taken)
-      → All (has stamp_of found.2.mark) (gone ++ left) → v.never ≢ length left + 1 → Found stamp_of (lane v.never 1 v.put v.taken v.stamp) left
+  refit : (v : Lane D S) (items left gone : List D) (put taken : List (ℕ × D)) (found : Found stamp_of v items)
+      → v.parts ≡ 1
+      → ((weight : ℕ × D → ℕ) → sum_by weight (numbered (gone ++ left))
+      ≡ sum_by weight (numbered (found.2.gone ++ items)) + sum_by weight put)
+      → ((weight : ℕ × D → ℕ) → sum_by weight (numbered gone)
+      ≡ sum_by weight (numbered found.2.gone) + sum_by weight taken)
+      → All (has stamp_of found.2.mark) (gone ++ left) → v.never ≢ length left + 1
+      → Found stamp_of (lane v.never 1 v.put v.taken v.stamp) left
   refit v items left gone put taken found one puts takes alike never =
       let views : List (Lane D S) = found.0 in
       let seat : ℕ = found.1 in
@@ -63,7 +69,8 @@ module _ {D S : Type 0} {stamp_of : D → S} where
       let blank : Lane D S = lane 0 0 [] [] None in
       let rest : List (Lane D S) = set views seat blank in
       let w : Lane D S = lane v.never 1 v.put v.taken v.stamp in
-      let o : Lane D S = lane 0 1024 (flat_map (λ (u : Lane D S). u.put) rest ++ put) (flat_map (λ (u : Lane D S). u.taken) rest ++ taken) v.stamp in
+      let o : Lane D S = lane 0 1024 (flat_map (λ (u : Lane D S). u.put) rest ++ put)
+      (flat_map (λ (u : Lane D S). u.taken) rest ++ taken) v.stamp in
       let mark = kept.known seat v at (omega arith) in (
         w ∷ o ∷ [],
         0,
@@ -106,7 +113,8 @@ module _ {D S : Type 0} {stamp_of : D → S} where
       (λ is. never (omega arith))
 
   -- the other put one turn more
-  pub one_more : (v : Lane D S) (items : List D) (turn : D) → v.parts ≡ 1 → v.stamp ≡ Some (stamp_of turn) → v.never ≢ length items + 2 → Found stamp_of v items
+  pub one_more : (v : Lane D S) (items : List D) (turn : D) → v.parts ≡ 1 → v.stamp ≡ Some (stamp_of turn)
+      → v.never ≢ length items + 2 → Found stamp_of v items
       → Found stamp_of (lane v.never 1 v.put v.taken v.stamp) (items ++ turn ∷ [])
   one_more v items turn one same never found =
       let gone : List D = found.2.gone in
@@ -114,13 +122,16 @@ module _ {D S : Type 0} {stamp_of : D → S} where
       let mark = found.2.known found.1 v found.3 (omega arith) in
       let more = append_assoc gone items (turn ∷ []) in
       refit v items (items ++ turn ∷ []) gone ((length all, turn) ∷ []) [] found one
-      (λ weight. let m = ap (λ l. sum_by weight (numbered l)) more in let next = sum_by-numbered_push weight all turn in omega arith)
+      (λ weight. let m = ap (λ l. sum_by weight (numbered l)) more in let next =
+      sum_by-numbered_push weight all turn in omega arith)
       (λ weight. omega arith)
-      (subst (λ l. All (has stamp_of found.2.mark) l) more (All-push (has stamp_of found.2.mark) all turn found.2.alike (sym same ∙ mark)))
+      (subst (λ l. All (has stamp_of found.2.mark) l) more
+      (All-push (has stamp_of found.2.mark) all turn found.2.alike (sym same ∙ mark)))
       (λ is. never (let long = length-append items (turn ∷ []) in omega arith))
 
   -- the other took all turns that were found, and put others
-  pub others_left : (v : Lane D S) (items left : List D) → v.parts ≡ 1 → All (has stamp_of v.stamp) left → v.never ≢ length left + 1 → Found stamp_of v items
+  pub others_left : (v : Lane D S) (items left : List D) → v.parts ≡ 1 → All (has stamp_of v.stamp) left
+      → v.never ≢ length left + 1 → Found stamp_of v items
       → Found stamp_of (lane v.never 1 v.put v.taken v.stamp) left
   others_left v items left one same never found =
       let gone : List D = found.2.gone in

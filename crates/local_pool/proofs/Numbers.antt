@@ -6,15 +6,18 @@ use Rattle.std.proofs.lemmas.List.Sums.{sum_by-cons, sum_by-append}
 use Rattle.local_pool.specs.Items.{numbered_from, numbered}
 
 module _ {X : Type 0} where
-  pub numbered_from-append : (n : ℕ) (xs ys : List X) → numbered_from n (xs ++ ys) ≡ numbered_from n xs ++ numbered_from (n + length xs) ys
+  pub numbered_from-append : (n : ℕ) (xs ys : List X)
+      → numbered_from n (xs ++ ys) ≡ numbered_from n xs ++ numbered_from (n + length xs) ys
   numbered_from-append n [] ys = ap (λ k. numbered_from k ys) (omega arith)
   numbered_from-append n (x ∷ xs) ys =
       let rest = numbered_from-append (n + 1) xs ys in
-      let more : numbered_from (n + 1 + length xs) ys ≡ numbered_from (n + length (x ∷ xs)) ys = ap (λ k. numbered_from k ys) (omega arith) in
+      let more : numbered_from (n + 1 + length xs) ys ≡ numbered_from (n + length (x ∷ xs)) ys =
+      ap (λ k. numbered_from k ys) (omega arith) in
       ap (λ l. (n, x) ∷ l) (rest ∙ ap (λ l. numbered_from (n + 1) xs ++ l) more)
 
   -- one item more has the next number
-  pub sum_by-numbered_push : (weight : ℕ × X → ℕ) (xs : List X) (x : X) → sum_by weight (numbered (xs ++ x ∷ [])) ≡ sum_by weight (numbered xs) + weight (length xs, x)
+  pub sum_by-numbered_push : (weight : ℕ × X → ℕ) (xs : List X) (x : X)
+      → sum_by weight (numbered (xs ++ x ∷ [])) ≡ sum_by weight (numbered xs) + weight (length xs, x)
   sum_by-numbered_push weight xs x =
       let split = ap (sum_by weight) (numbered_from-append 0 xs (x ∷ [])) in
       let parts = sum_by-append weight (numbered xs) (numbered_from (0 + length xs) (x ∷ [])) in

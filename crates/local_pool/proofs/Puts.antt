@@ -37,8 +37,10 @@ module _ {D S : Type 0} where
   knows mark v = 0 < v.parts → v.stamp ≡ mark
 
   -- what a view has of the numbers is below their count
-  below : (numbers : Lane D S → List (ℕ × D)) (all : List D) (views : List (Lane D S)) (seat : ℕ) (v : Lane D S) → get_elem? views seat ≡ some v
-      → ((weight : ℕ × D → ℕ) → sum_by (λ u. sum_by weight (numbers u)) views ≡ sum_by weight (numbered all)) → AllBelow (length all) (numbers v)
+  below : (numbers : Lane D S → List (ℕ × D)) (all : List D) (views : List (Lane D S)) (seat : ℕ) (v : Lane D S)
+      → get_elem? views seat ≡ some v
+      → ((weight : ℕ × D → ℕ) → sum_by (λ u. sum_by weight (numbers u)) views ≡ sum_by weight (numbered all))
+      → AllBelow (length all) (numbers v)
   below numbers all views seat v at counted =
       let weight : ℕ × D → ℕ = late (length all) in
       let part = le_total (λ u. sum_by weight (numbers u)) views seat v at in
@@ -54,7 +56,8 @@ module _ {D S : Type 0} {stamp_of : D → S} where
       gone = [];
       mark = None;
       parts = refl;
-      act = each-snoc may_act [] (lane 0 1025 [] [] None) (λ i v e. absurd (some-ne-none v (sym e))) (λ _. (refl, refl));
+      act = each-snoc may_act [] (lane 0 1025 [] [] None) (λ i v e. absurd (some-ne-none v (sym e)))
+          (λ _. (refl, refl));
       put = λ weight. refl;
       taken = λ weight. refl;
       known = each-snoc (knows None) [] (lane 0 1025 [] [] None) (λ i v e. absurd (some-ne-none v (sym e))) (λ _. refl);
@@ -64,43 +67,55 @@ module _ {D S : Type 0} {stamp_of : D → S} where
   )
 
   -- a pass with all parts put and took all that was put and taken
-  whole_put : (items : List D) (views : List (Lane D S)) (seat : ℕ) (v : Lane D S) → Queued stamp_of items views → get_elem? views seat ≡ some v → v.parts ≡ 1025 → (weight : ℕ × D → ℕ)
+  whole_put : (items : List D) (views : List (Lane D S)) (seat : ℕ) (v : Lane D S) → Queued stamp_of items views
+      → get_elem? views seat ≡ some v → v.parts ≡ 1025 → (weight : ℕ × D → ℕ)
       → sum_by (λ u. sum_by weight u.put) views ≡ sum_by weight v.put
   whole_put items views seat v kept at whole weight =
       let p = kept.parts in
-      total_alone (λ u. u.parts) (λ u. sum_by weight u.put) views seat v (λ j u there none. ap (sum_by weight) (kept.act j u there none).0) at (omega arith)
+      total_alone (λ u. u.parts) (λ u. sum_by weight u.put) views seat v
+      (λ j u there none. ap (sum_by weight) (kept.act j u there none).0) at (omega arith)
 
-  whole_taken : (items : List D) (views : List (Lane D S)) (seat : ℕ) (v : Lane D S) → Queued stamp_of items views → get_elem? views seat ≡ some v → v.parts ≡ 1025 → (weight : ℕ × D → ℕ)
+  whole_taken : (items : List D) (views : List (Lane D S)) (seat : ℕ) (v : Lane D S) → Queued stamp_of items views
+      → get_elem? views seat ≡ some v → v.parts ≡ 1025 → (weight : ℕ × D → ℕ)
       → sum_by (λ u. sum_by weight u.taken) views ≡ sum_by weight v.taken
   whole_taken items views seat v kept at whole weight =
       let p = kept.parts in
-      total_alone (λ u. u.parts) (λ u. sum_by weight u.taken) views seat v (λ j u there none. ap (sum_by weight) (kept.act j u there none).1) at (omega arith)
+      total_alone (λ u. u.parts) (λ u. sum_by weight u.taken) views seat v
+      (λ j u there none. ap (sum_by weight) (kept.act j u there none).1) at (omega arith)
 
-  whole_lengths : (items : List D) (views : List (Lane D S)) (seat : ℕ) (v : Lane D S) (kept : Queued stamp_of items views) → get_elem? views seat ≡ some v → v.parts ≡ 1025
+  whole_lengths : (items : List D) (views : List (Lane D S)) (seat : ℕ) (v : Lane D S)
+      (kept : Queued stamp_of items views) → get_elem? views seat ≡ some v → v.parts ≡ 1025
       → (length v.taken ≡ length kept.gone) × (length v.put ≡ length kept.gone + length items)
   whole_lengths items views seat v kept at whole =
       let all : List D = kept.gone ++ items in
       let long = length-append kept.gone items in
-      let put = length_same v.put (numbered all) (λ weight. sym (whole_put items views seat v kept at whole weight) ∙ kept.put weight) in
-      let taken = length_same v.taken (numbered kept.gone) (λ weight. sym (whole_taken items views seat v kept at whole weight) ∙ kept.taken weight) in
+      let put = length_same v.put (numbered all) (λ weight. sym (whole_put items views seat v kept at whole weight)
+      ∙ kept.put weight) in
+      let taken = length_same v.taken (numbered kept.gone)
+      (λ weight. sym (whole_taken items views seat v kept at whole weight) ∙ kept.taken weight) in
       let a = length-numbered_from 0 all in
       let b = length-numbered_from 0 kept.gone in
       (omega arith, omega arith)
 
-  next_taken : (items : List D) (views : List (Lane D S)) (seat : ℕ) (v : Lane D S) (kept : Queued stamp_of items views) → get_elem? views seat ≡ some v → v.parts ≡ 1025 → 0 < length items
+  next_taken : (items : List D) (views : List (Lane D S)) (seat : ℕ) (v : Lane D S) (kept : Queued stamp_of items views)
+      → get_elem? views seat ≡ some v → v.parts ≡ 1025 → 0 < length items
       → (length kept.gone ≡ length v.taken) × (length kept.gone < length v.put)
-  next_taken items views seat v kept at whole some_left = let both = whole_lengths items views seat v kept at whole in (omega arith, omega arith)
+  next_taken items views seat v kept at whole some_left = let both =
+      whole_lengths items views seat v kept at whole in (omega arith, omega arith)
 
   -- what a pass with all parts learns: the order of what it took, and how many turns are left
   pub learned : (v : Lane D S) (items : List D) → v.parts ≡ 1025 → Found stamp_of v items
       → ((gone : List D) × SameItems v.taken (numbered gone)) × (length v.put ≡ length v.taken + length items)
   learned v items whole found =
       let kept : Queued stamp_of items found.0 = found.2 in
-      let both = whole_lengths items found.0 found.1 v kept found.3 whole in
-      ((kept.gone, λ weight. sym (whole_taken items found.0 found.1 v kept found.3 whole weight) ∙ kept.taken weight), omega arith)
+      let both = whole_lengths items found.0 found.1 v kept found.3 whole in (
+        (kept.gone, λ weight. sym (whole_taken items found.0 found.1 v kept found.3 whole weight) ∙ kept.taken weight),
+        omega arith,
+      )
 
   -- where none is left, all that was put is taken
-  pub settled : (v : Lane D S) (items : List D) → v.parts ≡ 1025 → length items ≡ 0 → Found stamp_of v items → SameItems v.put v.taken
+  pub settled : (v : Lane D S) (items : List D) → v.parts ≡ 1025 → length items ≡ 0 → Found stamp_of v items
+      → SameItems v.put v.taken
   settled v [] whole none found = λ weight.
       let kept : Queued stamp_of [] found.0 = found.2 in
       let put = whole_put [] found.0 found.1 v kept found.3 whole weight in
@@ -112,16 +127,19 @@ module _ {D S : Type 0} {stamp_of : D → S} where
   settled v (x ∷ xs) whole none found = absurd (omega arith)
 
   -- who has all parts is the only one who has any
-  alone : (items : List D) (views : List (Lane D S)) (seat : ℕ) (v : Lane D S) → Queued stamp_of items views → get_elem? views seat ≡ some v → v.parts ≡ 1025
+  alone : (items : List D) (views : List (Lane D S)) (seat : ℕ) (v : Lane D S) → Queued stamp_of items views
+      → get_elem? views seat ≡ some v → v.parts ≡ 1025
       → (j : ℕ) (u : Lane D S) → j ≢ seat → get_elem? views j ≡ some u → u.parts ≡ 0
   alone items views seat v kept at whole j u apart there =
       let none : Lane D S = lane 0 0 [] [] None in
       let t = total-set (λ (x : Lane D S). x.parts) views seat v none at in
-      let l = le_total (λ (x : Lane D S). x.parts) (set views seat none) j u (set_else views seat j none apart ∙ there) in
+      let l = le_total (λ (x : Lane D S). x.parts) (set views seat none) j u (set_else views seat j none apart
+      ∙ there) in
       let p = kept.parts in
       omega arith
 
-  pub marks : (room seat : ℕ) (v : Lane D S) (turn : D) → v.parts ≡ 1025 → v.stamp ≡ None → fifo.Pushes (Ruled stamp_of) room seat v turn (Marks stamp_of v turn)
+  pub marks : (room seat : ℕ) (v : Lane D S) (turn : D) → v.parts ≡ 1025 → v.stamp ≡ None
+      → fifo.Pushes (Ruled stamp_of) room seat v turn (Marks stamp_of v turn)
   marks room seat v turn whole blank items views _ ruled at =
       let kept : Queued stamp_of items views = ruled.0 in
       let all : List D = kept.gone ++ items in
@@ -144,16 +162,22 @@ module _ {D S : Type 0} {stamp_of : D → S} where
                 let first = ap (λ l. weight (length l, turn)) empty in
                 let p = kept.put weight in
                 omega arith;
-            taken = λ weight. let t = total-set (λ u. sum_by weight u.taken) views seat v w at in let p = kept.taken weight in omega arith;
-            known = λ j u e some_part. ⊎_elim (λ same. ap (λ (x : Lane D S). x.stamp) (sym same.1)) (λ other. absurd (let n = alone items views seat v kept at whole j u other.0 other.1 in omega arith)) (at_set views seat j w u e);
-            alike = subst (λ l. All (has stamp_of mark) l) (append_assoc kept.gone items (turn ∷ [])) (subst (λ l. All (has stamp_of mark) (l ++ turn ∷ [])) (sym empty) (All-push (has stamp_of mark) [] turn (All-nil (has stamp_of mark)) refl));
+            taken = λ weight. let t = total-set (λ u. sum_by weight u.taken) views seat v w at in let p =
+                kept.taken weight in omega arith;
+            known = λ j u e some_part. ⊎_elim (λ same. ap (λ (x : Lane D S). x.stamp) (sym same.1))
+                (λ other. absurd (let n = alone items views seat v kept at whole j u other.0 other.1 in omega arith))
+                (at_set views seat j w u e);
+            alike = subst (λ l. All (has stamp_of mark) l) (append_assoc kept.gone items (turn ∷ []))
+                (subst (λ l. All (has stamp_of mark) (l ++ turn ∷ [])) (sym empty)
+                (All-push (has stamp_of mark) [] turn (All-nil (has stamp_of mark)) refl));
           },
           each-set may_have views seat w ruled.1 (ruled.1 seat v at),
         ),
         refl,
       )
 
-  pub puts : (room seat : ℕ) (v : Lane D S) (turn : D) → 0 < v.parts → v.stamp ≡ Some (stamp_of turn) → fifo.Pushes (Ruled stamp_of) room seat v turn (Puts v turn)
+  pub puts : (room seat : ℕ) (v : Lane D S) (turn : D) → 0 < v.parts → v.stamp ≡ Some (stamp_of turn)
+      → fifo.Pushes (Ruled stamp_of) room seat v turn (Puts v turn)
   puts room seat v turn some_part same items views _ ruled at =
       let kept : Queued stamp_of items views = ruled.0 in
       let all : List D = kept.gone ++ items in
@@ -174,9 +198,11 @@ module _ {D S : Type 0} {stamp_of : D → S} where
                 let next = sum_by-numbered_push weight all turn in
                 let p = kept.put weight in
                 omega arith;
-            taken = λ weight. let t = total-set (λ u. sum_by weight u.taken) views seat v w at in let p = kept.taken weight in omega arith;
+            taken = λ weight. let t = total-set (λ u. sum_by weight u.taken) views seat v w at in let p =
+                kept.taken weight in omega arith;
             known = each-set (knows kept.mark) views seat w kept.known (λ _. mark);
-            alike = subst (λ l. All (has stamp_of kept.mark) l) (append_assoc kept.gone items (turn ∷ [])) (All-push (has stamp_of kept.mark) all turn kept.alike (sym same ∙ mark));
+            alike = subst (λ l. All (has stamp_of kept.mark) l) (append_assoc kept.gone items (turn ∷ []))
+                (All-push (has stamp_of kept.mark) all turn kept.alike (sym same ∙ mark));
           },
           each-set may_have views seat w ruled.1 (ruled.1 seat v at),
         ),
@@ -209,39 +235,59 @@ module _ {D S : Type 0} {stamp_of : D → S} where
                 let p = kept.taken weight in
                 omega arith;
             known = each-set (knows kept.mark) views seat w kept.known (λ _. mark);
-            alike = subst (λ l. All (has stamp_of kept.mark) l) (sym (append_assoc kept.gone (turn ∷ []) items)) kept.alike;
+            alike = subst (λ l. All (has stamp_of kept.mark) l)
+                (sym (append_assoc kept.gone (turn ∷ []) items)) kept.alike;
           },
           each-set may_have views seat w ruled.1 (ruled.1 seat v at),
         ),
-        (n, refl, below (λ u. u.taken) kept.gone views seat v at kept.taken, λ whole. next_taken (turn ∷ items) views seat v kept at whole (omega arith), mark ∙ sym is),
+        (
+          n,
+          refl,
+          below (λ u. u.taken) kept.gone views seat v at kept.taken,
+          λ whole. next_taken (turn ∷ items) views seat v kept at whole (omega arith),
+          mark ∙ sym is,
+        ),
       )
 
   pub finds : (seat : ℕ) (v : Lane D S) → fifo.Learns (Ruled stamp_of) seat v (Found stamp_of v)
-  finds seat v items views ruled at = (views, seat, ruled.0, at, λ never. let none = ruled.1 seat v at in absurd (omega arith))
+  finds seat v items views ruled at = (
+    views,
+    seat,
+    ruled.0,
+    at,
+    λ never. let none =
+        ruled.1 seat v at in absurd (omega arith),
+  )
 
-  pub deals : (seat : ℕ) (v : Lane D S) → 1 < v.parts → fifo.Forks (Ruled stamp_of) seat v (lane v.never (v.parts - 1) v.put v.taken v.stamp) (lane v.never 1 [] [] v.stamp)
+  pub deals : (seat : ℕ) (v : Lane D S) → 1 < v.parts
+      → fifo.Forks (Ruled stamp_of) seat v (lane v.never (v.parts - 1) v.put v.taken v.stamp)
+      (lane v.never 1 [] [] v.stamp)
   deals seat v parts items views ruled at =
       let kept : Queued stamp_of items views = ruled.0 in
       let l : Lane D S = lane v.never (v.parts - 1) v.put v.taken v.stamp in
       let r : Lane D S = lane v.never 1 [] [] v.stamp in
       let mark = kept.known seat v at (omega arith) in
       let less : List (Lane D S) = set views seat l in
-      let step : (f : Lane D S → ℕ) → sum_by f (less ++ r ∷ []) + f v ≡ sum_by f views + f l + f r = λ f. let t = total-set f views seat v l at in let u = total-snoc f less r in omega arith in (
+      let step : (f : Lane D S → ℕ) → sum_by f (less ++ r ∷ []) + f v ≡ sum_by f views + f l + f r = λ f. let t =
+      total-set f views seat v l at in let u = total-snoc f less r in omega arith in (
         record {
           gone = kept.gone;
           mark = kept.mark;
           parts = (let t = step (λ u. u.parts) in let p = kept.parts in omega arith);
-          act = each-snoc may_act less r (each-set may_act views seat l kept.act (λ none. absurd (omega arith))) (λ _. (refl, refl));
+          act = each-snoc may_act less r (each-set may_act views seat l kept.act (λ none. absurd (omega arith)))
+              (λ _. (refl, refl));
           put = λ weight. let t = step (λ u. sum_by weight u.put) in let p = kept.put weight in omega arith;
           taken = λ weight. let t = step (λ u. sum_by weight u.taken) in let p = kept.taken weight in omega arith;
-          known = each-snoc (knows kept.mark) less r (each-set (knows kept.mark) views seat l kept.known (λ _. mark)) (λ _. mark);
+          known = each-snoc (knows kept.mark) less r (each-set (knows kept.mark) views seat l kept.known (λ _. mark))
+              (λ _. mark);
           alike = kept.alike;
         },
         each-snoc may_have less r (each-set may_have views seat l ruled.1 (ruled.1 seat v at)) (ruled.1 seat v at),
       )
 
   pub gathers : (seat : ℕ) (v : Lane D S) (other : ℕ) (w : Lane D S) → 0 < v.parts
-      → fifo.Merges (Ruled stamp_of) seat v other w (lane v.never (v.parts + w.parts) (v.put ++ w.put) (v.taken ++ w.taken) v.stamp) (lane 0 0 [] [] None)
+      → fifo.Merges (Ruled stamp_of) seat v other w
+      (lane v.never (v.parts + w.parts) (v.put ++ w.put) (v.taken ++ w.taken) v.stamp) (lane 0 0 [] [] None)
   gathers seat v other w some_part items views ruled at apart there =
       let kept : Queued stamp_of items views = ruled.0 in
       let all : Lane D S = lane v.never (v.parts + w.parts) (v.put ++ w.put) (v.taken ++ w.taken) v.stamp in
@@ -260,9 +306,13 @@ module _ {D S : Type 0} {stamp_of : D → S} where
               let b = kept.act other w was (omega arith) in
               (both_empty v.put w.put a.0 b.0, both_empty v.taken w.taken a.1 b.1)))
               (λ _. (refl, refl));
-          put = λ weight. let t = step (λ u. sum_by weight u.put) in let a = sum_by-append weight v.put w.put in let p = kept.put weight in omega arith;
-          taken = λ weight. let t = step (λ u. sum_by weight u.taken) in let a = sum_by-append weight v.taken w.taken in let p = kept.taken weight in omega arith;
-          known = each-set (knows kept.mark) more other spent (each-set (knows kept.mark) views seat all kept.known (λ _. kept.known seat v at some_part)) (λ some_part. absurd (omega arith));
+          put = λ weight. let t = step (λ u. sum_by weight u.put) in let a = sum_by-append weight v.put w.put in let p =
+              kept.put weight in omega arith;
+          taken = λ weight. let t = step (λ u. sum_by weight u.taken) in let a =
+              sum_by-append weight v.taken w.taken in let p = kept.taken weight in omega arith;
+          known = each-set (knows kept.mark) more other spent
+              (each-set (knows kept.mark) views seat all kept.known (λ _. kept.known seat v at some_part))
+              (λ some_part. absurd (omega arith));
           alike = kept.alike;
         },
         each-set may_have more other spent (each-set may_have views seat all ruled.1 (ruled.1 seat v at)) refl,

@@ -73,7 +73,8 @@ part_lawful pieces number = listed_lawful 4 (allows_part pieces number) raw wide
 pub grant_lawful : Lawful grant
 unfolding grant
 grant_lawful =
-    made_lawful (followed actor (λ minter. counted)) (λ p. record { minter = p.0; number = p.1 }) (λ g. (g.minter, g.number))
+    made_lawful (followed actor (λ minter. counted)) (λ p. record { minter = p.0; number = p.1 })
+    (λ g. (g.minter, g.number))
     (followed_lawful actor (λ minter. counted) actor_lawful (λ minter. counted_lawful))
     (λ g. refl)
     (λ from to p s. refl)
@@ -90,7 +91,8 @@ steps_lawful = listed_lawful 2 (at_most 1024) (plain step) wide2 (plain_lawful s
 
 pub place_lawful : Lawful place
 unfolding place
-place_lawful = made_lawful steps reverse reverse steps_lawful (λ xs. reverse-reverse xs) (λ from to xs s. reverse-reverse xs)
+place_lawful = made_lawful steps reverse reverse steps_lawful (λ xs. reverse-reverse xs)
+    (λ from to xs s. reverse-reverse xs)
 
 pub thread_lawful : Lawful thread
 unfolding thread
@@ -123,11 +125,15 @@ signed_lawful = record {
       let b = bind_ok ((number 8).read from) (λ x. Ok (cast_signed w64 x.0, x.1)) (z, to) e in
       let s = (number_lawful 8 wide8).found from b.0.1 b.0.0 bytes b.1 in
       let read : ℤ × List ℕ = (cast_signed w64 b.0.0, b.0.1) in
-      let spelled : from ≡ big_bytes 8 (cast_unsigned w64 (cast_signed w64 b.0.0)) ++ b.0.1 = s.0.1 ∙ ap (λ (x : ℕ). big_bytes 8 x ++ b.0.1) (sym (bits_back b.0.0 s.0.0)) in
-      subst (λ (q : ℤ × List ℕ). ((is_word q.0 ≡ true) × (from ≡ big_bytes 8 (cast_unsigned w64 q.0) ++ q.1)) × IsBytes q.1) (ok_is read (z, to) b.2) ((is_word_signed b.0.0 s.0.0, spelled), s.1);
+      let spelled : from ≡ big_bytes 8 (cast_unsigned w64 (cast_signed w64 b.0.0)) ++ b.0.1 =
+      s.0.1 ∙ ap (λ (x : ℕ). big_bytes 8 x ++ b.0.1) (sym (bits_back b.0.0 s.0.0)) in
+      subst (λ (q : ℤ × List ℕ). ((is_word q.0 ≡ true) × (from ≡ big_bytes 8 (cast_unsigned w64 q.0) ++ q.1))
+      × IsBytes q.1) (ok_is read (z, to) b.2) ((is_word_signed b.0.0 s.0.0, spelled), s.1);
   only = λ from to z s.
-      let number_read : (number 8).read from ≡ Ok (cast_unsigned w64 z, to) = ap (number 8).read s.1 ∙ number_again 8 wide8 (cast_unsigned w64 z) to (bits_fit z s.0) in
-      ap (λ (r : Result (ℕ × List ℕ) _). r >>= λ x. Ok (cast_signed w64 x.0, x.1)) number_read ∙ ap (λ (v : ℤ). Ok (v, to)) (to_z-of_z w64 z (fits_signed z s.0));
+      let number_read : (number 8).read from ≡ Ok (cast_unsigned w64 z, to) =
+      ap (number 8).read s.1 ∙ number_again 8 wide8 (cast_unsigned w64 z) to (bits_fit z s.0) in
+      ap (λ (r : Result (ℕ × List ℕ) _). r >>= λ x. Ok (cast_signed w64 x.0, x.1)) number_read
+      ∙ ap (λ (v : ℤ). Ok (v, to)) (to_z-of_z w64 z (fits_signed z s.0));
   one = λ from to z s. s.1;
   writes = λ z to f. (f, refl);
   fit = λ from to z s. s.0;
@@ -135,7 +141,8 @@ signed_lawful = record {
 
 pub numbers_lawful : Lawful numbers
 unfolding numbers
-numbers_lawful = listed_lawful 1 (at_most 8) (plain signed) wide1 (plain_lawful signed signed_lawful) (plain_length signed)
+numbers_lawful = listed_lawful 1 (at_most 8) (plain signed) wide1 (plain_lawful signed signed_lawful)
+    (plain_length signed)
 
 pub task_lawful : Lawful task
 unfolding task
@@ -143,7 +150,8 @@ task_lawful =
     made_lawful (followed place (λ _. followed thread (λ _. numbers)))
     (λ x. record { place = x.0; thread = x.1.0; numbers = x.1.1 })
     (λ t. (t.place, (t.thread, t.numbers)))
-    (followed_lawful place (λ _. followed thread (λ _. numbers)) place_lawful (λ _. followed_lawful thread (λ _. numbers) thread_lawful (λ _. numbers_lawful)))
+    (followed_lawful place (λ _. followed thread (λ _. numbers)) place_lawful
+    (λ _. followed_lawful thread (λ _. numbers) thread_lawful (λ _. numbers_lawful)))
     (λ t. refl)
     (λ from to x s. refl)
 
@@ -163,7 +171,8 @@ outcome_arm_lawful (suc zero) = variant_lawful signed Value value_in signed_lawf
 outcome_arm_lawful (suc (suc zero)) = nothing_lawful TooDeep is_too_deep refl too_deep_is
 outcome_arm_lawful (suc (suc (suc n))) = never_lawful Field
 
-pub outcome_tags : (tag : ℕ) (from to : List ℕ) (o : Outcome) → (outcome_arm tag).Spelled from to o → tag_of_outcome o ≡ tag
+pub outcome_tags : (tag : ℕ) (from to : List ℕ) (o : Outcome) → (outcome_arm tag).Spelled from to o
+    → tag_of_outcome o ≡ tag
 outcome_tags zero from to o s = absurd s
 outcome_tags (suc zero) from to o s = ap tag_of_outcome (sym s.2)
 outcome_tags (suc (suc zero)) from to o s = ap tag_of_outcome s.1
@@ -171,7 +180,8 @@ outcome_tags (suc (suc (suc n))) from to o s = absurd s
 
 pub outcome_lawful : Lawful outcome
 unfolding outcome
-outcome_lawful = chosen_lawful (number 1) outcome_arm tag_of_outcome (number_lawful 1 wide1) outcome_arm_lawful outcome_tags
+outcome_lawful = chosen_lawful (number 1) outcome_arm tag_of_outcome
+    (number_lawful 1 wide1) outcome_arm_lawful outcome_tags
 
 -- ---- how far a subcomputation is
 
@@ -185,15 +195,18 @@ active_is (Finished o) e = absurd cc
 
 progress_arm_lawful : (tag : ℕ) → Lawful (progress_arm tag)
 progress_arm_lawful zero = nothing_lawful Active is_active refl active_is
-progress_arm_lawful (suc tag) = variant_lawful (outcome_arm (suc tag)) Finished outcome_in (outcome_arm_lawful (suc tag)) (λ o. refl) finished_is
+progress_arm_lawful (suc tag) = variant_lawful
+    (outcome_arm (suc tag)) Finished outcome_in (outcome_arm_lawful (suc tag)) (λ o. refl) finished_is
 
-progress_tags : (tag : ℕ) (from to : List ℕ) (p : Progress) → (progress_arm tag).Spelled from to p → tag_of_progress p ≡ tag
+progress_tags : (tag : ℕ) (from to : List ℕ) (p : Progress) → (progress_arm tag).Spelled from to p
+    → tag_of_progress p ≡ tag
 progress_tags zero from to p s = ap tag_of_progress s.1
 progress_tags (suc tag) from to p s = ap tag_of_progress (sym s.2) ∙ outcome_tags (suc tag) from to s.0 s.1
 
 pub progress_lawful : Lawful progress
 unfolding progress
-progress_lawful = chosen_lawful (number 1) progress_arm tag_of_progress (number_lawful 1 wide1) progress_arm_lawful progress_tags
+progress_lawful = chosen_lawful (number 1) progress_arm tag_of_progress
+    (number_lawful 1 wide1) progress_arm_lawful progress_tags
 
 -- ---- slots
 
@@ -236,19 +249,22 @@ return_arm_lawful : (next tag : ℕ) → Lawful (return_arm next tag)
 return_arm_lawful next zero = nothing_lawful Whole is_whole refl whole_is
 return_arm_lawful next (suc zero) =
     variant_lawful (followed (below next) (λ f. checked (number 1) (λ s. ltb s 8))) (λ p. Local p.0 p.1) local_in
-    (followed_lawful (below next) (λ f. checked (number 1) (λ s. ltb s 8)) (below_lawful next) (λ f. checked_lawful (number 1) (λ s. ltb s 8) (number_lawful 1 wide1)))
+    (followed_lawful (below next) (λ f. checked (number 1) (λ s. ltb s 8)) (below_lawful next)
+    (λ f. checked_lawful (number 1) (λ s. ltb s 8) (number_lawful 1 wide1)))
     (λ p. refl)
     local_is
 return_arm_lawful next (suc (suc n)) = never_lawful Field
 
-return_tags : (next tag : ℕ) (from to : List ℕ) (r : Return) → (return_arm next tag).Spelled from to r → tag_of_return r ≡ tag
+return_tags : (next tag : ℕ) (from to : List ℕ) (r : Return) → (return_arm next tag).Spelled from to r
+    → tag_of_return r ≡ tag
 return_tags next zero from to r s = ap tag_of_return s.1
 return_tags next (suc zero) from to r s = ap tag_of_return (sym s.2)
 return_tags next (suc (suc n)) from to r s = absurd s
 
 pub goes_to_lawful : (next : ℕ) → Lawful (goes_to next)
 unfolding goes_to
-goes_to_lawful next = chosen_lawful (number 1) (return_arm next) tag_of_return (number_lawful 1 wide1) (return_arm_lawful next) (return_tags next)
+goes_to_lawful next = chosen_lawful (number 1) (return_arm next) tag_of_return (number_lawful 1 wide1)
+    (return_arm_lawful next) (return_tags next)
 
 -- ---- members
 
@@ -270,10 +286,12 @@ dead_is (Left heir) e = absurd cc
 status_arm_lawful : (own tag : ℕ) → Lawful (status_arm own tag)
 status_arm_lawful own zero = nothing_lawful Live is_live refl live_is
 status_arm_lawful own (suc zero) = nothing_lawful Dead is_dead refl dead_is
-status_arm_lawful own (suc (suc zero)) = variant_lawful (other_worker own) Left heir_in (other_worker_lawful own) (λ heir. refl) heir_is
+status_arm_lawful own (suc (suc zero)) =
+    variant_lawful (other_worker own) Left heir_in (other_worker_lawful own) (λ heir. refl) heir_is
 status_arm_lawful own (suc (suc (suc n))) = never_lawful Field
 
-status_tags : (own tag : ℕ) (from to : List ℕ) (t : Status) → (status_arm own tag).Spelled from to t → tag_of_status t ≡ tag
+status_tags : (own tag : ℕ) (from to : List ℕ) (t : Status) → (status_arm own tag).Spelled from to t
+    → tag_of_status t ≡ tag
 status_tags own zero from to t s = ap tag_of_status s.1
 status_tags own (suc zero) from to t s = ap tag_of_status s.1
 status_tags own (suc (suc zero)) from to t s = ap tag_of_status (sym s.2)
@@ -281,19 +299,23 @@ status_tags own (suc (suc (suc n))) from to t s = absurd s
 
 pub status_lawful : (own : ℕ) → Lawful (status own)
 unfolding status
-status_lawful own = chosen_lawful (number 1) (status_arm own) tag_of_status (number_lawful 1 wide1) (status_arm_lawful own) (status_tags own)
+status_lawful own = chosen_lawful (number 1) (status_arm own) tag_of_status (number_lawful 1 wide1)
+    (status_arm_lawful own) (status_tags own)
 
 pub member_lawful : (last : Option ℕ) → Lawful (member last)
 unfolding member
 member_lawful last =
-    made_lawful (followed (checked worker (is_above last)) status) (λ x. record { incarnation = x.0; status = x.1 }) (λ m. (m.incarnation, m.status))
-    (followed_lawful (checked worker (is_above last)) status (checked_lawful worker (is_above last) worker_lawful) status_lawful)
+    made_lawful (followed (checked worker (is_above last)) status) (λ x. record { incarnation = x.0; status = x.1 })
+    (λ m. (m.incarnation, m.status))
+    (followed_lawful (checked worker (is_above last)) status
+    (checked_lawful worker (is_above last) worker_lawful) status_lawful)
     (λ m. refl)
     (λ from to x s. refl)
 
 pub members_lawful : Lawful members
 unfolding members
-members_lawful = listed_lawful 2 (at_most 4096) (items name_of_member member None) wide2 (items_lawful name_of_member member member_lawful None) (items_length name_of_member member None)
+members_lawful = listed_lawful 2 (at_most 4096) (items name_of_member member None) wide2
+    (items_lawful name_of_member member member_lawful None) (items_length name_of_member member None)
 
 -- ---- frames
 
@@ -314,14 +336,17 @@ frame_lawful next last =
     made_lawful (followed (checked (below next) (is_above last)) (λ _. frame_rest next))
     (λ x. record { number = x.0; place = x.1.0; thread = x.1.1.0; slots = x.1.1.1.0; returns = x.1.1.1.1 })
     (λ f. (f.number, (f.place, (f.thread, (f.slots, f.returns)))))
-    (followed_lawful (checked (below next) (is_above last)) (λ _. frame_rest next) (checked_lawful (below next) (is_above last) (below_lawful next)) (λ _. frame_rest_lawful next))
+    (followed_lawful (checked (below next) (is_above last)) (λ _. frame_rest next)
+    (checked_lawful (below next) (is_above last) (below_lawful next)) (λ _. frame_rest_lawful next))
     (λ f. refl)
     (λ from to x s. refl)
 
 pub frames_lawful : (progress : Progress) (next : ℕ) → Lawful (frames progress next)
 unfolding frames
 frames_lawful progress next =
-    listed_lawful 4 (allows progress) (items number_of_frame (frame next) None) wide4 (items_lawful number_of_frame (frame next) (frame_lawful next) None) (items_length number_of_frame (frame next) None)
+    listed_lawful 4 (allows progress) (items number_of_frame (frame next) None) wide4
+    (items_lawful number_of_frame (frame next) (frame_lawful next) None)
+    (items_length number_of_frame (frame next) None)
 
 -- ---- records
 
@@ -342,14 +367,17 @@ stolen_lawful next last =
     made_lawful (followed (checked grant (is_behind last)) (λ _. record_rest next))
     (λ x. record { grant = x.0; holder = x.1.0; frame = x.1.1.0; task = x.1.1.1.0; returns = x.1.1.1.1 })
     (λ r. (r.grant, (r.holder, (r.frame, (r.task, r.returns)))))
-    (followed_lawful (checked grant (is_behind last)) (λ _. record_rest next) (checked_lawful grant (is_behind last) grant_lawful) (λ _. record_rest_lawful next))
+    (followed_lawful (checked grant (is_behind last)) (λ _. record_rest next)
+    (checked_lawful grant (is_behind last) grant_lawful) (λ _. record_rest_lawful next))
     (λ r. refl)
     (λ from to x s. refl)
 
 pub records_lawful : (progress : Progress) (next : ℕ) → Lawful (records progress next)
 unfolding records
 records_lawful progress next =
-    listed_lawful 4 (allows progress) (items grant_of_record (stolen next) None) wide4 (items_lawful grant_of_record (stolen next) (stolen_lawful next) None) (items_length grant_of_record (stolen next) None)
+    listed_lawful 4 (allows progress) (items grant_of_record (stolen next) None) wide4
+    (items_lawful grant_of_record (stolen next) (stolen_lawful next) None)
+    (items_length grant_of_record (stolen next) None)
 
 -- ---- saved values
 
@@ -357,20 +385,25 @@ pub saved_place_lawful : Lawful saved_place
 unfolding saved_place
 saved_place_lawful =
     checked_lawful (made (listed 2 (λ n. ltb 0 n && ltb n 24) (plain step)) reverse reverse) is_saved_place
-    (made_lawful (listed 2 (λ n. ltb 0 n && ltb n 24) (plain step)) reverse reverse (listed_lawful 2 (λ n. ltb 0 n && ltb n 24) (plain step) wide2 (plain_lawful step step_lawful) (plain_length step)) (λ xs. reverse-reverse xs) (λ from to xs s. reverse-reverse xs))
+    (made_lawful (listed 2 (λ n. ltb 0 n && ltb n 24) (plain step)) reverse reverse
+    (listed_lawful 2 (λ n. ltb 0 n && ltb n 24) (plain step) wide2 (plain_lawful step step_lawful)
+    (plain_length step)) (λ xs. reverse-reverse xs) (λ from to xs s. reverse-reverse xs))
 
 pub saved_value_lawful : (last : Option (List ℕ)) → Lawful (saved_value last)
 unfolding saved_value
 saved_value_lawful last =
-    made_lawful (followed (checked saved_place (is_later last)) (λ _. signed)) (λ x. record { place = x.0; value = x.1 }) (λ s. (s.place, s.value))
-    (followed_lawful (checked saved_place (is_later last)) (λ _. signed) (checked_lawful saved_place (is_later last) saved_place_lawful) (λ _. signed_lawful))
+    made_lawful (followed (checked saved_place (is_later last)) (λ _. signed))
+    (λ x. record { place = x.0; value = x.1 }) (λ s. (s.place, s.value))
+    (followed_lawful (checked saved_place (is_later last)) (λ _. signed)
+    (checked_lawful saved_place (is_later last) saved_place_lawful) (λ _. signed_lawful))
     (λ s. refl)
     (λ from to x s. refl)
 
 pub saved_values_lawful : Lawful saved_values
 unfolding saved_values
 saved_values_lawful =
-    listed_lawful 1 (λ n. ltb 0 n && leb n 64) (items place_of saved_value None) wide1 (items_lawful place_of saved_value saved_value_lawful None) (items_length place_of saved_value None)
+    listed_lawful 1 (λ n. ltb 0 n && leb n 64) (items place_of saved_value None) wide1
+    (items_lawful place_of saved_value saved_value_lawful None) (items_length place_of saved_value None)
 
 pub no_values_lawful : Lawful no_values
 unfolding no_values

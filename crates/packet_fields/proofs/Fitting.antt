@@ -15,7 +15,8 @@ use Rattle.packet_fields.specs.Format.{Format, items, of_part, plain}
 use Rattle.packet_fields.specs.Fields.{member, members, name_of_member, numbers, outcome, outcome_in, place, progress, signed, slot, slots, step, steps}
 
 -- a test that a count is below a limit says nothing beside a smaller bound
-pub bound_alone : (count limit most : ℕ) (others : Bool) → most < limit → ((nat_lt count limit && nat_le count most) && others) ≡ (nat_le count most && others)
+pub bound_alone : (count limit most : ℕ) (others : Bool) → most < limit
+    → ((nat_lt count limit && nat_le count most) && others) ≡ (nat_le count most && others)
 bound_alone count limit most others wide = grind arith
 
 pub plain_fits : {X : Type 0} (F : Format X) (xs : List X) → (plain F (length xs)).fits xs ≡ list_all F.fits xs
@@ -24,15 +25,19 @@ plain_fits F (x ∷ xs) = ap (λ (b : Bool). F.fits x && b) (plain_fits F xs)
 
 pub numbers_fits : (xs : List ℤ) → numbers.fits xs ≡ (nat_le (length xs) 8 && list_all signed.fits xs)
 unfolding numbers
-numbers_fits xs = bound_alone (length xs) 256 8 ((plain signed (length xs)).fits xs) (omega arith) ∙ ap (λ (b : Bool). nat_le (length xs) 8 && b) (plain_fits signed xs)
+numbers_fits xs = bound_alone (length xs) 256 8 ((plain signed (length xs)).fits xs) (omega arith)
+    ∙ ap (λ (b : Bool). nat_le (length xs) 8 && b) (plain_fits signed xs)
 
 pub slots_fits : (xs : List (Option ℤ)) → slots.fits xs ≡ (nat_le (length xs) 8 && list_all slot.fits xs)
 unfolding slots
-slots_fits xs = bound_alone (length xs) 256 8 ((plain slot (length xs)).fits xs) (omega arith) ∙ ap (λ (b : Bool). nat_le (length xs) 8 && b) (plain_fits slot xs)
+slots_fits xs = bound_alone (length xs) 256 8 ((plain slot (length xs)).fits xs) (omega arith)
+    ∙ ap (λ (b : Bool). nat_le (length xs) 8 && b) (plain_fits slot xs)
 
-pub members_fits : (xs : List Member) → members.fits xs ≡ (nat_le (length xs) 4096 && (items name_of_member member None (length xs)).fits xs)
+pub members_fits : (xs : List Member)
+    → members.fits xs ≡ (nat_le (length xs) 4096 && (items name_of_member member None (length xs)).fits xs)
 unfolding members
-members_fits xs = bound_alone (length xs) 65536 4096 ((items name_of_member member None (length xs)).fits xs) (omega arith)
+members_fits xs = bound_alone (length xs) 65536 4096 ((items name_of_member member None (length xs)).fits xs)
+    (omega arith)
 
 steps_fit : (xs : List ℕ) → All (λ s. s < 9) xs → list_all step.fits xs ≡ true
 unfolding step
@@ -46,7 +51,11 @@ unfolding place steps
 place_fits p is_place =
     let xs = reverse p in
     bound_alone (length xs) 65536 1024 ((plain step (length xs)).fits xs) (omega arith)
-    ∙ rw (le-leb (length xs) 1024 (omega (arith, length-reverse p, is_place.short)), plain_fits step xs, steps_fit xs (All-reverse (λ s. s < 9) p is_place.steps)) refl
+    ∙ rw (
+      le-leb (length xs) 1024 (omega (arith, length-reverse p, is_place.short)),
+      plain_fits step xs,
+      steps_fit xs (All-reverse (λ s. s < 9) p is_place.steps),
+    ) refl
 
 pub progress_fits : (p : Progress) → progress.fits p ≡ of_part true outcome.fits (outcome_in p)
 unfolding progress outcome

@@ -34,7 +34,8 @@ pub ok_is : {A : Type 0} (x y : A) → done x ≡ done y → x ≡ y
 ok_is x y e = cc
 
 -- the value of a step
-pub bind_ok : {A B : Type 0} (r : Result A Fault) (f : A → Result B Fault) (y : B) → (r >>= f) ≡ Ok y → (x : A) × (r ≡ Ok x) × (f x ≡ Ok y)
+pub bind_ok : {A B : Type 0} (r : Result A Fault) (f : A → Result B Fault) (y : B) → (r >>= f) ≡ Ok y
+    → (x : A) × (r ≡ Ok x) × (f x ≡ Ok y)
 bind_ok (Ok x) f y e = (x, refl, e)
 bind_ok (Err d) f y e = absurd cc
 
@@ -70,7 +71,8 @@ pub record IsWide (n : ℕ) : Type 0 where
   pub below : (bytes : List ℕ) → IsBytes bytes → big_number n bytes < 256 ^ n
   pub len : (x : ℕ) → length (big_bytes n x) ≡ n
 
-wide_of : (n : ℕ) → ((bytes : List ℕ) → IsBytes bytes → length bytes ≡ n → big_bytes n (big_number n bytes) ≡ bytes) → IsWide n
+wide_of : (n : ℕ) → ((bytes : List ℕ) → IsBytes bytes → length bytes ≡ n → big_bytes n (big_number n bytes) ≡ bytes)
+    → IsWide n
 wide_of n h = record {
   back = λ bytes fits long.
       let same : big_number n (take n bytes) ≡ big_number n bytes = big_from-take 0 n n bytes (omega arith) in
@@ -100,10 +102,12 @@ wide4 = wide_of 4 (λ bytes fits e. be_bytes_4 bytes (big_number 4 bytes) e fits
 pub wide8 : IsWide 8
 wide8 = wide_of 8 (λ bytes fits e. be_bytes_8 bytes (big_number 8 bytes) e fits (omega arith))
 
-pub number_again : (n : ℕ) → IsWide n → (x : ℕ) (rest : List ℕ) → x < 256 ^ n → (number n).read (big_bytes n x ++ rest) ≡ Ok (x, rest)
+pub number_again : (n : ℕ) → IsWide n → (x : ℕ) (rest : List ℕ) → x < 256 ^ n
+    → (number n).read (big_bytes n x ++ rest) ≡ Ok (x, rest)
 number_again n wide x rest lt =
     let len = wide.len x in
-    let long : ltb (length (big_bytes n x ++ rest)) n ≡ false = le-ltb _ _ (omega (arith, length-append (big_bytes n x) rest)) in
+    let long : ltb (length (big_bytes n x ++ rest)) n ≡ false =
+    le-ltb _ _ (omega (arith, length-append (big_bytes n x) rest)) in
     rw (long, wide.again x rest lt, drop_at (big_bytes n x) rest n len) refl
 
 pub number_lawful : (n : ℕ) → IsWide n → Lawful (number n)
@@ -111,8 +115,10 @@ number_lawful n wide = record {
   found = λ from to x bytes e.
       let g = guard_ok (ltb (length from) n) Short (big_number n from, drop n from) (x, to) e in
       let long : n ≤ length from = ltb-false _ _ g.0 in
-      let parts : from ≡ big_bytes n (big_number n from) ++ drop n from = sym (take-append-drop n from) ∙ ap (λ (r : List ℕ). r ++ drop n from) (sym (wide.back from bytes long)) in
-      subst (λ (q : ℕ × List ℕ). ((q.0 < 256 ^ n) × (from ≡ big_bytes n q.0 ++ q.1)) × IsBytes q.1) g.1 ((wide.below from bytes, parts), IsBytes-drop n from bytes);
+      let parts : from ≡ big_bytes n (big_number n from) ++ drop n from =
+      sym (take-append-drop n from) ∙ ap (λ (r : List ℕ). r ++ drop n from) (sym (wide.back from bytes long)) in
+      subst (λ (q : ℕ × List ℕ). ((q.0 < 256 ^ n) × (from ≡ big_bytes n q.0 ++ q.1)) × IsBytes q.1) g.1
+      ((wide.below from bytes, parts), IsBytes-drop n from bytes);
   only = λ from to x s. ap (number n).read s.1 ∙ number_again n wide x to s.0;
   one = λ from to x s. s.1;
   writes = λ x to f. (ltb-true x (256 ^ n) f, refl);
@@ -142,11 +148,14 @@ raw_lawful n = record {
   found = λ from to x bytes e.
       let g = guard_ok (ltb (length from) n) Short (take n from, drop n from) (x, to) e in
       let long : n ≤ length from = ltb-false _ _ g.0 in
-      subst (λ (q : List ℕ × List ℕ). ((length q.0 ≡ n) × IsBytes q.0 × (from ≡ q.0 ++ q.1)) × IsBytes q.1) g.1
-      ((length-take-le n from long, IsBytes-take n from bytes, sym (take-append-drop n from)), IsBytes-drop n from bytes);
+      subst (λ (q : List ℕ × List ℕ). ((length q.0 ≡ n) × IsBytes q.0 × (from ≡ q.0 ++ q.1)) × IsBytes q.1) g.1 (
+        (length-take-le n from long, IsBytes-take n from bytes, sym (take-append-drop n from)),
+        IsBytes-drop n from bytes,
+      );
   only = λ from to x s. ap (raw n).read s.2 ∙ raw_again n x to s.0;
   one = λ from to x s. s.2;
-  writes = λ x to f. let h = and_parts (eqb (length x) n) (list_all is_byte x) f in (eqb-true (length x) n h.0, each_byte x h.1, refl);
+  writes = λ x to f. let h = and_parts (eqb (length x) n)
+      (list_all is_byte x) f in (eqb-true (length x) n h.0, each_byte x h.1, refl);
   fit = λ from to x s. and_from (eqb (length x) n) (list_all is_byte x) (eq-eqb (length x) n s.0) (all_bytes x s.1);
 }
 
@@ -155,7 +164,8 @@ raw_length n from to x s = s.0
 
 -- ---- one format after another
 
-pub tested_lawful : {X : Type 0} (fault : Fault) (F : Format X) (test : X → Bool) → Lawful F → Lawful (tested fault F test)
+pub tested_lawful : {X : Type 0} (fault : Fault) (F : Format X) (test : X → Bool) → Lawful F
+    → Lawful (tested fault F test)
 tested_lawful {X = X} fault F test law = record {
   found = λ from to x bytes e.
       let b = bind_ok (F.read from) (λ y. cond (test y.0) (Ok y) (Err fault)) (x, to) e in
@@ -171,7 +181,8 @@ tested_lawful {X = X} fault F test law = record {
 pub checked_lawful : {X : Type 0} (F : Format X) (test : X → Bool) → Lawful F → Lawful (checked F test)
 checked_lawful F test law = tested_lawful Field F test law
 
-pub followed_lawful : {X Y : Type 0} (F : Format X) (G : X → Format Y) → Lawful F → ((x : X) → Lawful (G x)) → Lawful (followed F G)
+pub followed_lawful : {X Y : Type 0} (F : Format X) (G : X → Format Y) → Lawful F → ((x : X) → Lawful (G x))
+    → Lawful (followed F G)
 followed_lawful {X = X} {Y = Y} F G law laws = record {
   found = λ from to p bytes e.
       let b = bind_ok (F.read from) (λ x. (G x.0).read x.1 >>= λ y. Ok ((x.0, y.0), y.1)) (p, to) e in
@@ -179,24 +190,34 @@ followed_lawful {X = X} {Y = Y} F G law laws = record {
       let s = law.found from b.0.1 b.0.0 bytes b.1 in
       let t = (laws b.0.0).found b.0.1 c.0.1 c.0.0 s.1 c.1 in
       let read : (X × Y) × List ℕ = ((b.0.0, c.0.0), c.0.1) in
-      subst (λ (q : (X × Y) × List ℕ). ((m : List ℕ) × F.Spelled from m q.0.0 × (G q.0.0).Spelled m q.1 q.0.1) × IsBytes q.1) (ok_is read (p, to) c.2) ((b.0.1, s.0, t.0), t.1);
+      subst (λ (q : (X × Y) × List ℕ). ((m : List ℕ) × F.Spelled from m q.0.0 × (G q.0.0).Spelled m q.1 q.0.1)
+      × IsBytes q.1) (ok_is read (p, to) c.2) ((b.0.1, s.0, t.0), t.1);
   only = λ from to p s. rw (law.only from s.0 p.0 s.1, (laws p.0).only s.0 to p.1 s.2) refl;
-  one = λ from to p s. law.one from s.0 p.0 s.1 ∙ ap (λ (r : List ℕ). F.write p.0 ++ r) ((laws p.0).one s.0 to p.1 s.2) ∙ sym (append_assoc (F.write p.0) ((G p.0).write p.1) to);
+  one = λ from to p s. law.one from s.0 p.0 s.1 ∙ ap (λ (r : List ℕ). F.write p.0 ++ r) ((laws p.0).one s.0 to p.1 s.2)
+      ∙ sym (append_assoc (F.write p.0) ((G p.0).write p.1) to);
   writes = λ p to f.
       let h = and_parts (F.fits p.0) ((G p.0).fits p.1) f in
-      let m : List ℕ = (G p.0).write p.1 ++ to in
-      (m, subst (λ (r : List ℕ). F.Spelled r m p.0) (sym (append_assoc (F.write p.0) ((G p.0).write p.1) to)) (law.writes p.0 m h.0), (laws p.0).writes p.1 to h.1);
-  fit = λ from to p s. and_from (F.fits p.0) ((G p.0).fits p.1) (law.fit from s.0 p.0 s.1) ((laws p.0).fit s.0 to p.1 s.2);
+      let m : List ℕ = (G p.0).write p.1 ++ to in (
+        m,
+        subst (λ (r : List ℕ). F.Spelled r m p.0) (sym (append_assoc (F.write p.0) ((G p.0).write p.1) to))
+            (law.writes p.0 m h.0),
+        (laws p.0).writes p.1 to h.1,
+      );
+  fit = λ from to p s. and_from (F.fits p.0) ((G p.0).fits p.1) (law.fit from s.0 p.0 s.1)
+      ((laws p.0).fit s.0 to p.1 s.2);
 }
 
 -- parts and make are to be each other's way back: make at every value, parts at what is spelled
-pub made_lawful : {X Y : Type 0} (F : Format X) (make : X → Y) (parts : Y → X) → Lawful F → ((y : Y) → make (parts y) ≡ y) → ((from to : List ℕ) (x : X) → F.Spelled from to x → parts (make x) ≡ x) → Lawful (made F make parts)
+pub made_lawful : {X Y : Type 0} (F : Format X) (make : X → Y) (parts : Y → X) → Lawful F
+    → ((y : Y) → make (parts y) ≡ y) → ((from to : List ℕ) (x : X) → F.Spelled from to x → parts (make x) ≡ x)
+    → Lawful (made F make parts)
 made_lawful {X = X} {Y = Y} F make parts law again back = record {
   found = λ from to y bytes e.
       let b = bind_ok (F.read from) (λ x. Ok (make x.0, x.1)) (y, to) e in
       let s = law.found from b.0.1 b.0.0 bytes b.1 in
       let read : Y × List ℕ = (make b.0.0, b.0.1) in
-      let spelled : F.Spelled from b.0.1 (parts (make b.0.0)) = subst (λ (x : X). F.Spelled from b.0.1 x) (sym (back from b.0.1 b.0.0 s.0)) s.0 in
+      let spelled : F.Spelled from b.0.1 (parts (make b.0.0)) =
+      subst (λ (x : X). F.Spelled from b.0.1 x) (sym (back from b.0.1 b.0.0 s.0)) s.0 in
       subst (λ (q : Y × List ℕ). F.Spelled from q.1 (parts q.0) × IsBytes q.1) (ok_is read (y, to) b.2) (spelled, s.1);
   only = λ from to y s. rw (law.only from to (parts y) s, again y) refl;
   one = λ from to y s. law.one from to (parts y) s;
@@ -206,34 +227,42 @@ made_lawful {X = X} {Y = Y} F make parts law again back = record {
 
 -- ---- variants and tags
 
-part_writes : {X Y : Type 0} (F : Format X) (make : X → Y) → Lawful F → (o : Option X) (y : Y) (to : List ℕ) → ((x : X) → o ≡ Some x → make x ≡ y) → of_part false F.fits o ≡ true
+part_writes : {X Y : Type 0} (F : Format X) (make : X → Y) → Lawful F → (o : Option X) (y : Y) (to : List ℕ)
+    → ((x : X) → o ≡ Some x → make x ≡ y) → of_part false F.fits o ≡ true
     → (x : X) × F.Spelled (of_part [] F.write o ++ to) to x × (make x ≡ y)
 part_writes F make law None y to whole f = absurd cc
 part_writes F make law (Some x) y to whole f = (x, law.writes x to f, whole x refl)
 
 -- part is to find what make was given, and nothing else
-pub variant_lawful : {X Y : Type 0} (F : Format X) (make : X → Y) (part : Y → Option X) → Lawful F → ((x : X) → part (make x) ≡ Some x) → ((x : X) (y : Y) → part y ≡ Some x → make x ≡ y) → Lawful (variant F make part)
+pub variant_lawful : {X Y : Type 0} (F : Format X) (make : X → Y) (part : Y → Option X) → Lawful F
+    → ((x : X) → part (make x) ≡ Some x) → ((x : X) (y : Y) → part y ≡ Some x → make x ≡ y)
+    → Lawful (variant F make part)
 variant_lawful {X = X} {Y = Y} F make part law back whole = record {
   found = λ from to y bytes e.
       let b = bind_ok (F.read from) (λ x. Ok (make x.0, x.1)) (y, to) e in
       let s = law.found from b.0.1 b.0.0 bytes b.1 in
       let read : Y × List ℕ = (make b.0.0, b.0.1) in
-      subst (λ (q : Y × List ℕ). ((x : X) × F.Spelled from q.1 x × (make x ≡ q.0)) × IsBytes q.1) (ok_is read (y, to) b.2) ((b.0.0, s.0, refl), s.1);
+      subst (λ (q : Y × List ℕ). ((x : X) × F.Spelled from q.1 x × (make x ≡ q.0)) × IsBytes q.1)
+      (ok_is read (y, to) b.2) ((b.0.0, s.0, refl), s.1);
   only = λ from to y s. rw (law.only from to s.0 s.1, s.2) refl;
-  one = λ from to y s. law.one from to s.0 s.1 ∙ ap (λ (o : Option X). of_part [] F.write o ++ to) (sym (ap part (sym s.2) ∙ back s.0));
+  one = λ from to y s. law.one from to s.0 s.1
+      ∙ ap (λ (o : Option X). of_part [] F.write o ++ to) (sym (ap part (sym s.2) ∙ back s.0));
   writes = λ y to f. part_writes F make law (part y) y to (λ x e. whole x y e) f;
   fit = λ from to y s. ap (of_part false F.fits) (ap part (sym s.2) ∙ back s.0) ∙ law.fit from to s.0 s.1;
 }
 
 pub constant_lawful : (fault : Fault) (n v : ℕ) → IsWide n → Lawful (constant fault n v)
 constant_lawful fault n v wide =
-    made_lawful (tested fault (number n) (λ x. eqb x v)) (λ x. tt) (λ u. v) (tested_lawful fault (number n) (λ x. eqb x v) (number_lawful n wide))
+    made_lawful (tested fault (number n) (λ x. eqb x v)) (λ x. tt) (λ u. v)
+    (tested_lawful fault (number n) (λ x. eqb x v) (number_lawful n wide))
     (λ u. refl)
     (λ from to x s. sym (eqb-true x v s.1))
 
-pub nothing_lawful : {Y : Type 0} (y : Y) (test : Y → Bool) → test y ≡ true → ((x : Y) → test x ≡ true → x ≡ y) → Lawful (nothing y test)
+pub nothing_lawful : {Y : Type 0} (y : Y) (test : Y → Bool) → test y ≡ true → ((x : Y) → test x ≡ true → x ≡ y)
+    → Lawful (nothing y test)
 nothing_lawful {Y = Y} y test passes same = record {
-  found = λ from to x bytes e. subst (λ (q : Y × List ℕ). ((from ≡ q.1) × (q.0 ≡ y)) × IsBytes q.1) (ok_is (y, from) (x, to) e) ((refl, refl), bytes);
+  found = λ from to x bytes e. subst (λ (q : Y × List ℕ). ((from ≡ q.1) × (q.0 ≡ y)) × IsBytes q.1)
+      (ok_is (y, from) (x, to) e) ((refl, refl), bytes);
   only = λ from to x s. rw (s.0, s.1) refl;
   one = λ from to x s. s.0;
   writes = λ x to f. (refl, same x f);
@@ -250,7 +279,9 @@ never_lawful fault = record {
 }
 
 -- what an arm spells is to have its tag
-pub chosen_lawful : {T Y : Type 0} (F : Format T) (arm : T → Format Y) (tag : Y → T) → Lawful F → ((t : T) → Lawful (arm t)) → ((t : T) (from to : List ℕ) (y : Y) → (arm t).Spelled from to y → tag y ≡ t) → Lawful (tagged_arm F arm tag)
+pub chosen_lawful : {T Y : Type 0} (F : Format T) (arm : T → Format Y) (tag : Y → T) → Lawful F
+    → ((t : T) → Lawful (arm t)) → ((t : T) (from to : List ℕ) (y : Y) → (arm t).Spelled from to y → tag y ≡ t)
+    → Lawful (tagged_arm F arm tag)
 chosen_lawful {T = T} {Y = Y} F arm tag law laws tags = record {
   found = λ from to y bytes e.
       let b = bind_ok (F.read from) (λ t. (arm t.0).read t.1) (y, to) e in
@@ -259,36 +290,55 @@ chosen_lawful {T = T} {Y = Y} F arm tag law laws tags = record {
       let t-is : tag y ≡ b.0.0 = tags b.0.0 b.0.1 to y u.0 in
       (subst (λ (t : T). (m : List ℕ) × F.Spelled from m t × (arm t).Spelled m to y) (sym t-is) (b.0.1, s.0, u.0), u.1);
   only = λ from to y s. rw (law.only from s.0 (tag y) s.1) ((laws (tag y)).only s.0 to y s.2);
-  one = λ from to y s. law.one from s.0 (tag y) s.1 ∙ ap (λ (r : List ℕ). F.write (tag y) ++ r) ((laws (tag y)).one s.0 to y s.2) ∙ sym (append_assoc (F.write (tag y)) ((arm (tag y)).write y) to);
+  one = λ from to y s. law.one from s.0 (tag y) s.1
+      ∙ ap (λ (r : List ℕ). F.write (tag y) ++ r) ((laws (tag y)).one s.0 to y s.2)
+      ∙ sym (append_assoc (F.write (tag y)) ((arm (tag y)).write y) to);
   writes = λ y to f.
       let h = and_parts (F.fits (tag y)) ((arm (tag y)).fits y) f in
-      let m : List ℕ = (arm (tag y)).write y ++ to in
-      (m, subst (λ (r : List ℕ). F.Spelled r m (tag y)) (sym (append_assoc (F.write (tag y)) ((arm (tag y)).write y) to)) (law.writes (tag y) m h.0), (laws (tag y)).writes y to h.1);
-  fit = λ from to y s. and_from (F.fits (tag y)) ((arm (tag y)).fits y) (law.fit from s.0 (tag y) s.1) ((laws (tag y)).fit s.0 to y s.2);
+      let m : List ℕ = (arm (tag y)).write y ++ to in (
+        m,
+        subst (λ (r : List ℕ). F.Spelled r m (tag y))
+            (sym (append_assoc (F.write (tag y)) ((arm (tag y)).write y) to)) (law.writes (tag y) m h.0),
+        (laws (tag y)).writes y to h.1,
+      );
+  fit = λ from to y s. and_from (F.fits (tag y)) ((arm (tag y)).fits y) (law.fit from s.0 (tag y) s.1)
+      ((laws (tag y)).fit s.0 to y s.2);
 }
 
 -- ---- lists
 
-cons_only : {X : Type 0} (F : Format X) (G : X → Format (List X)) → Lawful F → ((x : X) → Lawful (G x)) → (from to : List ℕ) (xs : List X) → (cons F G).Spelled from to xs → (cons F G).read from ≡ Ok (xs, to)
+cons_only : {X : Type 0} (F : Format X) (G : X → Format (List X)) → Lawful F → ((x : X) → Lawful (G x))
+    → (from to : List ℕ) (xs : List X) → (cons F G).Spelled from to xs → (cons F G).read from ≡ Ok (xs, to)
 cons_only F G law laws from to [] s = absurd s
 cons_only F G law laws from to (x ∷ xs) s = rw (law.only from s.0 x s.1, (laws x).only s.0 to xs s.2) refl
 
-cons_one : {X : Type 0} (F : Format X) (G : X → Format (List X)) → Lawful F → ((x : X) → Lawful (G x)) → (from to : List ℕ) (xs : List X) → (cons F G).Spelled from to xs → from ≡ (cons F G).write xs ++ to
+cons_one : {X : Type 0} (F : Format X) (G : X → Format (List X)) → Lawful F → ((x : X) → Lawful (G x))
+    → (from to : List ℕ) (xs : List X) → (cons F G).Spelled from to xs → from ≡ (cons F G).write xs ++ to
 cons_one F G law laws from to [] s = absurd s
-cons_one F G law laws from to (x ∷ xs) s = law.one from s.0 x s.1 ∙ ap (λ (r : List ℕ). F.write x ++ r) ((laws x).one s.0 to xs s.2) ∙ sym (append_assoc (F.write x) ((G x).write xs) to)
+cons_one F G law laws from to (x ∷ xs) s =
+    law.one from s.0 x s.1 ∙ ap (λ (r : List ℕ). F.write x ++ r) ((laws x).one s.0 to xs s.2)
+    ∙ sym (append_assoc (F.write x) ((G x).write xs) to)
 
-cons_writes : {X : Type 0} (F : Format X) (G : X → Format (List X)) → Lawful F → ((x : X) → Lawful (G x)) → (xs : List X) (to : List ℕ) → (cons F G).fits xs ≡ true → (cons F G).Spelled ((cons F G).write xs ++ to) to xs
+cons_writes : {X : Type 0} (F : Format X) (G : X → Format (List X)) → Lawful F → ((x : X) → Lawful (G x))
+    → (xs : List X) (to : List ℕ) → (cons F G).fits xs ≡ true → (cons F G).Spelled ((cons F G).write xs ++ to) to xs
 cons_writes F G law laws [] to f = absurd cc
 cons_writes F G law laws (x ∷ xs) to f =
     let h = and_parts (F.fits x) ((G x).fits xs) f in
-    let m : List ℕ = (G x).write xs ++ to in
-    (m, subst (λ (r : List ℕ). F.Spelled r m x) (sym (append_assoc (F.write x) ((G x).write xs) to)) (law.writes x m h.0), (laws x).writes xs to h.1)
+    let m : List ℕ = (G x).write xs ++ to in (
+      m,
+      subst (λ (r : List ℕ). F.Spelled r m x) (sym (append_assoc (F.write x) ((G x).write xs) to))
+          (law.writes x m h.0),
+      (laws x).writes xs to h.1,
+    )
 
-cons_fit : {X : Type 0} (F : Format X) (G : X → Format (List X)) → Lawful F → ((x : X) → Lawful (G x)) → (from to : List ℕ) (xs : List X) → (cons F G).Spelled from to xs → (cons F G).fits xs ≡ true
+cons_fit : {X : Type 0} (F : Format X) (G : X → Format (List X)) → Lawful F → ((x : X) → Lawful (G x))
+    → (from to : List ℕ) (xs : List X) → (cons F G).Spelled from to xs → (cons F G).fits xs ≡ true
 cons_fit F G law laws from to [] s = absurd s
-cons_fit F G law laws from to (x ∷ xs) s = and_from (F.fits x) ((G x).fits xs) (law.fit from s.0 x s.1) ((laws x).fit s.0 to xs s.2)
+cons_fit F G law laws from to (x ∷ xs) s =
+    and_from (F.fits x) ((G x).fits xs) (law.fit from s.0 x s.1) ((laws x).fit s.0 to xs s.2)
 
-pub cons_lawful : {X : Type 0} (F : Format X) (G : X → Format (List X)) → Lawful F → ((x : X) → Lawful (G x)) → Lawful (cons F G)
+pub cons_lawful : {X : Type 0} (F : Format X) (G : X → Format (List X)) → Lawful F → ((x : X) → Lawful (G x))
+    → Lawful (cons F G)
 cons_lawful {X = X} F G law laws = record {
   found = λ from to xs bytes e.
       let b = bind_ok (F.read from) (λ x. (G x.0).read x.1 >>= λ y. Ok (x.0 ∷ y.0, y.1)) (xs, to) e in
@@ -296,7 +346,8 @@ cons_lawful {X = X} F G law laws = record {
       let s = law.found from b.0.1 b.0.0 bytes b.1 in
       let t = (laws b.0.0).found b.0.1 c.0.1 c.0.0 s.1 c.1 in
       let read : List X × List ℕ = (b.0.0 ∷ c.0.0, c.0.1) in
-      subst (λ (q : List X × List ℕ). (cons F G).Spelled from q.1 q.0 × IsBytes q.1) (ok_is read (xs, to) c.2) ((b.0.1, s.0, t.0), t.1);
+      subst (λ (q : List X × List ℕ). (cons F G).Spelled from q.1 q.0 × IsBytes q.1) (ok_is read (xs, to) c.2)
+      ((b.0.1, s.0, t.0), t.1);
   only = λ from to xs s. cons_only F G law laws from to xs s;
   one = λ from to xs s. cons_one F G law laws from to xs s;
   writes = λ xs to f. cons_writes F G law laws xs to f;
@@ -307,28 +358,36 @@ pub empty_is : {X : Type 0} (xs : List X) → is_empty xs ≡ true → xs ≡ []
 empty_is [] e = refl
 empty_is (x ∷ xs) e = absurd cc
 
-pub items_lawful : {K X : Type 0} (key : X → K) (F : Option K → Format X) → ((last : Option K) → Lawful (F last)) → (last : Option K) (n : ℕ) → Lawful (items key F last n)
+pub items_lawful : {K X : Type 0} (key : X → K) (F : Option K → Format X) → ((last : Option K) → Lawful (F last))
+    → (last : Option K) (n : ℕ) → Lawful (items key F last n)
 items_lawful key F laws last zero = nothing_lawful [] is_empty refl (λ xs e. empty_is xs e)
-items_lawful key F laws last (suc n) = cons_lawful (F last) (λ x. items key F (Some (key x)) n) (laws last) (λ x. items_lawful key F laws (Some (key x)) n)
+items_lawful key F laws last (suc n) =
+    cons_lawful (F last) (λ x. items key F (Some (key x)) n) (laws last) (λ x. items_lawful key F laws (Some (key x)) n)
 
 pub plain_lawful : {X : Type 0} (F : Format X) → Lawful F → (n : ℕ) → Lawful (plain F n)
 plain_lawful F law zero = nothing_lawful [] is_empty refl (λ xs e. empty_is xs e)
 plain_lawful F law (suc n) = cons_lawful F (λ x. plain F n) law (λ x. plain_lawful F law n)
 
-pub items_length : {K X : Type 0} (key : X → K) (F : Option K → Format X) (last : Option K) (n : ℕ) (from to : List ℕ) (xs : List X) → (items key F last n).Spelled from to xs → length xs ≡ n
+pub items_length : {K X : Type 0} (key : X → K) (F : Option K
+    → Format X) (last : Option K) (n : ℕ) (from to : List ℕ) (xs : List X) → (items key F last n).Spelled from to xs
+    → length xs ≡ n
 items_length key F last zero from to xs s = ap length s.1
 items_length key F last (suc n) from to [] s = absurd s
 items_length key F last (suc n) from to (x ∷ xs) s = ap suc (items_length key F (Some (key x)) n s.0 to xs s.2)
 
-pub plain_length : {X : Type 0} (F : Format X) (n : ℕ) (from to : List ℕ) (xs : List X) → (plain F n).Spelled from to xs → length xs ≡ n
+pub plain_length : {X : Type 0} (F : Format X) (n : ℕ) (from to : List ℕ) (xs : List X) → (plain F n).Spelled from to xs
+    → length xs ≡ n
 plain_length F zero from to xs s = ap length s.1
 plain_length F (suc n) from to [] s = absurd s
 plain_length F (suc n) from to (x ∷ xs) s = ap suc (plain_length F n s.0 to xs s.2)
 
 -- the list is to be as long as its count says
-pub listed_lawful : {X : Type 0} (n : ℕ) (allowed : ℕ → Bool) (F : ℕ → Format (List X)) → IsWide n → ((count : ℕ) → Lawful (F count)) → ((count : ℕ) (from to : List ℕ) (xs : List X) → (F count).Spelled from to xs → length xs ≡ count) → Lawful (listed n allowed F)
+pub listed_lawful : {X : Type 0} (n : ℕ) (allowed : ℕ → Bool) (F : ℕ → Format (List X)) → IsWide n
+    → ((count : ℕ) → Lawful (F count)) → ((count : ℕ) (from to : List ℕ) (xs : List X) → (F count).Spelled from to xs
+    → length xs ≡ count) → Lawful (listed n allowed F)
 listed_lawful {X = X} n allowed F wide laws long =
-    made_lawful (followed (checked (number n) allowed) F) (λ p. p.1) (λ xs. (length xs, xs)) (followed_lawful (checked (number n) allowed) F (checked_lawful (number n) allowed (number_lawful n wide)) laws)
+    made_lawful (followed (checked (number n) allowed) F) (λ p. p.1) (λ xs. (length xs, xs))
+    (followed_lawful (checked (number n) allowed) F (checked_lawful (number n) allowed (number_lawful n wide)) laws)
     (λ xs. refl)
     (λ from to p s. ap (λ (k : ℕ). let q : ℕ × List X = (k, p.1) in q) (long p.0 s.0 to p.1 s.2))
 

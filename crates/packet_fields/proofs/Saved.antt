@@ -24,7 +24,8 @@ pub kid_place : (p : List ℕ) → IsTrue (is_saved_place p) → IsKidPlace p
 kid_place [] is = absurd cc
 kid_place (first ∷ before) is =
     let h = and_parts (nat_lt 0 first && nat_lt (length before) 23) (are_steps (first ∷ before)) is in
-    let few : length before < 23 = ltb-true (length before) 23 (and_parts (nat_lt 0 first) (nat_lt (length before) 23) h.0).1 in
+    let few : length before < 23 = ltb-true (length before) 23
+    (and_parts (nat_lt 0 first) (nat_lt (length before) 23) h.0).1 in
     record { some = omega arith; few = omega (arith, few); steps = h.1 }
 
 -- a step is one byte
@@ -48,17 +49,20 @@ steps_fit (x ∷ xs) all =
 turned_steps : (p : List ℕ) → are_steps p ≡ true → are_steps (reverse p) ≡ true
 turned_steps p all = all-reverse (λ step. nat_lt step 9) p ∙ all
 
-pub saved_place_write : (p : List ℕ) → IsTrue (is_saved_place p) → saved_place.write p ≡ big_bytes 2 (length (reverse p)) ++ reverse p
+pub saved_place_write : (p : List ℕ) → IsTrue (is_saved_place p)
+    → saved_place.write p ≡ big_bytes 2 (length (reverse p)) ++ reverse p
 unfolding saved_place
 saved_place_write p is =
-    ap (λ (r : List ℕ). big_bytes 2 (length (reverse p)) ++ r) (plain_write step (reverse p) ∙ bytes_of_steps (reverse p) (turned_steps p (kid_place p is).steps))
+    ap (λ (r : List ℕ). big_bytes 2 (length (reverse p)) ++ r) (plain_write step (reverse p)
+    ∙ bytes_of_steps (reverse p) (turned_steps p (kid_place p is).steps))
 
 pub saved_place_fits : (p : List ℕ) → IsTrue (is_saved_place p) → saved_place.fits p ≡ true
 unfolding saved_place
 saved_place_fits p is =
     let parts = kid_place p is in
     let xs : List ℕ = reverse p in
-    let wide : nat_lt (length xs) (256 ^ 2) ≡ true = lt-ltb (length xs) (256 ^ 2) (omega (arith, length-reverse p, parts.few)) in
+    let wide : nat_lt (length xs) (256 ^ 2) ≡ true =
+    lt-ltb (length xs) (256 ^ 2) (omega (arith, length-reverse p, parts.few)) in
     let some : nat_lt 0 (length xs) ≡ true = lt-ltb 0 (length xs) (omega (arith, length-reverse p, parts.some)) in
     let few : nat_lt (length xs) 24 ≡ true = lt-ltb (length xs) 24 (omega (arith, length-reverse p, parts.few)) in
     rw (wide, some, few, plain_fits step xs, steps_fit xs (turned_steps p parts.steps), is) refl
@@ -67,13 +71,18 @@ value_write : (last : Option (List ℕ)) (x : SavedValue) → (saved_value last)
 unfolding saved_value
 value_write last x = refl
 
-pub saved_write : (xs : List SavedValue) → saved_values.write xs ≡ big_bytes 1 (length xs) ++ flat_map (saved_value None).write xs
+pub saved_write : (xs : List SavedValue)
+    → saved_values.write xs ≡ big_bytes 1 (length xs) ++ flat_map (saved_value None).write xs
 unfolding saved_values
-saved_write xs = ap (λ (r : List ℕ). big_bytes 1 (length xs) ++ r) (items_write place_of saved_value (saved_value None).write None value_write xs)
+saved_write xs = ap (λ (r : List ℕ). big_bytes 1 (length xs) ++ r)
+    (items_write place_of saved_value (saved_value None).write None value_write xs)
 
-pub saved_fits : (xs : List SavedValue) → saved_values.fits xs ≡ ((nat_lt 0 (length xs) && nat_le (length xs) 64) && (items place_of saved_value None (length xs)).fits xs)
+pub saved_fits : (xs : List SavedValue)
+    → saved_values.fits xs ≡ ((nat_lt 0 (length xs) && nat_le (length xs) 64)
+    && (items place_of saved_value None (length xs)).fits xs)
 unfolding saved_values
 saved_fits xs = room (nat_lt 0 (length xs)) (length xs) ((items place_of saved_value None (length xs)).fits xs)
   where
-    room : (some : Bool) (count : ℕ) (others : Bool) → ((nat_lt count 256 && (some && nat_le count 64)) && others) ≡ ((some && nat_le count 64) && others)
+    room : (some : Bool) (count : ℕ) (others : Bool)
+        → ((nat_lt count 256 && (some && nat_le count 64)) && others) ≡ ((some && nat_le count 64) && others)
     room some count others = grind arith

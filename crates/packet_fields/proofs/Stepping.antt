@@ -19,7 +19,8 @@ step_front b bs =
     rw (some, here) refl
 
 -- where the bytes in front are steps, so many are read where they are there
-pub read_at_once : (n : ℕ) (from : List ℕ) → all_steps (take n from) ≡ true → n ≤ length from → (plain step n).read from ≡ Ok (take n from, drop n from)
+pub read_at_once : (n : ℕ) (from : List ℕ) → all_steps (take n from) ≡ true → n ≤ length from
+    → (plain step n).read from ≡ Ok (take n from, drop n from)
 read_at_once zero from all there = refl
 read_at_once (suc n) [] all there = absurd (omega arith)
 read_at_once (suc n) (b ∷ bs) all there =
@@ -27,7 +28,8 @@ read_at_once (suc n) (b ∷ bs) all there =
     rw (step_front b bs, parts.0, read_at_once n bs parts.1 (omega arith)) refl
 
 -- and where they aren't, the bytes are too short
-pub short_at_once : (n : ℕ) (from : List ℕ) → all_steps (take n from) ≡ true → length from < n → (plain step n).read from ≡ Err Short
+pub short_at_once : (n : ℕ) (from : List ℕ) → all_steps (take n from) ≡ true → length from < n
+    → (plain step n).read from ≡ Err Short
 unfolding step
 short_at_once zero from all short = absurd (omega arith)
 short_at_once (suc n) [] all short = refl
@@ -36,12 +38,16 @@ short_at_once (suc n) (b ∷ bs) all short =
     rw (step_front b bs, parts.0, short_at_once n bs parts.1 (omega arith)) refl
 
 -- where one of them is no step, that is the fault
-field_behind : (v rest : Bool) (n b : ℕ) (bs : List ℕ) → (v && rest) ≡ false → (rest ≡ false → (plain step n).read bs ≡ Err Field)
-    → ◌>>=◌ {A = ℕ × List ℕ} {B = List ℕ × List ℕ} (cond v (Ok (b, bs)) (Err Field)) (λ x. ◌>>=◌ {A = List ℕ × List ℕ} {B = List ℕ × List ℕ} ((plain step n).read x.1) (λ xs. Ok (x.0 ∷ xs.0, xs.1))) ≡ Err Field
+field_behind : (v rest : Bool) (n b : ℕ) (bs : List ℕ) → (v && rest) ≡ false
+    → (rest ≡ false → (plain step n).read bs ≡ Err Field)
+    → ◌>>=◌ {A = ℕ × List ℕ} {B = List ℕ × List ℕ} (cond v (Ok (b, bs)) (Err Field))
+    (λ x. ◌>>=◌ {A = List ℕ × List ℕ} {B = List ℕ × List ℕ} ((plain step n).read x.1) (λ xs. Ok (x.0 ∷ xs.0, xs.1)))
+    ≡ Err Field
 field_behind true rest n b bs some each = rw (each some) refl
 field_behind false rest n b bs some each = refl
 
 pub field_at_once : (n : ℕ) (from : List ℕ) → all_steps (take n from) ≡ false → (plain step n).read from ≡ Err Field
 field_at_once zero from some = absurd cc
 field_at_once (suc n) [] some = absurd cc
-field_at_once (suc n) (b ∷ bs) some = rw (step_front b bs) (field_behind (nat_lt b 9) (all_steps (take n bs)) n b bs some (field_at_once n bs))
+field_at_once (suc n) (b ∷ bs) some =
+    rw (step_front b bs) (field_behind (nat_lt b 9) (all_steps (take n bs)) n b bs some (field_at_once n bs))

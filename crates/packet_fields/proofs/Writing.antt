@@ -25,12 +25,15 @@ plain_write F [] = refl
 plain_write F (x ∷ xs) = ap (λ (r : List ℕ). F.write x ++ r) (plain_write F xs) ∙ sym (flat_map-cons F.write x xs)
 
 -- what is written for an item doesn't depend on the item before
-pub items_write : {K X : Type 0} (key : X → K) (F : Option K → Format X) (w : X → List ℕ) (last : Option K) → ((before : Option K) (x : X) → (F before).write x ≡ w x)
+pub items_write : {K X : Type 0} (key : X → K) (F : Option K → Format X) (w : X → List ℕ) (last : Option K)
+    → ((before : Option K) (x : X) → (F before).write x ≡ w x)
     → (xs : List X) → (items key F last (length xs)).write xs ≡ flat_map w xs
 items_write key F w last same [] = refl
 items_write key F w last same (x ∷ xs) =
-    let here : (F last).write x ++ flat_map w xs ≡ w x ++ flat_map w xs = ap (λ (r : List ℕ). r ++ flat_map w xs) (same last x) in
-    ap (λ (r : List ℕ). (F last).write x ++ r) (items_write key F w (Some (key x)) same xs) ∙ here ∙ sym (flat_map-cons w x xs)
+    let here : (F last).write x ++ flat_map w xs ≡ w x ++ flat_map w xs =
+    ap (λ (r : List ℕ). r ++ flat_map w xs) (same last x) in
+    ap (λ (r : List ℕ). (F last).write x ++ r) (items_write key F w (Some (key x)) same xs) ∙ here
+    ∙ sym (flat_map-cons w x xs)
 
 pub numbers_write : (xs : List ℤ) → numbers.write xs ≡ big_bytes 1 (length xs) ++ flat_map signed.write xs
 unfolding numbers
@@ -46,7 +49,8 @@ member_write last m = refl
 
 pub members_write : (xs : List Member) → members.write xs ≡ big_bytes 2 (length xs) ++ flat_map (member None).write xs
 unfolding members
-members_write xs = ap (λ (r : List ℕ). big_bytes 2 (length xs) ++ r) (items_write name_of_member member (member None).write None member_write xs)
+members_write xs = ap (λ (r : List ℕ). big_bytes 2 (length xs) ++ r)
+    (items_write name_of_member member (member None).write None member_write xs)
 
 goes_to_write : (next : ℕ) (r : Return) → (goes_to next).write r ≡ (goes_to 0).write r
 unfolding goes_to
@@ -57,19 +61,23 @@ frame_write : (next : ℕ) (last : Option ℕ) (f : Frame) → (frame next last)
 unfolding frame
 frame_write next last f = rw (goes_to_write next f.returns) refl
 
-pub frames_write : (so_far : Progress) (next : ℕ) (xs : List Frame) → (frames so_far next).write xs ≡ big_bytes 4 (length xs) ++ flat_map (frame 0 None).write xs
+pub frames_write : (so_far : Progress) (next : ℕ) (xs : List Frame)
+    → (frames so_far next).write xs ≡ big_bytes 4 (length xs) ++ flat_map (frame 0 None).write xs
 unfolding frames
 frames_write so_far next xs =
-    ap (λ (r : List ℕ). big_bytes 4 (length xs) ++ r) (items_write number_of_frame (frame next) (frame 0 None).write None (frame_write next) xs)
+    ap (λ (r : List ℕ). big_bytes 4 (length xs) ++ r)
+    (items_write number_of_frame (frame next) (frame 0 None).write None (frame_write next) xs)
 
 stolen_write : (next : ℕ) (last : Option Grant) (x : Record) → (stolen next last).write x ≡ (stolen 0 None).write x
 unfolding stolen
 stolen_write next last x = rw (goes_to_write next x.returns) refl
 
-pub records_write : (so_far : Progress) (next : ℕ) (xs : List Record) → (records so_far next).write xs ≡ big_bytes 4 (length xs) ++ flat_map (stolen 0 None).write xs
+pub records_write : (so_far : Progress) (next : ℕ) (xs : List Record)
+    → (records so_far next).write xs ≡ big_bytes 4 (length xs) ++ flat_map (stolen 0 None).write xs
 unfolding records
 records_write so_far next xs =
-    ap (λ (r : List ℕ). big_bytes 4 (length xs) ++ r) (items_write grant_of_record (stolen next) (stolen 0 None).write None (stolen_write next) xs)
+    ap (λ (r : List ℕ). big_bytes 4 (length xs) ++ r)
+    (items_write grant_of_record (stolen next) (stolen 0 None).write None (stolen_write next) xs)
 
 -- a step is one byte
 bytes_of_steps : (xs : List ℕ) → All (λ s. s < 9) xs → flat_map step.write xs ≡ xs
@@ -83,7 +91,8 @@ bytes_of_steps (x ∷ xs) small =
 pub place_write : (p : List ℕ) → IsPlace p → place.write p ≡ big_bytes 2 (length (reverse p)) ++ reverse p
 unfolding place steps
 place_write p is_place =
-    ap (λ (r : List ℕ). big_bytes 2 (length (reverse p)) ++ r) (plain_write step (reverse p) ∙ bytes_of_steps (reverse p) (All-reverse (λ s. s < 9) p is_place.steps))
+    ap (λ (r : List ℕ). big_bytes 2 (length (reverse p)) ++ r) (plain_write step (reverse p)
+    ∙ bytes_of_steps (reverse p) (All-reverse (λ s. s < 9) p is_place.steps))
 
 pub progress_write : (o : Outcome) → progress.write (Finished o) ≡ outcome.write o
 unfolding progress outcome
@@ -97,6 +106,7 @@ two_parts old first second a b e f = f ∙ ap (λ (r : List ℕ). r ++ b) e ∙ 
 pub three_parts : (old p q r a b c : List ℕ) → p ≡ old ++ a → q ≡ p ++ b → r ≡ q ++ c → r ≡ old ++ (a ++ (b ++ c))
 three_parts old p q r a b c e f g = two_parts old p r a (b ++ c) e (two_parts p q r b c f g)
 
-pub five_parts : (old p q r s t a b c d e : List ℕ) → p ≡ old ++ a → q ≡ p ++ b → r ≡ q ++ c → s ≡ r ++ d → t ≡ s ++ e → t ≡ old ++ (a ++ (b ++ (c ++ (d ++ e))))
+pub five_parts : (old p q r s t a b c d e : List ℕ) → p ≡ old ++ a → q ≡ p ++ b → r ≡ q ++ c → s ≡ r ++ d → t ≡ s ++ e
+    → t ≡ old ++ (a ++ (b ++ (c ++ (d ++ e))))
 five_parts old p q r s t a b c d e first second third fourth fifth =
     three_parts old p q t a b (c ++ (d ++ e)) first second (three_parts q r s t c d e third fourth fifth)

@@ -109,7 +109,12 @@ module _ (job : JobOf) (base v : View) (w : WorldOf) (run : Run (tables_meaning 
               started = shown.started;
               apart = shown.apart;
               up =
-                  λ i a b. (let u = shown.up i a b in record { at = u.at; node = u.node; there = u.there; name = u.name });
+                  λ i a b. (let u = shown.up i a b in record {
+                    at = u.at;
+                    node = u.node;
+                    there = u.there;
+                    name = u.name;
+                  });
               words = shown.words;
               house = shut_shown v house shut closed;
               disk = shut_disk job v d house shut disk;

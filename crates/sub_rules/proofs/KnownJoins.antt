@@ -19,21 +19,29 @@ pub nothing_changes : (place : List ℕ) (turn : Turn) → resumed nothing_known
 nothing_changes place (Sends v) = refl
 nothing_changes place (Joins t slots) = ap (Joins t) (nothing_fills place slots)
 
-pub known_nothing : (known : Known) (place : List ℕ) (slots : List Slot) → known ≡ nothing_known → slots ≡ resumed_slots known place slots
+pub known_nothing : (known : Known) (place : List ℕ) (slots : List Slot) → known ≡ nothing_known
+    → slots ≡ resumed_slots known place slots
 known_nothing known place slots is = rw is (sym (nothing_fills place slots))
 
-resumed_length : (known : Known) (place : List ℕ) (slots : List Slot) → length (resumed_slots known place slots) ≡ length slots
+resumed_length : (known : Known) (place : List ℕ) (slots : List Slot)
+    → length (resumed_slots known place slots) ≡ length slots
 resumed_length known place [] = refl
 resumed_length known place (slot ∷ slots) = ap suc (resumed_length known place slots)
 
-resumed_holes : (known : Known) (place : List ℕ) (slots : List Slot) → AllByRecursion HoleFits slots → AllByRecursion HoleFits (resumed_slots known place slots)
+resumed_holes : (known : Known) (place : List ℕ) (slots : List Slot) → AllByRecursion HoleFits slots
+    → AllByRecursion HoleFits (resumed_slots known place slots)
 resumed_holes known place [] all = tt
 resumed_holes known place (Filled v ∷ slots) all = (tt, resumed_holes known place slots all.1)
-resumed_holes known place (Awaits kid ∷ slots) all = (by_value (known (kid.hole ∷ place)), resumed_holes known place slots all.1)
+resumed_holes known place (Awaits kid ∷ slots) all =
+    (by_value (known (kid.hole ∷ place)), resumed_holes known place slots all.1)
   where
     by_value : (o : Option ℤ) → HoleFits (slot_by kid o)
     by_value None = all.0
     by_value (Some v) = tt
 
-pub resumed_few : (known : Known) (place : List ℕ) (slots : List Slot) → SlotsFew slots → SlotsFew (resumed_slots known place slots)
-resumed_few known place slots few = record { count = rw (resumed_length known place slots) few.count; holes = resumed_holes known place slots few.holes }
+pub resumed_few : (known : Known) (place : List ℕ) (slots : List Slot) → SlotsFew slots
+    → SlotsFew (resumed_slots known place slots)
+resumed_few known place slots few = record {
+  count = rw (resumed_length known place slots) few.count;
+  holes = resumed_holes known place slots few.holes;
+}

@@ -11,7 +11,8 @@ decimal-le n [] = omega arith
 decimal-le n (d ∷ ds) = let e = decimal-le (10 * n + (d - 48)) ds in omega arith
 
 -- a digit that makes the number too large
-pub numbered_large : (n i d : ℕ) (digits : List ℕ) → decimal n (drop i digits) ≡ decimal 0 digits → i < length digits → d ≡ get_or digits i 0 - 48 → 2 ^ 63 ≤ 10 * n + d → LargeNumeral ≡ numbered digits
+pub numbered_large : (n i d : ℕ) (digits : List ℕ) → decimal n (drop i digits) ≡ decimal 0 digits → i < length digits
+    → d ≡ get_or digits i 0 - 48 → 2 ^ 63 ≤ 10 * n + d → LargeNumeral ≡ numbered digits
 numbered_large n i d digits same inside digit large =
     let more = sym (at_drop_more (decimal n) digits i 0 inside) ∙ same in
     let least = decimal-le (10 * n + (get_or digits i 0 - 48)) (drop (i + 1) digits) in

@@ -15,7 +15,8 @@ tokens_inside at (suc n) (b ∷ bs) h =
     rw (← e) (tokens_inside (suc at) n bs inside)
 
 -- the rest of what stands at the front
-tokens_behind : (at size b : ℕ) (bs : List ℕ) → 0 < size → size ≤ length (b ∷ bs) → tokens (suc at) (size - 1) bs ≡ tokens (at + size) 0 (drop size (b ∷ bs))
+tokens_behind : (at size b : ℕ) (bs : List ℕ) → 0 < size → size ≤ length (b ∷ bs)
+    → tokens (suc at) (size - 1) bs ≡ tokens (at + size) 0 (drop size (b ∷ bs))
 tokens_behind at zero b bs some within = absurd (omega arith)
 tokens_behind at (suc n) b bs some within =
     let inside : n ≤ length bs = omega arith in
@@ -24,17 +25,25 @@ tokens_behind at (suc n) b bs some within =
     rw (less, ← e) (tokens_inside (suc at) n bs inside)
 
 -- what stands at the front, and then the rest
-tokens_front : (at : ℕ) (text : List ℕ) → 0 < (front_of text).size → (front_of text).size ≤ length text → tokens at 0 text ≡ with_token at (front_of text).token (tokens (at + (front_of text).size) 0 (drop (front_of text).size text))
+tokens_front : (at : ℕ) (text : List ℕ) → 0 < (front_of text).size → (front_of text).size ≤ length text
+    → tokens at 0 text ≡ with_token at (front_of text).token
+    (tokens (at + (front_of text).size) 0 (drop (front_of text).size text))
 tokens_front at [] some within = absurd (omega arith)
-tokens_front at (b ∷ bs) some within = ap (with_token at (front_of (b ∷ bs)).token) (tokens_behind at (front_of (b ∷ bs)).size b bs some within)
+tokens_front at (b ∷ bs) some within =
+    ap (with_token at (front_of (b ∷ bs)).token) (tokens_behind at (front_of (b ∷ bs)).size b bs some within)
 
 -- the same, for the text from `at` on
-pub tokens_step : (at size : ℕ) (token : Option TokenKind) (text : List ℕ) → token ≡ (front_of (drop at text)).token → size ≡ (front_of (drop at text)).size → 0 < size → size ≤ length (drop at text) → tokens at 0 (drop at text) ≡ with_token at token (tokens (at + size) 0 (drop (at + size) text))
+pub tokens_step : (at size : ℕ) (token : Option TokenKind) (text : List ℕ) → token ≡ (front_of (drop at text)).token
+    → size ≡ (front_of (drop at text)).size → 0 < size → size ≤ length (drop at text)
+    → tokens at 0 (drop at text) ≡ with_token at token (tokens (at + size) 0 (drop (at + size) text))
 tokens_step at size token text is_token is_size some within =
-    rw (← drop-drop size at text, is_token, is_size) (tokens_front at (drop at text) (rw is_size at some) (rw is_size at within))
+    rw (← drop-drop size at text, is_token, is_size)
+    (tokens_front at (drop at text) (rw is_size at some) (rw is_size at within))
 
 -- a token was put behind those before
-pub kept_some : (before all ts rest whole : List Token) (at : ℕ) (kind : TokenKind) → before ++ ts ≡ whole → ts ≡ with_token at (Some kind) rest → all ≡ before ++ record { kind = kind; offset = at } ∷ [] → all ++ rest ≡ whole
+pub kept_some : (before all ts rest whole : List Token) (at : ℕ) (kind : TokenKind) → before ++ ts ≡ whole
+    → ts ≡ with_token at (Some kind) rest → all ≡ before ++ record { kind = kind; offset = at } ∷ []
+    → all ++ rest ≡ whole
 kept_some before all ts rest whole at kind was step now = rw (now, append_assoc, ← step) was
 
 -- a separator was passed

@@ -10,7 +10,8 @@ abbrev pub Each : {V : Type 0} → (V → Type 0) → List V → Type 0
 Each {V} F views = (seat : ℕ) (v : V) → get_elem? views seat ≡ some v → F v
 
 module _ {V : Type 0} where
-  pub total-set : (f : V → ℕ) (vs : List V) (i : ℕ) (v w : V) → get_elem? vs i ≡ some v → sum_by f (set vs i w) + f v ≡ sum_by f vs + f w
+  pub total-set : (f : V → ℕ) (vs : List V) (i : ℕ) (v w : V) → get_elem? vs i ≡ some v
+      → sum_by f (set vs i w) + f v ≡ sum_by f vs + f w
   total-set f [] i v w e = absurd (some-ne-none v (sym e))
   total-set f (x ∷ xs) zero v w e =
       let is : f x ≡ f v = ap f (some-injective x v e) in
@@ -28,11 +29,13 @@ module _ {V : Type 0} where
 
   pub le_total : (f : V → ℕ) (vs : List V) (i : ℕ) (v : V) → get_elem? vs i ≡ some v → f v ≤ sum_by f vs
   le_total f [] i v e = absurd (some-ne-none v (sym e))
-  le_total f (x ∷ xs) zero v e = let is : f x ≡ f v = ap f (some-injective x v e) in let a = sum_by-cons f x xs in omega arith
+  le_total f (x ∷ xs) zero v e = let is : f x ≡ f v = ap f (some-injective x v e) in let a =
+      sum_by-cons f x xs in omega arith
   le_total f (x ∷ xs) (suc i) v e = let rest = le_total f xs i v e in let a = sum_by-cons f x xs in omega arith
 
   -- where no share is left, there is nothing
-  total_none : (share f : V → ℕ) (vs : List V) → Each (λ v. share v ≡ 0 → f v ≡ 0) vs → sum_by share vs ≡ 0 → sum_by f vs ≡ 0
+  total_none : (share f : V → ℕ) (vs : List V) → Each (λ v. share v ≡ 0 → f v ≡ 0) vs → sum_by share vs ≡ 0
+      → sum_by f vs ≡ 0
   total_none share f [] h none = refl
   total_none share f (x ∷ xs) h none =
       let a = sum_by-cons share x xs in

@@ -142,7 +142,8 @@ module _ (m : Meaning) (job : JobOf) (v : View) (n : NodeOf) (r : Roster) (run :
         name = refl;
         node = record { mode = shown.mode; parts = λ x. parts };
         sent =
-            one_shown view (acknowledges job o n) (inl (same_ack t o.grant o.hop i o.from s.grant s.hop s.to_is s.from));
+            one_shown view (acknowledges job o n)
+            (inl (same_ack t o.grant o.hop i o.from s.grant s.hop s.to_is s.from));
         transfers = λ u old. inl old;
         fills = refl;
       }

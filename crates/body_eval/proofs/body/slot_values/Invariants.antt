@@ -7,4 +7,5 @@ use Rattle.body_eval.proofs.body.slot_values.Given as goal
 -- the slots so far, and then those of the rest, are all of them
 abbrev pub invariant-loop-code : goal.invariant-loop-code
 invariant-loop-code l =
-    (code_slots l.numbers (drop l.code-index l.code-items) >>= (λ (rest : List Slot). Some (l.slots ++ rest))) ≡ code_slots l.numbers l.codes
+    (code_slots l.numbers (drop l.code-index l.code-items) >>= (λ (rest : List Slot). Some (l.slots ++ rest)))
+    ≡ code_slots l.numbers l.codes

@@ -6,4 +6,5 @@ use Rattle.body_eval.proofs.expression.values.Given as goal
 -- the values so far, and then those of the rest, are all of them
 abbrev pub invariant-loop-code : goal.invariant-loop-code
 invariant-loop-code l =
-    (code_values l.values (drop l.code-index l.code-items) >>= (λ (rest : List ℤ). Some (l.numbers ++ rest))) ≡ code_values l.values l.codes
+    (code_values l.values (drop l.code-index l.code-items) >>= (λ (rest : List ℤ). Some (l.numbers ++ rest)))
+    ≡ code_values l.values l.codes

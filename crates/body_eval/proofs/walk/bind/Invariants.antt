@@ -7,5 +7,6 @@ abbrev pub invariant-loop-each : goal.invariant-loop-each
 invariant-loop-each l = record {
   inside : l.base ≤ vec_len l.stack;
   kept : take l.base l.stack.items ≡ take l.base l.fn.stack.items;
-  lets : code_lets (drop l.base l.stack.items) (drop l.each-index l.each-items) ≡ code_lets (drop l.base l.fn.stack.items) l.lets;
+  lets : code_lets (drop l.base l.stack.items) (drop l.each-index l.each-items)
+      ≡ code_lets (drop l.base l.fn.stack.items) l.lets;
 }

@@ -13,11 +13,14 @@ returns-then-ne-clause-none c x = not_unused c.args.entry.now c.from-len.result 
     cc)
 
 pub returns-in_default-clause-none : goal.returns-in_default-clause-none
-returns-in_default-clause-none c x = no_kid c.args.entry.now c.from-len.result x c.from-len.ensures (not_chosen _ _ c.in_default.ensures)
+returns-in_default-clause-none c x =
+    no_kid c.args.entry.now c.from-len.result x c.from-len.ensures (not_chosen _ _ c.in_default.ensures)
 
 pub returns-clause-some : goal.returns-clause-some
 returns-clause-some c =
     let unused : List ℕ = take (24 - (1 + c.from-len.result)) (drop (1 + c.from-len.result) c.args.entry.now) in
     let zeros : List ℕ = zeros_from c.from-len.result in
-    let same : unused ≡ zeros = (bytes_decides unused zeros).0 (not_false (pointwise nat_eq unused zeros) c.ne.result c.ne.ensures c.if-ne.false) in
-    entry_read c.args.entry.now c.from-len.result c.in-Some.place _ c.from-len.ensures (omega arith) c.requires same c.in-Some.ensures (search rules)
+    let same : unused ≡ zeros = (bytes_decides unused zeros).0
+    (not_false (pointwise nat_eq unused zeros) c.ne.result c.ne.ensures c.if-ne.false) in
+    entry_read c.args.entry.now c.from-len.result c.in-Some.place _ c.from-len.ensures
+    (omega arith) c.requires same c.in-Some.ensures (search rules)

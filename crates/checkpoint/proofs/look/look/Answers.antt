@@ -16,5 +16,10 @@ returns-in_default-newest_large-clause-refused c job =
     let bytes = c.args.bytes.now in
     let small = c.in-Some.small in
     let version : get_or bytes 7 0 ≡ 1 = search rules in
-    let moved : IsCurrent SpellsSmall 8 63 bytes small.second small.sequence Moved = subst (λ (e : Entry). IsCurrent SpellsSmall 8 63 bytes small.second small.sequence e) c.in-Moved.is c.in-Some.ensures.some.0 in
-    ((λ other. other.1 version), none_moved bytes small.second small.sequence moved (λ other n r new. c.in_default-newest_large.ensures.none other n r new.current))
+    let moved : IsCurrent SpellsSmall 8 63 bytes small.second small.sequence Moved =
+    subst (λ (e : Entry). IsCurrent SpellsSmall 8 63 bytes small.second small.sequence e) c.in-Moved.is
+    c.in-Some.ensures.some.0 in (
+      (λ other. other.1 version),
+      none_moved bytes small.second small.sequence moved
+          (λ other n r new. c.in_default-newest_large.ensures.none other n r new.current),
+    )

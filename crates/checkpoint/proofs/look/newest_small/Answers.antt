@@ -14,9 +14,13 @@ returns-in_default-small_slot-clause-none c second n r is =
     refused SpellsSmall one_small 8 63 c.args.bytes.now true second n r bad.0 bad.1 is
 
 pub returns-clause-some : goal.returns-clause-some
-returns-clause-some c = some_weaker c.greater.result (λ f newest. newest_current SpellsSmall one_small 8 63 c.args.bytes.now (omega (arith, c.requires)) c.in-Ok.first c.in-Ok-small_slot.second f.second f.gate f.sequence f.held c.in-Ok.ensures.ok c.in-Ok-small_slot.ensures.ok newest) c.greater.ensures.some
+returns-clause-some c = some_weaker c.greater.result
+    (λ f newest. newest_current SpellsSmall one_small 8 63 c.args.bytes.now
+    (omega (arith, c.requires)) c.in-Ok.first c.in-Ok-small_slot.second f.second f.gate f.sequence f.held
+    c.in-Ok.ensures.ok c.in-Ok-small_slot.ensures.ok newest) c.greater.ensures.some
 
 pub returns-clause-none : goal.returns-clause-none
 returns-clause-none c = none_weaker c.greater.result (λ none second n r is.
-    let newest = current_newest SpellsSmall one_small 8 63 c.args.bytes.now c.in-Ok.first c.in-Ok-small_slot.second second n r c.in-Ok.ensures.ok c.in-Ok-small_slot.ensures.ok is in
+    let newest = current_newest SpellsSmall one_small 8 63 c.args.bytes.now c.in-Ok.first c.in-Ok-small_slot.second
+    second n r c.in-Ok.ensures.ok c.in-Ok-small_slot.ensures.ok is in
     none second newest.0 n r newest.1) c.greater.ensures.none

@@ -19,7 +19,8 @@ returns-in_err-put-clause-err g c =
     let two = putting (c.args.at + 1) c.args.body.now in
     let three = putting c.args.at (165 ∷ []) in
     let closed = c.in_ok-close.ensures in
-    err_holds c.from_residual-in_err-put.result (stop_later one (two ++ three) (plan c.args.disk.now) (plan c.close.new.disk) _ _ _ closed.ok closed.plan
+    err_holds c.from_residual-in_err-put.result
+    (stop_later one (two ++ three) (plan c.args.disk.now) (plan c.close.new.disk) _ _ _ closed.ok closed.plan
     (stop_first two three _ _ _ c.in_err-put.ensures.err))
 
 pub returns-clause-err : goal.returns-clause-err
@@ -30,7 +31,8 @@ returns-clause-err g c =
     let three = putting c.args.at (165 ∷ []) in
     let closed = c.in_ok-close.ensures in
     let done = c.in_ok-put.ensures in
-    on_err_weaker c.open.result (λ stop. stop_later one (two ++ three) (plan c.args.disk.now) (plan c.close.new.disk) _ _ _ closed.ok closed.plan
+    on_err_weaker c.open.result (λ stop.
+    stop_later one (two ++ three) (plan c.args.disk.now) (plan c.close.new.disk) _ _ _ closed.ok closed.plan
     (stop_later two three (plan c.close.new.disk) (plan c.put.new.disk) _ _ _ done.ok done.plan stop))
     c.open.ensures.err
 
@@ -42,7 +44,8 @@ returns-clause-ok g c =
     let three = putting c.args.at (165 ∷ []) in
     let closed = c.in_ok-close.ensures in
     let done = c.in_ok-put.ensures in
-    on_ok_weaker c.open.result (λ last. passed_both one (two ++ three) (plan c.args.disk.now) (plan c.close.new.disk) _ _ _ closed.ok closed.plan
+    on_ok_weaker c.open.result (λ last.
+    passed_both one (two ++ three) (plan c.args.disk.now) (plan c.close.new.disk) _ _ _ closed.ok closed.plan
     (passed_both two three (plan c.close.new.disk) (plan c.put.new.disk) _ _ _ done.ok done.plan last))
     c.open.ensures.ok
 
@@ -52,5 +55,6 @@ returns-clause-plan g c =
     let closed = c.in_ok-close.ensures.plan in
     on_ok_weaker c.open.result (λ last.
     both_later (plan c.args.disk.now) (plan c.put.new.disk) (plan c.open.new.disk) 4 2
-    (both_later (plan c.args.disk.now) (plan c.close.new.disk) (plan c.put.new.disk) 2 2 closed c.in_ok-put.ensures.plan) last)
+    (both_later (plan c.args.disk.now) (plan c.close.new.disk)
+    (plan c.put.new.disk) 2 2 closed c.in_ok-put.ensures.plan) last)
     c.open.ensures.plan

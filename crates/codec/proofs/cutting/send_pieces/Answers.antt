@@ -10,10 +10,15 @@ loop-number-init c =
     (omega arith, ap (λ n. c.args.sent.now ++ pieces_from c.args.packet.now c.args.offer.now 0 n) all)
 
 pub loop-number-preserved : goal.loop-number-preserved
-loop-number-preserved c =
-    (omega (arith, c.loop-number-test.true), one_more c.args.packet.now c.args.offer.now c.loop-number.number c.pieces_of-pieces.result c.loop-number.sent c.send_piece.new.sent _ c.loop-number-test.true c.loop-number.invariant.1 c.in_ok-send_piece.ensures)
+loop-number-preserved c = (
+  omega (arith, c.loop-number-test.true),
+  one_more c.args.packet.now c.args.offer.now c.loop-number.number c.pieces_of-pieces.result c.loop-number.sent
+      c.send_piece.new.sent _ c.loop-number-test.true c.loop-number.invariant.1 c.in_ok-send_piece.ensures,
+)
 
 pub returns : goal.returns
 returns c =
-    no_more c.args.packet.now c.args.offer.now c.loop-number.number c.pieces_of-pieces.result c.loop-number.sent _ c.loop-number-test.false c.loop-number.invariant.1
-    ∙ ap (λ n. c.args.sent.now ++ pieces_from c.args.packet.now c.args.offer.now 0 n) (c.pieces_of-pieces.ensures ∙ ap parts_of c.requires.bytes)
+    no_more c.args.packet.now c.args.offer.now c.loop-number.number c.pieces_of-pieces.result c.loop-number.sent _
+    c.loop-number-test.false c.loop-number.invariant.1
+    ∙ ap (λ n. c.args.sent.now ++ pieces_from c.args.packet.now c.args.offer.now 0 n) (c.pieces_of-pieces.ensures
+    ∙ ap parts_of c.requires.bytes)

@@ -7,5 +7,6 @@ use Rattle.codec.proofs.decoding.check.Goals as goal
 
 pub returns : goal.returns
 returns c =
-    let passed = ap (λ (bytes : List ℕ). end_of (packet.read bytes)) (sym c.new-input.ensures) ∙ c.in_ok-skip_parts.ensures in
+    let passed = ap (λ (bytes : List ℕ). end_of (packet.read bytes)) (sym c.new-input.ensures)
+    ∙ c.in_ok-skip_parts.ensures in
     passed_whole c.args.bytes.now c.skip_parts.new.input passed (sym c.if-not-is_empty.ensures)

@@ -8,7 +8,9 @@ use Rattle.codec.proofs.fields.write_fields.Goals as goal
 pub returns-in_ok-records-in-Offer : goal.returns-in_ok-records-in-Offer
 returns-in_ok-records-in-Offer c =
     let b = c.in-Offer.field-0 in
-    offer_written b c.args.out.now.items c.worker-in-Offer.new.out.items c.grant-in-Offer.new.out.items c.raised.new.out.items c.actor.new.out.items c.progress.new.out.items c.task-in-Offer.new.out.items c.next_frame.new.out.items c.frames.new.out.items c.records.new.out.items
+    offer_written b c.args.out.now.items c.worker-in-Offer.new.out.items c.grant-in-Offer.new.out.items
+    c.raised.new.out.items c.actor.new.out.items c.progress.new.out.items c.task-in-Offer.new.out.items
+    c.next_frame.new.out.items c.frames.new.out.items c.records.new.out.items
     (rw c.in-Offer.is at c.in_ok-worker-in-Offer.ensures)
     (rw c.in-Offer.is at c.in_ok-grant-in-Offer.ensures)
     (rw c.in-Offer.is at c.in_ok-raised-in-Offer.ensures)
@@ -31,7 +33,8 @@ returns-in_ok-other_worker-in-Leave c =
 pub returns-in_ok-part-in-Piece : goal.returns-in_ok-part-in-Piece
 returns-in_ok-part-in-Piece c =
     let b = c.in-Piece.field-0 in
-    piece_written b c.args.out.now.items c.worker-in-Piece.new.out.items c.grant-in-Piece.new.out.items c.raised-in-Piece.new.out.items c.pieces.new.out.items c.piece_of.new.out.items c.part.new.out.items
+    piece_written b c.args.out.now.items c.worker-in-Piece.new.out.items c.grant-in-Piece.new.out.items
+    c.raised-in-Piece.new.out.items c.pieces.new.out.items c.piece_of.new.out.items c.part.new.out.items
     (rw c.in-Piece.is at c.in_ok-worker-in-Piece.ensures)
     (rw c.in-Piece.is at c.in_ok-grant-in-Piece.ensures)
     (rw c.in-Piece.is at c.in_ok-raised-in-Piece.ensures)

@@ -5,9 +5,11 @@ use Rattle.ids.proofs.Places.{and_true, passed_on}
 use Rattle.ids.proofs.place.are_steps.Goals as goal
 
 pub loop-step-preserved : goal.loop-step-preserved
-loop-step-preserved c = passed_on c.args.bytes.now c.loop-step.step-index c.loop-step.good c.loop-step-test.true c.loop-step.invariant
+loop-step-preserved c = passed_on c.args.bytes.now c.loop-step.step-index c.loop-step.good c.loop-step-test.true
+    c.loop-step.invariant
 
 pub returns : goal.returns
 returns c =
-    let none = at_drop_all (λ l. c.loop-step.good && list_all (λ step. nat_lt step 9) l) c.args.bytes.now c.loop-step.step-index c.loop-step-test.false in
+    let none = at_drop_all (λ l. c.loop-step.good
+    && list_all (λ step. nat_lt step 9) l) c.args.bytes.now c.loop-step.step-index c.loop-step-test.false in
     sym (and_true c.loop-step.good) ∙ (sym none ∙ c.loop-step.invariant)

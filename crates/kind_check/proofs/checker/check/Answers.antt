@@ -27,5 +27,6 @@ new-requires-clause-follow c = resolves_follows _ _ c.in-Ok-program.ensures
 
 pub returns-in-Some-clause-refused : goal.returns-in-Some-clause-refused
 returns-in-Some-clause-refused c =
-    let e : least_with None (faults c.args.program) ≡ Some (c.in-Some.offset, c.in-Some.fault) = cc (c.in-Ok.ensures, c.in-Some.ensures) in
+    let e : least_with None (faults c.args.program) ≡ Some (c.in-Some.offset, c.in-Some.fault) =
+    cc (c.in-Ok.ensures, c.in-Some.ensures) in
     least_is _ _ e

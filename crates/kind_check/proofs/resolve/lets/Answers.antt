@@ -4,4 +4,6 @@ use Rattle.kind_check.proofs.Lists.{done}
 use Rattle.kind_check.proofs.resolve.lets.Goals as goal
 
 pub returns-clause-codes : goal.returns-clause-codes
-returns-clause-codes c = done (ResolvesLets c.loop-each.names) (ResolvesLets c.args.names.now c.args.lets.now) c.as_slice-each-items.result.now c.loop-each.each-index c.loop-each.codes (omega arith) tt c.loop-each.invariant.codes
+returns-clause-codes c = done (ResolvesLets c.loop-each.names)
+    (ResolvesLets c.args.names.now c.args.lets.now) c.as_slice-each-items.result.now c.loop-each.each-index
+    c.loop-each.codes (omega arith) tt c.loop-each.invariant.codes

@@ -8,4 +8,6 @@ returns c =
     let ts = c.args.threads.now.all.now in
     let us = c.args.uses.now.all.now in
     let names = c.args.names.now in
-    done (ResolvesSlots ts names us c.loop-argument.hole) (ResolvesSlots ts names us 1 c.args.arguments.now) c.as_slice-argument-items.result.now c.loop-argument.argument-index c.loop-argument.slots (omega arith) tt c.loop-argument.invariant.slots
+    done (ResolvesSlots ts names us c.loop-argument.hole)
+    (ResolvesSlots ts names us 1 c.args.arguments.now) c.as_slice-argument-items.result.now
+    c.loop-argument.argument-index c.loop-argument.slots (omega arith) tt c.loop-argument.invariant.slots

@@ -7,5 +7,6 @@ use Rattle.kind_check.proofs.statements.lets.Given as goal
 abbrev pub invariant-loop-each : goal.invariant-loop-each
 invariant-loop-each l = record {
   scope : after_names l.scope (drop l.each-index l.each-items) ≡ after_names l.initial.scope l.lets;
-  least : least_with l.least (lets_faults l.scope (drop l.each-index l.each-items)) ≡ least_with l.initial.least (lets_faults l.initial.scope l.lets);
+  least : least_with l.least (lets_faults l.scope (drop l.each-index l.each-items))
+      ≡ least_with l.initial.least (lets_faults l.initial.scope l.lets);
 }

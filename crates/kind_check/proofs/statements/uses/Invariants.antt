@@ -5,4 +5,6 @@ use Rattle.kind_check.proofs.statements.uses.Given as goal
 
 -- what is left gives what all give
 abbrev pub invariant-loop-i : goal.invariant-loop-i
-invariant-loop-i l = least_with l.least (uses_faults l.threads.all.now l.scope (take l.i l.uses.all.now) (drop l.i l.uses.all.now)) ≡ least_with l.initial.least (uses_faults l.threads.all.now l.scope [] l.uses.all.now)
+invariant-loop-i l = least_with l.least
+    (uses_faults l.threads.all.now l.scope (take l.i l.uses.all.now) (drop l.i l.uses.all.now))
+    ≡ least_with l.initial.least (uses_faults l.threads.all.now l.scope [] l.uses.all.now)

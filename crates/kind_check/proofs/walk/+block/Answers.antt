@@ -8,7 +8,9 @@ returns-clause-scope t c =
     let ls = c.args.body.now.lets in
     rw c.truncate.ensures
     (elim c.match-body.branch [
-      | in-If+in_ok-block-in-If+in_ok-block-in-If-2 w ↦ lets_restored s _ ls _ c.len-outside.ensures (cc (c.in_ok-lets.ensures.scope, w.in_ok-block-in-If.ensures.scope, w.in_ok-block-in-If-2.ensures.scope))
+      | in-If+in_ok-block-in-If+in_ok-block-in-If-2 w ↦ lets_restored s _ ls _ c.len-outside.ensures
+          (cc (c.in_ok-lets.ensures.scope, w.in_ok-block-in-If.ensures.scope, w.in_ok-block-in-If-2.ensures.scope))
       | in-Send w ↦ lets_restored s _ ls _ c.len-outside.ensures (cc c.in_ok-lets.ensures.scope)
-      | in-Next+in_ok-arguments-in-Next+in_ok-given-in-Next w ↦ arguments_restored s _ ls w.in-Next.slots _ c.len-outside.ensures (cc (c.in_ok-lets.ensures.scope, w.in_ok-arguments-in-Next.ensures.scope))
+      | in-Next+in_ok-arguments-in-Next+in_ok-given-in-Next w ↦ arguments_restored s _ ls w.in-Next.slots _
+          c.len-outside.ensures (cc (c.in_ok-lets.ensures.scope, w.in_ok-arguments-in-Next.ensures.scope))
     ])

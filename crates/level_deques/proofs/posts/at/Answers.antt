@@ -11,7 +11,9 @@ returns-then-index-len c =
     let less = within (length c.args.levels.now) c.loop-count.count c.loop-count.invariant.0 some in
     c.at.ensures
     ∙ ap (λ n. slice_get c.index-levels-count.result.posts (n - 1 - c.loop-count.index)) c.len-len.ensures
-    ∙ read_here c.args.levels.now c.loop-count.count (c.loop-count.count - 1) c.index-levels-count.result c.loop-count.index (omega (arith, some)) less c.index-levels-count.is (rw c.len-len.ensures at c.if-index-len.true)
+    ∙ read_here c.args.levels.now c.loop-count.count
+    (c.loop-count.count - 1) c.index-levels-count.result c.loop-count.index
+    (omega (arith, some)) less c.index-levels-count.is (rw c.len-len.ensures at c.if-index-len.true)
     ∙ c.loop-count.invariant.1
 
 pub loop-count-preserved : goal.loop-count-preserved
@@ -19,5 +21,8 @@ loop-count-preserved c =
     let some = c.loop-count-test.true in
     let less = within (length c.args.levels.now) c.loop-count.count c.loop-count.invariant.0 some in (
       omega (arith, less),
-      rw c.len-len.ensures (read_next c.args.levels.now c.loop-count.count (c.loop-count.count - 1) c.index-levels-count.result c.loop-count.index (omega (arith, some)) less c.index-levels-count.is (rw c.len-len.ensures at c.if-index-len.false) ∙ c.loop-count.invariant.1),
+      rw c.len-len.ensures (read_next c.args.levels.now c.loop-count.count
+          (c.loop-count.count - 1) c.index-levels-count.result c.loop-count.index
+          (omega (arith, some)) less c.index-levels-count.is (rw c.len-len.ensures at c.if-index-len.false)
+          ∙ c.loop-count.invariant.1),
     )

@@ -9,7 +9,8 @@ invariant-loop-ticket g l = record {
   parts : (worker_view l.deque).parts ≡ 1025;
   offered : (worker_view l.deque).offered ≡ (worker_view l.fn.deque).offered;
   taken : (worker_view l.deque).taken ≡ (worker_view l.fn.deque).taken ++ l.left.items;
-  room : length (worker_view l.deque).offered - length (worker_view l.deque).taken + vec_len l.left ≤ vec_capacity l.left;
+  room : length (worker_view l.deque).offered - length (worker_view l.deque).taken + vec_len l.left
+      ≤ vec_capacity l.left;
 }
 
 abbrev pub decreases-loop-ticket : goal.decreases-loop-ticket

@@ -9,7 +9,8 @@ invariant-loop-worker g l = record {
   owners : (worker_view l.deque).owners ≡ (worker_view l.fn.deque).owners;
   offered : (worker_view l.deque).offered ≡ (worker_view l.fn.deque).offered;
   own : All (λ w. w.pool ≡ worker_deque l.fn.deque) l.workers.items;
-  taken : (weight : g.row.T.Denot → ℕ) → sum_by weight (worker_view l.deque).taken + sum_by weight (flat_map (λ w. w.taken) l.workers.items)
+  taken : (weight : g.row.T.Denot → ℕ)
+      → sum_by weight (worker_view l.deque).taken + sum_by weight (flat_map (λ w. w.taken) l.workers.items)
       ≡ sum_by weight (worker_view l.fn.deque).taken + sum_by weight (flat_map (λ w. w.taken) l.fn.workers.items);
 }
 

@@ -28,7 +28,8 @@ loop-turn-init g c =
         gone,
         learn.0.1,
         λ weight. ap (λ v. sum_by weight v.taken) same ∙ learn.0.1 weight
-            ∙ ap (λ l. sum_by weight (numbered l)) (sym (append-nil gone) ∙ ap (λ l. gone ++ l) (sym c.requires.empty.0)),
+            ∙ ap (λ l. sum_by weight (numbered l)) (sym (append-nil gone)
+            ∙ ap (λ l. gone ++ l) (sym c.requires.empty.0)),
       );
       room = omega (arith, learn.1, held.1, few, put, taken, c.requires.empty.1, c.requires.room);
     }

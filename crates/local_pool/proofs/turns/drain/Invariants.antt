@@ -8,7 +8,8 @@ invariant-loop-turn g l = record {
   own : IsPassOf l.line l.keeper;
   parts : (view l.keeper).parts ≡ 1025;
   put : (view l.keeper).put ≡ (view l.fn.keeper).put;
-  order : (gone : List g.row.D.Denot) × SameItems (view l.fn.keeper).taken (numbered gone) × SameItems (view l.keeper).taken (numbered (gone ++ l.left.items));
+  order : (gone : List g.row.D.Denot) × SameItems (view l.fn.keeper).taken (numbered gone)
+      × SameItems (view l.keeper).taken (numbered (gone ++ l.left.items));
   room : vec_len l.left + (length (view l.keeper).put - length (view l.keeper).taken) ≤ vec_capacity l.left;
 }
 

@@ -16,7 +16,8 @@ loop-pass-preserved g c =
       here = search rules;
       parts = omega (arith, c.in-Some.ensures.cases, c.gather.ensures.part, c.loop-pass.invariant.parts);
       some_part = omega (arith, c.gather.ensures.part);
-      own = (All-pop (λ (p : Pass). p.queue ≡ c.args.line.now.table.shared.table_id) _ _ _ c.pop.ensures.items c.loop-pass.invariant.own).0;
+      own = (All-pop (λ (p : Pass). p.queue
+          ≡ c.args.line.now.table.shared.table_id) _ _ _ c.pop.ensures.items c.loop-pass.invariant.own).0;
       put = λ weight.
           let was = c.loop-pass.invariant.put weight in
           let all = ap (sum_by weight) c.gather.ensures.put in

@@ -3,7 +3,11 @@ use Rattle.local_pool.proofs.Puts.{marks, finds, learned}
 use Rattle.local_pool.proofs.turns.put_first.Goals as goal
 
 pub push_as-requires-clause-rule : goal.push_as-requires-clause-rule
-push_as-requires-clause-rule g c = (marks _ _ _ _ (ap (λ v. v.parts) c.requires.blank) (ap (λ v. v.stamp) c.requires.blank), finds _ _)
+push_as-requires-clause-rule g c = (
+  marks _ _ _ _ (ap (λ v. v.parts) c.requires.blank)
+      (ap (λ v. v.stamp) c.requires.blank),
+  finds _ _,
+)
 
 pub unreachable-requires : goal.unreachable-requires
 unreachable-requires g c =

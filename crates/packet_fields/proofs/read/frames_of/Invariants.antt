@@ -5,4 +5,6 @@ use Rattle.packet_fields.proofs.Loop.{with_front}
 use Rattle.packet_fields.proofs.read.frames_of.Given as goal
 
 abbrev pub invariant-loop : goal.invariant-loop
-invariant-loop l = with_front l.frames ((items field.number_of_frame (field.frame l.next) l.last (l.count - l.counter)).read l.input) ≡ (items field.number_of_frame (field.frame l.next) None l.count).read l.fn.input
+invariant-loop l = with_front l.frames
+    ((items field.number_of_frame (field.frame l.next) l.last (l.count - l.counter)).read l.input)
+    ≡ (items field.number_of_frame (field.frame l.next) None l.count).read l.fn.input

@@ -5,4 +5,5 @@ use Rattle.packet_fields.proofs.Loop.{with_front}
 use Rattle.packet_fields.proofs.read.numbers_of.Given as goal
 
 abbrev pub invariant-loop : goal.invariant-loop
-invariant-loop l = with_front l.numbers ((plain field.signed (l.count - l.counter)).read l.input) ≡ (plain field.signed l.count).read l.fn.input
+invariant-loop l = with_front l.numbers ((plain field.signed (l.count - l.counter)).read l.input)
+    ≡ (plain field.signed l.count).read l.fn.input

@@ -7,5 +7,7 @@ use Rattle.packet_fields.proofs.read.place.Goals as goal
 pub returns : goal.returns
 unfolding field.place field.steps
 returns c =
-    let test : is_place c.in_ok-steps.steps.now ≡ true = is_place_read c.in_ok-count.count c.u16.new.self c.in_ok-steps.steps.now c.steps.new.input c.if-count-gt-MOST_STEPS.false c.in_ok-steps.ensures in
+    let test : is_place c.in_ok-steps.steps.now ≡ true =
+    is_place_read c.in_ok-count.count c.u16.new.self c.in_ok-steps.steps.now c.steps.new.input
+    c.if-count-gt-MOST_STEPS.false c.in_ok-steps.ensures in
     search rules

@@ -8,10 +8,15 @@ use Rattle.packet_fields.proofs.skip.frames_of.Goals as goal
 pub returns-in_err-number : goal.returns-in_err-number
 returns-in_err-number c =
     let p = err_from_is_err_and c.from_residual.result c.from_residual.ensures.1 in
-    let total = end_of ((items field.number_of_frame (field.frame c.args.next.now) None c.args.count).read c.args.input.now) in
-    rw (p.1, p.2) (stops field.number_of_frame (field.frame c.args.next.now) c.loop.last c.in_err-number.field-0.0 c.args.count c.loop.counter c.loop.input total c.loop-test.true c.in_err-number.ensures c.loop.invariant)
+    let total = end_of ((items field.number_of_frame (field.frame c.args.next.now) None c.args.count).read
+    c.args.input.now) in
+    rw (p.1, p.2) (stops field.number_of_frame
+    (field.frame c.args.next.now) c.loop.last c.in_err-number.field-0.0 c.args.count c.loop.counter c.loop.input
+    total c.loop-test.true c.in_err-number.ensures c.loop.invariant)
 
 pub loop-preserved : goal.loop-preserved
 loop-preserved c =
-    let total = end_of ((items field.number_of_frame (field.frame c.args.next.now) None c.args.count).read c.args.input.now) in
-    skips_on field.number_of_frame (field.frame c.args.next.now) c.loop.last c.args.count c.loop.counter c.loop.input c.in_ok-number.number c.frame.new.input total c.loop-test.true c.in_ok-number.ensures c.loop.invariant
+    let total = end_of ((items field.number_of_frame (field.frame c.args.next.now) None c.args.count).read
+    c.args.input.now) in
+    skips_on field.number_of_frame (field.frame c.args.next.now) c.loop.last c.args.count c.loop.counter c.loop.input
+    c.in_ok-number.number c.frame.new.input total c.loop-test.true c.in_ok-number.ensures c.loop.invariant

@@ -9,9 +9,12 @@ pub returns-in_err-incarnation : goal.returns-in_err-incarnation
 returns-in_err-incarnation c =
     let p = err_from_is_err_and c.from_residual.result c.from_residual.ensures.1 in
     let total = end_of ((items field.name_of_member field.member None c.args.count).read c.args.input.now) in
-    rw (p.1, p.2) (stops field.name_of_member field.member c.loop.last c.in_err-incarnation.field-0.0 c.args.count c.loop.counter c.loop.input total c.loop-test.true c.in_err-incarnation.ensures c.loop.invariant)
+    rw (p.1, p.2) (stops field.name_of_member field.member c.loop.last c.in_err-incarnation.field-0.0 c.args.count
+    c.loop.counter c.loop.input total c.loop-test.true c.in_err-incarnation.ensures c.loop.invariant)
 
 pub loop-preserved : goal.loop-preserved
 loop-preserved c =
     let total = end_of ((items field.name_of_member field.member None c.args.count).read c.args.input.now) in
-    skips_on field.name_of_member field.member c.loop.last c.args.count c.loop.counter c.loop.input c.in_ok-incarnation.incarnation c.member.new.input total c.loop-test.true c.in_ok-incarnation.ensures c.loop.invariant
+    skips_on field.name_of_member field.member c.loop.last c.args.count c.loop.counter c.loop.input
+    c.in_ok-incarnation.incarnation c.member.new.input total c.loop-test.true c.in_ok-incarnation.ensures
+    c.loop.invariant

@@ -8,9 +8,11 @@ pub returns-in_err-signed : goal.returns-in_err-signed
 returns-in_err-signed c =
     let p = err_from_is_err_and c.from_residual.result c.from_residual.ensures.1 in
     let total = end_of ((plain field.signed c.args.count).read c.args.input.now) in
-    rw (p.1, p.2) (stops_at field.signed c.in_err-signed.field-0.0 c.args.count c.loop.counter c.loop.input total c.loop-test.true c.in_err-signed.ensures c.loop.invariant)
+    rw (p.1, p.2) (stops_at field.signed c.in_err-signed.field-0.0 c.args.count c.loop.counter c.loop.input total
+    c.loop-test.true c.in_err-signed.ensures c.loop.invariant)
 
 pub loop-preserved : goal.loop-preserved
 loop-preserved c =
     let total = end_of ((plain field.signed c.args.count).read c.args.input.now) in
-    skips_item field.signed c.args.count c.loop.counter c.loop.input c.in_ok-signed.field-0 c.signed.new.self total c.loop-test.true c.in_ok-signed.ensures c.loop.invariant
+    skips_item field.signed c.args.count c.loop.counter c.loop.input c.in_ok-signed.field-0 c.signed.new.self total
+    c.loop-test.true c.in_ok-signed.ensures c.loop.invariant

@@ -5,4 +5,5 @@ use Rattle.packet_fields.specs.Fields as field
 use Rattle.packet_fields.proofs.skip.saved_of.Given as goal
 
 abbrev pub invariant-loop : goal.invariant-loop
-invariant-loop l = end_of ((items place_of field.saved_value l.last (l.count - l.counter)).read l.input) ≡ end_of ((items place_of field.saved_value None l.count).read l.fn.input)
+invariant-loop l = end_of ((items place_of field.saved_value l.last (l.count - l.counter)).read l.input)
+    ≡ end_of ((items place_of field.saved_value None l.count).read l.fn.input)

@@ -4,4 +4,5 @@ use Rattle.packet_fields.specs.Fields as field
 use Rattle.packet_fields.proofs.write.each_frame.Given as goal
 
 abbrev pub invariant-loop-value : goal.invariant-loop-value
-invariant-loop-value l = l.out.items ≡ l.fn.out.items ++ flat_map (field.frame 0 None).write (take l.value-index l.frames)
+invariant-loop-value l = l.out.items
+    ≡ l.fn.out.items ++ flat_map (field.frame 0 None).write (take l.value-index l.frames)

@@ -7,6 +7,7 @@ pub returns-in_ok-byte-in-Local-2 : goal.returns-in_ok-byte-in-Local-2
 unfolding goes_to
 returns-in_ok-byte-in-Local-2 c next =
     rw c.in-Local.is
-    (three_parts c.args.out.now.items c.byte-in-Local.new.out.items c.below.new.out.items c.byte-in-Local-2.new.out.items
+    (three_parts c.args.out.now.items c.byte-in-Local.new.out.items c.below.new.out.items
+    c.byte-in-Local-2.new.out.items
     (big_bytes 1 1) ((below next).write c.in-Local.frame) (big_bytes 1 c.in-Local.slot)
     c.in_ok-byte-in-Local.ensures (c.in_ok-below-in-Local.ensures next) c.in_ok-byte-in-Local-2.ensures)

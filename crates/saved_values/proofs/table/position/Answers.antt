@@ -11,6 +11,9 @@ returns-in-Equal-clause-saved c =
     let place = c.args.place.now in
     let item = c.index-values-index.result in
     let rest = drop (suc c.loop-index.index) values in
-    let from : drop c.loop-index.index values ≡ item ∷ rest = drop-cons values c.loop-index.index item c.loop-index-test.true ∙ ap (λ x. x ∷ rest) (sym c.index-values-index.is) in
+    let from : drop c.loop-index.index values ≡ item ∷ rest =
+    drop-cons values c.loop-index.index item c.loop-index-test.true
+    ∙ ap (λ x. x ∷ rest) (sym c.index-values-index.is) in
     let equal : place_cmp item.place place ≡ Equal = sym c.compare.ensures ∙ c.in-Equal.is in
-    ap is_some (known_skips place values c.loop-index.index c.loop-index.invariant) ∙ (ap (λ l. is_some (known_by l place)) from ∙ known_here place item rest equal)
+    ap is_some (known_skips place values c.loop-index.index c.loop-index.invariant)
+    ∙ (ap (λ l. is_some (known_by l place)) from ∙ known_here place item rest equal)

@@ -12,18 +12,30 @@ ends thread numbers turn = ended (record { threads = []; length = 0 }) thread nu
 
 pub prepare_arrival-requires : goal.prepare_arrival-requires
 prepare_arrival-requires g c =
-    let there : frame_in c.in-Some.frame.now.number c.args.content.now.frames ≡ Some c.in-Some.frame.now = search rules in
-    let is : is_turn_of (ends c.args.thread c.args.numbers.now c.args.turn.now) c.in-Some.frame.now ≡ true = search rules in
-    rw (sym c.in-Some.ensures.number) (own_turn (g.K.Knows.known_of c.args.known.now) (ends c.args.thread c.args.numbers.now c.args.turn.now) c.args.content.now c.in-Some.frame.now c.requires.sound c.law_stand_in_order.ensures there is).lacks
+    let there : frame_in c.in-Some.frame.now.number c.args.content.now.frames ≡ Some c.in-Some.frame.now =
+    search rules in
+    let is : is_turn_of (ends c.args.thread c.args.numbers.now c.args.turn.now) c.in-Some.frame.now ≡ true =
+    search rules in
+    rw (sym c.in-Some.ensures.number) (own_turn (g.K.Knows.known_of c.args.known.now)
+    (ends c.args.thread c.args.numbers.now c.args.turn.now) c.args.content.now c.in-Some.frame.now c.requires.sound
+    c.law_stand_in_order.ensures there is).lacks
 
 pub prepare_known_join-requires-clause-number : goal.prepare_known_join-requires-clause-number
 prepare_known_join-requires-clause-number g c =
-    let there : frame_in c.in-Some.frame.now.number c.args.content.now.frames ≡ Some c.in-Some.frame.now = search rules in
-    let is : is_turn_of (ends c.args.thread c.args.numbers.now c.args.turn.now) c.in-Some.frame.now ≡ true = search rules in
-    (own_turn (g.K.Knows.known_of c.args.known.now) (ends c.args.thread c.args.numbers.now c.args.turn.now) c.args.content.now c.in-Some.frame.now c.requires.sound c.law_stand_in_order.ensures there is).below
+    let there : frame_in c.in-Some.frame.now.number c.args.content.now.frames ≡ Some c.in-Some.frame.now =
+    search rules in
+    let is : is_turn_of (ends c.args.thread c.args.numbers.now c.args.turn.now) c.in-Some.frame.now ≡ true =
+    search rules in
+    (own_turn (g.K.Knows.known_of c.args.known.now)
+    (ends c.args.thread c.args.numbers.now c.args.turn.now) c.args.content.now c.in-Some.frame.now c.requires.sound
+    c.law_stand_in_order.ensures there is).below
 
 pub prepare_known_join-requires-clause-lacks : goal.prepare_known_join-requires-clause-lacks
 prepare_known_join-requires-clause-lacks g c =
-    let there : frame_in c.in-Some.frame.now.number c.args.content.now.frames ≡ Some c.in-Some.frame.now = search rules in
-    let is : is_turn_of (ends c.args.thread c.args.numbers.now c.args.turn.now) c.in-Some.frame.now ≡ true = search rules in
-    (own_turn (g.K.Knows.known_of c.args.known.now) (ends c.args.thread c.args.numbers.now c.args.turn.now) c.args.content.now c.in-Some.frame.now c.requires.sound c.law_stand_in_order.ensures there is).lacks
+    let there : frame_in c.in-Some.frame.now.number c.args.content.now.frames ≡ Some c.in-Some.frame.now =
+    search rules in
+    let is : is_turn_of (ends c.args.thread c.args.numbers.now c.args.turn.now) c.in-Some.frame.now ≡ true =
+    search rules in
+    (own_turn (g.K.Knows.known_of c.args.known.now)
+    (ends c.args.thread c.args.numbers.now c.args.turn.now) c.args.content.now c.in-Some.frame.now c.requires.sound
+    c.law_stand_in_order.ensures there is).lacks

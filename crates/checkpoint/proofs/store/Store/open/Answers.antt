@@ -19,19 +19,26 @@ returns-in-Ok-clause-calls g c =
     if_ok_both c.open.result (λ s opened made. (
       looked.sequence,
       opening ++ made.0,
-      subst (λ (r : CheckpointRecord). IsOpening (bytes_of (device c.args.disk).file) looked.sequence r s.sequence (opening ++ made.0)) (sym opened.1)
-          (subst (λ f. IsOpening (bytes_of f) looked.sequence looked.«record» s.sequence (opening ++ made.0)) same made.1),
-      passed_both opening made.0 (plan c.args.disk) (plan looked.disk) _ _ _ c.in-Ok.ensures.calls c.in-Ok.ensures.plan made.2,
+      subst (λ (r : CheckpointRecord). IsOpening (bytes_of (device c.args.disk).file) looked.sequence r s.sequence
+          (opening ++ made.0)) (sym opened.1)
+          (subst (λ f. IsOpening (bytes_of f) looked.sequence looked.«record» s.sequence (opening ++ made.0)) same
+          made.1),
+      passed_both opening made.0 (plan c.args.disk)
+          (plan looked.disk) _ _ _ c.in-Ok.ensures.calls c.in-Ok.ensures.plan made.2,
       (λ i. made.3 i ∙ c.in-Ok.ensures.plan _ ∙ ap (plan c.args.disk) (omega arith)),
     )) c.open.ensures.opened c.open.ensures.calls
 
 pub returns-in-Ok-clause-kept : goal.returns-in-Ok-clause-kept
 returns-in-Ok-clause-kept g c =
-    if_ok_both c.open.result (λ s opened kept n r keeps. (let found = c.in-Ok.ensures.kept n r keeps in (kept found.0, opened.1 ∙ found.1))) c.open.ensures.opened c.open.ensures.kept
+    if_ok_both c.open.result (λ s opened kept n r keeps. (let found =
+    c.in-Ok.ensures.kept n r keeps in (kept found.0, opened.1 ∙ found.1))) c.open.ensures.opened c.open.ensures.kept
 
 pub returns-in-Ok-clause-kept_back : goal.returns-in-Ok-clause-kept_back
 returns-in-Ok-clause-kept_back g c =
-    if_err_weaker c.open.result (λ e back n r keeps. (let found = c.in-Ok.ensures.kept n r keeps in subst (λ (x : CheckpointRecord). KeepsContent (g.D.Disk.device e.1).file x) found.1 (back found.0))) c.open.ensures.kept_back
+    if_err_weaker c.open.result (λ e back n r keeps. (let found =
+    c.in-Ok.ensures.kept n r keeps in subst
+    (λ (x : CheckpointRecord). KeepsContent (g.D.Disk.device e.1).file x) found.1 (back found.0)))
+    c.open.ensures.kept_back
 
 pub returns-in-Ok-clause-refused : goal.returns-in-Ok-clause-refused
 returns-in-Ok-clause-refused g c =
@@ -42,9 +49,15 @@ returns-in-Ok-clause-refused g c =
     if_err_both c.open.result (λ e why spent other. elim why [
       | inl is ↦ (
           let said = spent is in
-          let in_file : IsRefused Spent (bytes_of (device c.args.disk).file) looked.«record».job = subst (λ f. IsRefused Spent (bytes_of f) looked.«record».job) same said.0 in
-          let of_job : IsRefused Spent (bytes_of (device c.args.disk).file) c.args.job = subst (λ (j : ℕ). IsRefused Spent (bytes_of (device c.args.disk).file) j) c.in-Ok.ensures.found.1 in_file in
-          (subst (λ (x : StoreError). IsRefused x (bytes_of (device c.args.disk).file) c.args.job) (sym is) of_job, subst (λ d. Passed opening (plan c.args.disk) (device c.args.disk) (device d)) (sym said.1) c.in-Ok.ensures.calls))
+          let in_file : IsRefused Spent (bytes_of (device c.args.disk).file) looked.«record».job =
+          subst (λ f. IsRefused Spent (bytes_of f) looked.«record».job) same said.0 in
+          let of_job : IsRefused Spent (bytes_of (device c.args.disk).file) c.args.job =
+          subst (λ (j : ℕ). IsRefused Spent (bytes_of (device c.args.disk).file) j) c.in-Ok.ensures.found.1 in_file
+          in (
+            subst (λ (x : StoreError). IsRefused x (bytes_of (device c.args.disk).file) c.args.job) (sym is) of_job,
+            subst (λ d. Passed opening (plan c.args.disk) (device c.args.disk) (device d))
+                (sym said.1) c.in-Ok.ensures.calls,
+          ))
       | inr is ↦ absurd (other is)
     ]) c.open.ensures.refused c.open.ensures.spent
 
@@ -60,8 +73,10 @@ returns-in-Ok-clause-stopped g c =
       looked.«record»,
       opening ++ made.1,
       subst (λ f. IsOpening (bytes_of f) looked.sequence looked.«record» made.0 (opening ++ made.1)) same made.2,
-      stop_later opening made.1 (plan c.args.disk) (plan looked.disk) _ _ _ c.in-Ok.ensures.calls c.in-Ok.ensures.plan made.3,
+      stop_later opening made.1 (plan c.args.disk)
+          (plan looked.disk) _ _ _ c.in-Ok.ensures.calls c.in-Ok.ensures.plan made.3,
     ))) c.open.ensures.stopped
 
 pub returns-in-Err-clause-kept_back : goal.returns-in-Err-clause-kept_back
-returns-in-Err-clause-kept_back g c n r keeps content left = let kept = c.in-Err.ensures.kept_back n r keeps in (n, (kept.slot, kept.each content left))
+returns-in-Err-clause-kept_back g c n r keeps content left = let kept =
+    c.in-Err.ensures.kept_back n r keeps in (n, (kept.slot, kept.each content left))

@@ -25,7 +25,11 @@ returns-in-Ok-clause-either g c =
 pub returns-in-Err-clause-stopped : goal.returns-in-Err-clause-stopped
 returns-in-Err-clause-stopped g c =
     let commit = commit_of _ _ _ _ _ _ _ _ (c.self.invariant c.if-self.false) c.place.ensures c.spell-body.ensures in
-    rw (← c.self.view_is) (λ _ _. (publishing c.place.result c.self.inside.gate c.spell-body.result, commit, c.in-Err.ensures.err))
+    rw (← c.self.view_is) (λ _ _. (
+      publishing c.place.result c.self.inside.gate c.spell-body.result,
+      commit,
+      c.in-Err.ensures.err,
+    ))
 
 pub returns-in-Err-clause-either : goal.returns-in-Err-clause-either
 returns-in-Err-clause-either g c =

@@ -13,18 +13,22 @@ pub returns-then-not-can_write-clause-settled : goal.returns-then-not-can_write-
 returns-then-not-can_write-clause-settled g c = inl (synced-settles _ _ c.give_up.ensures.cells)
 
 pub returns-then-not-can_write-clause-crash : goal.returns-then-not-can_write-clause-crash
-returns-then-not-can_write-clause-crash g c = synced-follows (Torn c.args.at (length c.args.bytes.now)) _ _ c.give_up.ensures.cells
+returns-then-not-can_write-clause-crash g c =
+    synced-follows (Torn c.args.at (length c.args.bytes.now)) _ _ c.give_up.ensures.cells
 
 pub returns-then-is_err-clause-settled : goal.returns-then-is_err-clause-settled
-returns-then-is_err-clause-settled g c = shadow-settles c.write.result _ _ _ _ _ c.write.ensures.ok c.write.ensures.err c.give_up-then-is_err.ensures.cells
+returns-then-is_err-clause-settled g c =
+    shadow-settles c.write.result _ _ _ _ _ c.write.ensures.ok c.write.ensures.err c.give_up-then-is_err.ensures.cells
 
 pub returns-then-is_err-clause-crash : goal.returns-then-is_err-clause-crash
 returns-then-is_err-clause-crash g c =
     let place : c.args.at ≤ length c.args.self.now.cells.items = search rules in
-    shadow-follows c.write.result _ _ _ _ _ place c.write.ensures.ok c.write.ensures.err c.give_up-then-is_err.ensures.cells
+    shadow-follows c.write.result _ _ _ _ _ place c.write.ensures.ok c.write.ensures.err
+    c.give_up-then-is_err.ensures.cells
 
 pub returns-in-Err-clause-settled : goal.returns-in-Err-clause-settled
-returns-in-Err-clause-settled g c = shadow-settles c.write.result _ _ _ _ _ c.write.ensures.ok c.write.ensures.err c.give_up-in-Err.ensures.cells
+returns-in-Err-clause-settled g c = shadow-settles c.write.result _ _ _ _ _ c.write.ensures.ok c.write.ensures.err
+    c.give_up-in-Err.ensures.cells
 
 pub returns-in-Err-clause-crash : goal.returns-in-Err-clause-crash
 returns-in-Err-clause-crash g c =
@@ -35,4 +39,7 @@ pub invariant_of-self : goal.invariant_of-self
 invariant_of-self g c =
     let place : c.args.at ≤ length c.args.self.now.cells.items = search rules in
     let ends : c.args.at + length c.args.bytes.now ≤ 8192 = search rules in
-    record { within = shadow-within c.write.result _ _ _ _ 8192 place c.args.self.now.within ends c.write.ensures.ok c.write.ensures.err }
+    record {
+      within = shadow-within c.write.result _ _ _ _ 8192 place c.args.self.now.within ends c.write.ensures.ok
+          c.write.ensures.err;
+    }

@@ -13,7 +13,8 @@ returns c i =
     let members = c.args.members.now in
     let step : List Chain = c.in_ok-step.step in
     let same : step ≡ c.in_ok-table.table = c.in_ok-step.ensures ∙ c.as_slice.ensures ∙ c.in_ok-chains.ensures in
-    let made : IsMadeFrom name_of_member name_of_chain chain_of (λ m. refl) members step = rw same c.in_ok-table.ensures in
+    let made : IsMadeFrom name_of_member name_of_chain chain_of (λ m. refl) members step =
+    rw same c.in_ok-table.ensures in
     ap (bearer_in i) (c.in_ok-ends.ensures)
     ∙ bearer_at_end c.as_slice-2.result.now i
     ∙ ap (λ (chains : List Chain). end_of (reach_in chains i)) c.as_slice-2.ensures

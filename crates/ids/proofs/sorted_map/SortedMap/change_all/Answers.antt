@@ -6,11 +6,15 @@ pub invariant_of-self : goal.invariant_of-self
 invariant_of-self g c =
     let changed = g.C.ItemChange.changed c.args.change.now in
     let slots = all_retained _ changed _ (λ key shown keep left next t. search rules) _ _ _ c.retain.ensures.retained in
-    (after_all g.X.Named.name_of changed (g.met.C.ItemChange.keeps_name c.args.change.now) c.self.inside.items c.retain.new.self slots c.self.inside.entries.items c.self.invariant).stored
+    (after_all g.X.Named.name_of changed
+    (g.met.C.ItemChange.keeps_name c.args.change.now) c.self.inside.items c.retain.new.self slots
+    c.self.inside.entries.items c.self.invariant).stored
 
 pub returns : goal.returns
 returns g c =
     let changed = g.C.ItemChange.changed c.args.change.now in
     let slots = all_retained _ changed _ (λ key shown keep left next t. search rules) _ _ _ c.retain.ensures.retained in
-    (after_all g.X.Named.name_of changed (g.met.C.ItemChange.keeps_name c.args.change.now) c.self.inside.items c.retain.new.self slots c.self.inside.entries.items c.self.invariant).list
+    (after_all g.X.Named.name_of changed
+    (g.met.C.ItemChange.keeps_name c.args.change.now) c.self.inside.items c.retain.new.self slots
+    c.self.inside.entries.items c.self.invariant).list
     ∙ ap (map changed) c.self.view_is

@@ -4,8 +4,10 @@ use Rattle.std.proofs.lemmas.Fn.{filter_same}
 use Rattle.level_deques.proofs.Reading.{has_posts, levels_kept, same_posts}
 use Rattle.level_deques.proofs.posts.Posts.retain.Goals as goal
 
-left : (g : _) (c : goal.After-retain g) → c.retain.new.self.items ≡ filter has_posts c.retain-self-inside.new.levels.items
-left g c = filter_same _ has_posts _ (λ x b f h. search rules) c.retain-self-inside.new.levels.items c.retain.new.self.items c.retain.ensures.filtered
+left : (g : _) (c : goal.After-retain g)
+    → c.retain.new.self.items ≡ filter has_posts c.retain-self-inside.new.levels.items
+left g c = filter_same _ has_posts _
+    (λ x b f h. search rules) c.retain-self-inside.new.levels.items c.retain.new.self.items c.retain.ensures.filtered
 
 pub invariant_of-self : goal.invariant_of-self
 invariant_of-self g c =
@@ -16,4 +18,5 @@ invariant_of-self g c =
     )
 
 pub returns : goal.returns
-returns g c = rw (sym c.self.view_is) (rw (left g c) (same_posts c.retain-self-inside.new.levels.items ∙ c.retain-self-inside.ensures.posts))
+returns g c = rw (sym c.self.view_is)
+    (rw (left g c) (same_posts c.retain-self-inside.new.levels.items ∙ c.retain-self-inside.ensures.posts))

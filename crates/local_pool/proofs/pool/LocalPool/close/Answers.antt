@@ -10,7 +10,8 @@ pub drain-requires-clause-room : goal.drain-requires-clause-room
 drain-requires-clause-room g c =
     let taken_of : List (WorkerOf g.row.T.Denot) → List g.row.T.Denot = flat_map (λ w. w.taken) in
     let mine : List g.row.T.Denot = (worker_view c.owner.inside.deque).taken in
-    let gathered = length_same (worker_view c.gather_all.new.deque).taken (mine ++ taken_of c.args.workers.items) c.gather_all.ensures.taken in
+    let gathered = length_same (worker_view c.gather_all.new.deque).taken
+    (mine ++ taken_of c.args.workers.items) c.gather_all.ensures.taken in
     let both = length-append mine (taken_of c.args.workers.items) in
     let each = length-flat_map (λ (w : WorkerOf g.row.T.Denot). w.taken) c.args.workers.items in
     let offered = ap length c.gather_all.ensures.kept.1 in

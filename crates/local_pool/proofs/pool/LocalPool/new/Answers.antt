@@ -15,5 +15,7 @@ loop-preserved g c = record {
   offered = search rules;
   taken = search rules;
   dealt = search rules;
-  blank = rw c.in_ok-push.ensures.items (All-push (IsBlankWorkerOf (stealer_deque c.in_ok-thief.thief)) c.loop.dealt.items c.deal.result c.loop.invariant.blank (c.deal.ensures.worker.0 ∙ c.loop.invariant.pool, c.deal.ensures.worker.1));
+  blank = rw c.in_ok-push.ensures.items
+      (All-push (IsBlankWorkerOf (stealer_deque c.in_ok-thief.thief)) c.loop.dealt.items c.deal.result
+      c.loop.invariant.blank (c.deal.ensures.worker.0 ∙ c.loop.invariant.pool, c.deal.ensures.worker.1));
 }

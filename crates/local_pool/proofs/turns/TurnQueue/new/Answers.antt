@@ -15,6 +15,14 @@ loop-preserved g c = record {
   taken = search rules;
   stamp = search rules;
   dealt = search rules;
-  blank = rw c.in_ok-push.ensures.items (All-push (λ (p : PassOf g.row.D.Denot g.row.D-Stamp.Denot). (p.queue ≡ c.in_ok-line.line.table.shared.table_id) × (p.put ≡ []) × (p.taken ≡ []) × (p.stamp ≡ Some (g.D.Stamped.stamp c.args.first)))
-      c.loop.dealt.items c.deal.result c.loop.invariant.blank (c.deal.ensures.pass.0, c.deal.ensures.pass.1, c.deal.ensures.pass.2, c.deal.ensures.pass.3 ∙ c.loop.invariant.stamp));
+  blank = rw c.in_ok-push.ensures.items
+      (All-push (λ (p : PassOf g.row.D.Denot g.row.D-Stamp.Denot). (p.queue ≡ c.in_ok-line.line.table.shared.table_id)
+      × (p.put ≡ []) × (p.taken ≡ []) × (p.stamp ≡ Some (g.D.Stamped.stamp c.args.first)))
+      c.loop.dealt.items c.deal.result c.loop.invariant.blank (
+        c.deal.ensures.pass.0,
+        c.deal.ensures.pass.1,
+        c.deal.ensures.pass.2,
+        c.deal.ensures.pass.3
+            ∙ c.loop.invariant.stamp,
+      ));
 }

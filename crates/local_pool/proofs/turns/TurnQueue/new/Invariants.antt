@@ -10,5 +10,6 @@ invariant-loop g l = record {
   taken : (view l.seat).taken ≡ [];
   stamp : (view l.seat).stamp ≡ Some (g.D.Stamped.stamp l.fn.first);
   dealt : vec_len l.dealt ≡ l.counter;
-  blank : All (λ p. (p.queue ≡ l.line.table.shared.table_id) × (p.put ≡ []) × (p.taken ≡ []) × (p.stamp ≡ Some (g.D.Stamped.stamp l.fn.first))) l.dealt.items;
+  blank : All (λ p. (p.queue ≡ l.line.table.shared.table_id) × (p.put ≡ []) × (p.taken ≡ [])
+      × (p.stamp ≡ Some (g.D.Stamped.stamp l.fn.first))) l.dealt.items;
 }

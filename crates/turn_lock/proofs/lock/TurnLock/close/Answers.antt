@@ -11,7 +11,8 @@ unreachable-requires g c =
     let actors = ap (λ l. l.actors) c.self.view_is in
     let long = ap (λ a. length a.claims) c.all.view_is in
     let whole = c.requires.whole in
-    let t = closed g.T.KeepsHistory.history g.T.KeepsHistory.actor_of g.T.KeepsHistory.fixed _ _ c.all.inside.all.me.0 _ _ c.take.result c.all.invariant.0 (omega arith) c.close_with-closed.ensures.values.2 c.take.ensures.value in
+    let t = closed g.T.KeepsHistory.history g.T.KeepsHistory.actor_of g.T.KeepsHistory.fixed _ _ c.all.inside.all.me.0 _
+    _ c.take.result c.all.invariant.0 (omega arith) c.close_with-closed.ensures.values.2 c.take.ensures.value in
     c.in_default.not-Some t.0 t.1
 
 pub returns-clause-told : goal.returns-clause-told
@@ -20,8 +21,10 @@ returns-clause-told g c = λ a.
     let actors = ap (λ l. l.actors) c.self.view_is in
     let long = ap (λ s. length s.claims) c.all.view_is in
     let whole = c.requires.whole in
-    let t = closed g.T.KeepsHistory.history g.T.KeepsHistory.actor_of g.T.KeepsHistory.fixed _ _ c.all.inside.all.me.0 _ _ c.take.result c.all.invariant.0 (omega arith) c.close_with-closed.ensures.values.2 c.take.ensures.value in
-    ap (λ k. own g.T.KeepsHistory.actor_of a (g.T.KeepsHistory.history k)) (some_same (sym c.in-Some.is ∙ t.1)) ∙ (t.3 a ∙ ap (λ s. entries_in s.claims a) c.all.view_is)
+    let t = closed g.T.KeepsHistory.history g.T.KeepsHistory.actor_of g.T.KeepsHistory.fixed _ _ c.all.inside.all.me.0 _
+    _ c.take.result c.all.invariant.0 (omega arith) c.close_with-closed.ensures.values.2 c.take.ensures.value in
+    ap (λ k. own g.T.KeepsHistory.actor_of a (g.T.KeepsHistory.history k)) (some_same (sym c.in-Some.is ∙ t.1))
+    ∙ (t.3 a ∙ ap (λ s. entries_in s.claims a) c.all.view_is)
 
 pub returns-clause-fixed : goal.returns-clause-fixed
 returns-clause-fixed g c =
@@ -29,5 +32,6 @@ returns-clause-fixed g c =
     let actors = ap (λ l. l.actors) c.self.view_is in
     let long = ap (λ s. length s.claims) c.all.view_is in
     let whole = c.requires.whole in
-    let t = closed g.T.KeepsHistory.history g.T.KeepsHistory.actor_of g.T.KeepsHistory.fixed _ _ c.all.inside.all.me.0 _ _ c.take.result c.all.invariant.0 (omega arith) c.close_with-closed.ensures.values.2 c.take.ensures.value in
+    let t = closed g.T.KeepsHistory.history g.T.KeepsHistory.actor_of g.T.KeepsHistory.fixed _ _ c.all.inside.all.me.0 _
+    _ c.take.result c.all.invariant.0 (omega arith) c.close_with-closed.ensures.values.2 c.take.ensures.value in
     ap g.T.KeepsHistory.fixed (some_same (sym c.in-Some.is ∙ t.1)) ∙ (t.2 ∙ ap (λ l. l.fixed) c.self.view_is)

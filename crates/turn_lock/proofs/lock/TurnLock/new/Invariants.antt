@@ -11,5 +11,6 @@ invariant-loop g l = record {
   told : (l.all.me.0.actors ≡ l.actors) × (l.all.me.0.fixed ≡ Some l.terms.fixed);
   dealt : vec_len l.dealt ≡ l.counter;
   order : map (λ s. s.actor) l.dealt.items ≡ range_with_len 0 l.counter;
-  seats : All (λ s. (s.table ≡ l.table.shared.table_id) × (s.actors ≡ l.actors) × (s.fixed ≡ Some l.terms.fixed) × (s.taken ≡ None) × (s.entries ≡ [])) l.dealt.items;
+  seats : All (λ s. (s.table ≡ l.table.shared.table_id) × (s.actors ≡ l.actors) × (s.fixed ≡ Some l.terms.fixed)
+      × (s.taken ≡ None) × (s.entries ≡ [])) l.dealt.items;
 }
