@@ -28,7 +28,7 @@ pub struct Worked {
     pub turns: Option<u64>,
 }
 
-/// So many evaluate at once in a run of hosts. A node isn't told how many do.
+/// How many threads are taken to evaluate at once in a run of hosts. A node isn't told how many do.
 const EVALUATORS: u64 = 16;
 
 /// A node of a host, and the packets that wait for it. Contracts see the node with its job, and

@@ -143,6 +143,28 @@ pub enum Body {
     Save(Save),
 }
 
+impl Body {
+    /// The grant that it speaks of; none where it speaks of no single one.
+    pub fn grant(&self) -> Option<GrantId> {
+        match self {
+            Body::Grant(grant) => Some(grant.grant),
+            Body::Result(outcome) => Some(outcome.grant),
+            Body::ResultAck(ack) => Some(ack.grant),
+            Body::Offer(offer) => Some(offer.grant),
+            Body::OfferAck(ack) => Some(ack.grant),
+            Body::Abort(abort) => Some(abort.grant),
+            Body::Piece(piece) => Some(piece.grant),
+            Body::Join(_)
+            | Body::Roster(_)
+            | Body::Steal(_)
+            | Body::Refuse(_)
+            | Body::Leave(_)
+            | Body::Beat(_)
+            | Body::Save(_) => None,
+        }
+    }
+}
+
 /// The kinds of packets.
 #[derive(Clone, Copy, PartialEq, Eq, Debug)]
 pub enum Kind {

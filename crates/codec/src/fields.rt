@@ -143,6 +143,27 @@ impl Kind {
     {
         each_field!(number_arms! self)
     }
+
+    /// The kind's name.
+    pub fn name(self) -> &'static str {
+        match self {
+            Kind::Join => "Join",
+            Kind::Roster => "Roster",
+            Kind::Steal => "Steal",
+            Kind::Grant => "Grant",
+            Kind::Refuse => "Refuse",
+            Kind::Result => "Result",
+            Kind::ResultAck => "ResultAck",
+            Kind::Offer => "Offer",
+            Kind::OfferAck => "OfferAck",
+            Kind::Leave => "Leave",
+            Kind::Abort => "Abort",
+            Kind::Beat => "Beat",
+            Kind::Piece => "Piece",
+            Kind::Save => "Save",
+            Kind::SavedGrant => "SavedGrant",
+        }
+    }
 }
 
 /// Whether a body is a Grant with saved values.

@@ -1,8 +1,8 @@
 //! The words of a packet.
 
 use crate::names::{AddressName, GrantName, OutcomeWords, PlaceName, ProgressWords, StatusWords};
-use codec::{Body, Grant, Offer, Packet, Piece, Roster, Save};
-use ids::{GrantId, Incarnation, Task};
+use codec::{Body, Grant, Offer, Packet, Piece, Roster, Save, kind_of};
+use ids::{Incarnation, Task};
 use std::io::{self, Write};
 use task_tree::Program;
 
@@ -15,8 +15,8 @@ const MOST_LISTED: usize = 8;
 /// thread. No line's end is written.
 pub fn write_packet<O: Write>(out: &mut O, program: &Program, packet: &Packet) -> io::Result<()> {
     let body = packet.body();
-    write!(out, "{}", kind_of(body))?;
-    if let Some(grant) = grant_of(body) {
+    write!(out, "{}", kind_of(body).name())?;
+    if let Some(grant) = body.grant() {
         write!(out, " {}", GrantName(grant))?;
     }
     if let Some(from) = sender_of(body) {
@@ -24,47 +24,6 @@ pub fn write_packet<O: Write>(out: &mut O, program: &Program, packet: &Packet) -
     }
     write!(out, " to {}", AddressName(packet.to()))?;
     write_fields(out, program, body)
-}
-
-/// What its kind is called.
-fn kind_of(body: &Body) -> &'static str {
-    match body {
-        Body::Join(_) => "Join",
-        Body::Roster(_) => "Roster",
-        Body::Steal(_) => "Steal",
-        Body::Grant(grant) if !grant.saved.is_empty() => "SavedGrant",
-        Body::Grant(_) => "Grant",
-        Body::Refuse(_) => "Refuse",
-        Body::Result(_) => "Result",
-        Body::ResultAck(_) => "ResultAck",
-        Body::Offer(_) => "Offer",
-        Body::OfferAck(_) => "OfferAck",
-        Body::Leave(_) => "Leave",
-        Body::Abort(_) => "Abort",
-        Body::Beat(_) => "Beat",
-        Body::Piece(_) => "Piece",
-        Body::Save(_) => "Save",
-    }
-}
-
-/// The grant that it speaks of.
-fn grant_of(body: &Body) -> Option<GrantId> {
-    match body {
-        Body::Grant(grant) => Some(grant.grant),
-        Body::Result(result) => Some(result.grant),
-        Body::ResultAck(ack) => Some(ack.grant),
-        Body::Offer(offer) => Some(offer.grant),
-        Body::OfferAck(ack) => Some(ack.grant),
-        Body::Abort(abort) => Some(abort.grant),
-        Body::Piece(piece) => Some(piece.grant),
-        Body::Join(_)
-        | Body::Roster(_)
-        | Body::Steal(_)
-        | Body::Refuse(_)
-        | Body::Leave(_)
-        | Body::Beat(_)
-        | Body::Save(_) => None,
-    }
 }
 
 /// The worker that it says to be from.

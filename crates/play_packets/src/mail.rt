@@ -1,7 +1,7 @@
 //! The packets that were sent.
 
 use crate::words::{let_go, write_field, write_packet};
-use codec::{Body, Datagram, Packet, ReadError, decode};
+use codec::{Datagram, Packet, ReadError, decode, kind_of};
 use play_words::{Answers, CommandLine, word64};
 use std::alloc::Global;
 
@@ -30,27 +30,6 @@ pub struct Wanted<'a> {
     pub from: u64,
 }
 
-/// The name of a packet's kind.
-fn kind_name(body: &Body) -> &'static str {
-    match body {
-        Body::Join(_) => "Join",
-        Body::Roster(_) => "Roster",
-        Body::Steal(_) => "Steal",
-        Body::Grant(grant) if !grant.saved.is_empty() => "SavedGrant",
-        Body::Grant(_) => "Grant",
-        Body::Refuse(_) => "Refuse",
-        Body::Result(_) => "Result",
-        Body::ResultAck(_) => "ResultAck",
-        Body::Offer(_) => "Offer",
-        Body::OfferAck(_) => "OfferAck",
-        Body::Leave(_) => "Leave",
-        Body::Abort(_) => "Abort",
-        Body::Beat(_) => "Beat",
-        Body::Piece(_) => "Piece",
-        Body::Save(_) => "Save",
-    }
-}
-
 impl Sent {
     fn is(&self, wanted: Wanted<'_>) -> bool {
         self.from == Some(wanted.from) && self.to == wanted.to && self.kind == wanted.kind
@@ -77,7 +56,7 @@ impl Mail {
         let sent = Sent {
             from,
             to: packet.to().word(),
-            kind: kind_name(packet.body()),
+            kind: kind_of(packet.body()).name(),
             datagram,
         };
         if self.sent.push(sent).is_err() {
@@ -121,7 +100,7 @@ impl Mail {
         write_field(out, "> #", number);
         out.text(" ");
         if length > self.most_shown {
-            out.text(kind_name(packet.body()));
+            out.text(kind_of(packet.body()).name());
             write_field(out, " of ", length as u64);
             out.text(" bytes");
         } else {

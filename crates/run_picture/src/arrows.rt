@@ -2,6 +2,7 @@
 
 use crate::choice::{has_arrow, has_stub};
 use crate::deed::Site;
+use crate::kind::family_of;
 use crate::layout::Layout;
 use crate::px::Px;
 use crate::record::{HOUSE, Recorder};
@@ -39,7 +40,7 @@ fn write_arrow<O: Write>(
     sent: &Sent,
     delivery: &Delivery,
 ) -> io::Result<()> {
-    let look = sent.kind.family().look();
+    let look = family_of(sent.kind).look();
     let again = if delivery.is_again { " again" } else { "" };
     let ignored = if delivery.is_ignored { "-ignored" } else { "" };
     write_coming(out, sent, delivery)?;
@@ -93,7 +94,7 @@ fn write_stub<O: Write>(
     sent: &Sent,
 ) -> io::Result<()> {
     let (x, y) = (layout.x(sent.at), layout.line(sent.site));
-    let look = sent.kind.family().look();
+    let look = family_of(sent.kind).look();
     let way = if is_above(layout, run, sent) {
         "l9 -15m-4 -2l8 4"
     } else {

@@ -1,8 +1,9 @@
 //! Which packets a picture shows.
 
-use crate::kind::Kind;
+use crate::kind::{carries_work, is_of_work};
 use crate::record::Recorder;
 use crate::shown::{Delivery, Sent};
+use codec::Kind;
 
 /// How many arrows and stubs there are at most.
 const MOST: usize = 400;
@@ -30,8 +31,8 @@ impl Arrows {
     pub(crate) fn shows(self, kind: Kind) -> bool {
         match self {
             Arrows::All => true,
-            Arrows::Work => kind.is_of_work(),
-            Arrows::Tasks => kind.carries_work(),
+            Arrows::Work => is_of_work(kind),
+            Arrows::Tasks => carries_work(kind),
             Arrows::Hidden => false,
         }
     }

@@ -3,12 +3,11 @@
 use crate::deed::{Deed, Effect, Site, Step, read_event};
 use crate::folds::Folds;
 use crate::held::{Bar, Lane};
-use crate::kind::Kind;
 use crate::mark::mark_of;
 use crate::said::{Said, tasks_of};
 use crate::shown::{Death, Delivery, Life, Lost, Sent, Turn, Worker, keep};
 use crate::texts::EventWords;
-use codec::{Body, Packet, Roster, decode};
+use codec::{Body, Packet, Roster, decode, kind_of};
 use event_script::{Event, HouseEvent, NodePlace};
 use event_words::ran_in;
 use ids::{Outcome, Status};
@@ -403,7 +402,7 @@ impl Recorder {
         if let Body::Roster(roster) = packet.body() {
             self.say(at, roster)?;
         }
-        let (kind, grant) = Kind::of(packet.body());
+        let (kind, grant) = (kind_of(packet.body()), packet.body().grant());
         let sent = Sent {
             at,
             site,

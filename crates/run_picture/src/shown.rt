@@ -1,7 +1,7 @@
 //! What a picture shows beside what is held: lives, turns, packets, and what rosters say.
 
 use crate::deed::Site;
-use crate::kind::Kind;
+use codec::Kind;
 use event_script::NodePlace;
 use ids::GrantId;
 
