@@ -24,7 +24,8 @@
 //! tasks that are known to be large, and those of threads that spawn nothing, take their turns in
 //! the node itself (`run_here`). So does the node evaluate a task that is small by those before it,
 //! where its body workers have as much as they take, or nothing beside which it could run
-//! (`evaluate_here`).
+//! (`evaluate_here`). What came back, and what needs no evaluation, goes before packets then, up to
+//! 16 times in a row, so that no thief is granted what is evaluated already (`go_on`).
 //!
 //! **Faults** are drawn from one word, for each place by itself: packets that are lost and that
 //! come twice (`Fates`), and whom a node asks. Crash i comes once 50 i events were committed, on

@@ -40,6 +40,9 @@ const MOST_PATIENCE: u64 = 512;
 /// How many events may be committed until a node sends again.
 const SILENCE: u64 = 100;
 
+/// After how many frames in a row that are carried out before packets the next packet comes.
+const MOST_KNOWN: u64 = 16;
+
 /// From how many events on since a node slept last others go on.
 const OTHERS: u64 = 8;
 
@@ -69,6 +72,8 @@ struct Node {
     rested: u64,
     idle: u64,
     patience: u64,
+    /// How many frames in a row were carried out before the packets were looked at.
+    known: u64,
     /// How many events were committed when it sent again last.
     sent: u64,
     /// Whether it holds while another actor is behind, and in how many turns it did since it sent
@@ -181,9 +186,8 @@ fn turn<'a, R: Wait + Clock, G: Gate + Sync, D: SteadyDisk + Drop>(
     do_next(rt, alloc, shared, run)
 }
 
-/// What there is to do in a turn: the next packet, a turn that came back, a ready frame that is
-/// offered to the body workers, or a request. Where there is nothing, the node rests, and sends
-/// again where it rested long. Whether there was memory.
+/// What there is to do in a turn; where there is nothing the node rests, and sends again where it
+/// rested long. Whether there was memory.
 fn do_next<'a, R: Wait + Clock, G: Gate + Sync, D: SteadyDisk + Drop>(
     rt: &R,
     alloc: Global,
@@ -193,38 +197,92 @@ fn do_next<'a, R: Wait + Clock, G: Gate + Sync, D: SteadyDisk + Drop>(
     requires { IsRunIn shared.now.chronicle.now shared.now.words.now run.old }
     ensures { IsRunIn shared.entry.now.chronicle.now shared.entry.now.words.now run.new }
 {
+    match go_on(rt, alloc, shared, run) {
+        Some(true) => true,
+        Some(false) => rest_or_send_again(rt, shared, run),
+        None => false,
+    }
+}
+
+/// The next packet comes, or else a frame is carried out of which is known what it comes to, or a
+/// ready one is offered to the body workers, or the node asks. Where tasks are evaluated whole what
+/// is known goes before the packets, some times in a row at most, so that no thief is granted what
+/// is evaluated already. Whether one of these was done; none where there was no memory.
+fn go_on<'a, R: Wait + Clock, G: Gate + Sync, D: SteadyDisk + Drop>(
+    rt: &R,
+    alloc: Global,
+    shared: &Shared<'_, 'a, G, D>,
+    run: &mut NodeRun<'a, D>,
+) -> Option<bool>
+    requires { IsRunIn shared.now.chronicle.now shared.now.words.now run.old }
+    ensures { IsRunIn shared.entry.now.chronicle.now shared.entry.now.words.now run.new }
+{
+    let is_known_first = shared.config.grain() > 0 && run.node.known < MOST_KNOWN;
+    if is_known_first && carry_out_known(rt, alloc, shared, run)? {
+        run.node.known = run.node.known.saturating_add(1);
+        return Some(true);
+    }
+    run.node.known = 0;
+    if take_next(rt, alloc, shared, run)? {
+        return Some(true);
+    }
+    if !is_known_first && carry_out_known(rt, alloc, shared, run)? {
+        return Some(true);
+    }
+    if offer_next(rt, alloc, shared, run)? {
+        return Some(true);
+    }
+    if run.node.has_asked || run.node.plans.is_to_leave() || run.desk.is_busy() {
+        return Some(false);
+    }
+    if run.node.pauses > 0 {
+        run.node.pauses = run.node.pauses.saturating_sub(1);
+        run.node.sleep(rt, shared.counts, shared.config.nodes());
+        return Some(true);
+    }
+    ask(rt, shared, run)
+}
+
+/// The next packet comes to the node, if there is one. Whether one did; none where there was no
+/// memory.
+fn take_next<'a, R: Wait + Clock, G: Gate + Sync, D: SteadyDisk + Drop>(
+    rt: &R,
+    alloc: Global,
+    shared: &Shared<'_, 'a, G, D>,
+    run: &mut NodeRun<'a, D>,
+) -> Option<bool>
+    requires { IsRunIn shared.now.chronicle.now shared.now.words.now run.old }
+    ensures { IsRunIn shared.entry.now.chronicle.now shared.entry.now.words.now run.new }
+{
     match run
         .node
         .inbox
         .take(rt, alloc, shared.chronicle, &mut run.seat)
     {
-        Ok(Some(delivered)) => return take_packet(alloc, shared, &mut run.node, &delivered),
-        Ok(None) => {}
+        Ok(Some(delivered)) => {
+            if !take_packet(alloc, shared, &mut run.node, &delivered) {
+                return None;
+            }
+            Some(true)
+        }
+        Ok(None) => Some(false),
         Err(_) => {
             shared.counts.end_by(End::Memory);
-            return false;
+            None
         }
     }
-    if let Some(returned) = run.desk.take(rt, shared.chronicle.job().checked()) {
-        return carry_out(rt, alloc, shared, run, returned.frame, &returned.found);
-    }
-    match offer_next(rt, alloc, shared, run) {
-        Some(true) => return true,
-        Some(false) => {}
-        None => return false,
-    }
-    if !run.node.has_asked && !run.node.plans.is_to_leave() && !run.desk.is_busy() {
-        if run.node.pauses > 0 {
-            run.node.pauses = run.node.pauses.saturating_sub(1);
-            run.node.sleep(rt, shared.counts, shared.config.nodes());
-            return true;
-        }
-        match ask(rt, shared, run) {
-            Some(true) => return true,
-            Some(false) => {}
-            None => return false,
-        }
-    }
+}
+
+/// There is nothing to do: the node rests, and sends again where it rested long. Whether there was
+/// memory.
+fn rest_or_send_again<'a, R: Wait + Clock, G: Gate + Sync, D: SteadyDisk + Drop>(
+    rt: &R,
+    shared: &Shared<'_, 'a, G, D>,
+    run: &mut NodeRun<'a, D>,
+) -> bool
+    requires { IsRunIn shared.now.chronicle.now shared.now.words.now run.old }
+    ensures { IsRunIn shared.entry.now.chronicle.now shared.entry.now.words.now run.new }
+{
     if run.desk.is_waiting() && !run.desk.has_long_work() && run.node.stay_awake() {
         return true;
     }
@@ -238,6 +296,26 @@ fn do_next<'a, R: Wait + Clock, G: Gate + Sync, D: SteadyDisk + Drop>(
     // (there may be a ready frame that no memory was found to look for)
     run.node.may_be_ready = true;
     send_again(rt, shared, run)
+}
+
+/// A frame is carried out of which is known what it comes to: by what came back of it, or as
+/// `settle_next` does. Whether there was one; none where there was no memory.
+fn carry_out_known<'a, R: Wait, G: Gate + Sync, D: SteadyDisk + Drop>(
+    rt: &R,
+    alloc: Global,
+    shared: &Shared<'_, 'a, G, D>,
+    run: &mut NodeRun<'a, D>,
+) -> Option<bool>
+    requires { IsRunIn shared.now.chronicle.now shared.now.words.now run.old }
+    ensures { IsRunIn shared.entry.now.chronicle.now shared.entry.now.words.now run.new }
+{
+    let Some(returned) = run.desk.take(rt, shared.chronicle.job().checked()) else {
+        return settle_next(rt, alloc, shared, run);
+    };
+    if !carry_out(rt, alloc, shared, run, returned.frame, &returned.found) {
+        return None;
+    }
+    Some(true)
 }
 
 /// A node starts at the place, with a new start word. Whether there was memory.
@@ -386,11 +464,10 @@ fn take_packet<G: Gate + Sync, D: SteadyDisk + Drop>(
     true
 }
 
-/// A ready frame that isn't out is carried out by its own turn, where its task is short work or
-/// known to be large, or by its task's value, where an evaluation kept it, or where it is small and
-/// no body worker waits for one; else it is offered to the body workers, if they take one more.
-/// Whether one was; none where there was no memory.
-fn offer_next<'a, R: Wait, G: Gate + Sync, D: SteadyDisk + Drop>(
+/// A ready frame that isn't out is carried out where that takes no evaluation: by its own turn,
+/// where its task is short work or known to be large, or by its task's value, where an evaluation
+/// kept it. Whether one was; none where there was no memory.
+fn settle_next<'a, R: Wait, G: Gate + Sync, D: SteadyDisk + Drop>(
     rt: &R,
     alloc: Global,
     shared: &Shared<'_, 'a, G, D>,
@@ -429,6 +506,31 @@ fn offer_next<'a, R: Wait, G: Gate + Sync, D: SteadyDisk + Drop>(
     if fits && run.desk.was_large(&work) {
         return run_here(rt, alloc, shared, run, work);
     }
+    run.node.next = Some(work);
+    Some(false)
+}
+
+/// A ready frame that isn't out is carried out by its task's value, where that is small and no body
+/// worker waits for one; else it is offered to the body workers, if they take one more. Whether one
+/// was; none where there was no memory.
+fn offer_next<'a, R: Wait, G: Gate + Sync, D: SteadyDisk + Drop>(
+    rt: &R,
+    alloc: Global,
+    shared: &Shared<'_, 'a, G, D>,
+    run: &mut NodeRun<'a, D>,
+) -> Option<bool>
+    requires { IsRunIn shared.now.chronicle.now shared.now.words.now run.old }
+    ensures { IsRunIn shared.entry.now.chronicle.now shared.entry.now.words.now run.new }
+{
+    if !run.node.may_be_ready {
+        return Some(false);
+    }
+    let Some(work) = next_ready(rt, alloc, shared, run) else {
+        run.node.may_be_ready = false;
+        return Some(false);
+    };
+    let checked = shared.chronicle.job().checked();
+    let fits = takes_its_numbers(checked, &work);
     if fits && run.desk.is_small(&work) && is_alone(rt, alloc, shared, run, &work) {
         return evaluate_here(rt, alloc, shared, run, work);
     }
@@ -628,6 +730,7 @@ impl Node {
             rested: 0,
             idle: 0,
             patience: PATIENCE,
+            known: 0,
             sent: 0,
             holds: false,
             held: 0,

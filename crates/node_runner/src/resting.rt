@@ -23,6 +23,9 @@ const SLEEP_ALONE: u64 = 200;
 /// The same where that node's body workers are busy for long, by one of which it is woken.
 const SLEEP_BUSY: u64 = 2_000;
 
+/// The same in a run of several nodes, of which another one may ask it for work meanwhile.
+const SLEEP_ASKED: u64 = 200;
+
 /// How long a node sleeps at least that asks in vain while others go on, in microseconds.
 const LONG_SLEEP: u64 = 250;
 
@@ -94,12 +97,12 @@ fn rest_after(rt: &impl Clock, nodes: u8, idle: u64, yields: u64) {
 }
 
 /// How long a node sleeps at most in a run of so many until a turn comes back, in microseconds;
-/// longer where its body workers are busy for long, and nobody else asks for work.
+/// longer where its body workers are busy for long.
 pub(crate) fn wait(nodes: u8, long: bool) -> u64 {
-    if long && nodes == 1 {
-        SLEEP_BUSY
-    } else {
-        nap(nodes)
+    match (long, nodes) {
+        (true, 1) => SLEEP_BUSY,
+        (true, _) => nap(nodes).max(SLEEP_ASKED),
+        (false, _) => nap(nodes),
     }
 }
 
