@@ -115,6 +115,8 @@ static inline int64_t cilknow_resend(cilknow_actor *n) { return cilknow_call(n, 
 /* Leaves, and hands its work to another member. It is over when its state is CILKNOW_ENDED: resend until then. */
 static inline int64_t cilknow_depart(cilknow_actor *n, uint64_t heir) { return cilknow_call(n, 4, heir); }
 static inline int64_t cilknow_ready(cilknow_actor *n) { return cilknow_call(n, 17, 0); } /* 1: a frame is ready */
+/* 1: more than so many frames are ready. */
+static inline int64_t cilknow_ready_beyond(cilknow_actor *n, uint64_t count) { return cilknow_call(n, 17, count); }
 static inline int64_t cilknow_asked(cilknow_actor *n) { return cilknow_call(n, 18, 0); } /* 1: a request is pending */
 /* How many workers its roster lists; the i-th of them where it is shown live, else 0. */
 static inline int64_t cilknow_members(cilknow_actor *n) { return cilknow_call(n, 19, 0); }

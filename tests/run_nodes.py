@@ -352,17 +352,21 @@ def shares(folder):
 def wholes(folder):
     """Runs that evaluate tasks whole, in at most so many turns each, with and without faults: the more turns, the fewer events; no run takes
     less than all turns of the job, nor, without faults, more; and each trace replays to the same outcome and the same counts."""
-    for nodes in "1", "4":
+    for nodes, bodies in ("1", "2"), ("4", "1"):
         events = []
         for grain in "1", "100", "10000", "1000000":
             name = f"whole {nodes} {grain}"
-            lines = traced(folder, name, 6765, "--nodes", nodes, "--grain", grain, "--job", grain, "20")
+            lines = traced(folder, name, 6765, "--nodes", nodes, "--bodies", bodies, "--grain", grain, "--job", grain, "20")
             kinds = [line.split()[0] for line in lines]
             events.append(kinds.count("exec") + kinds.count("whole"))
             status, _, err = called(PROGRAM, "replay", FIB, f"{folder}/{name}", "--stats", "20")
             taken = sum(int(found) for found in re.findall(r"^(?:turns|turns in them) (\d+)$", err, re.M))
             tell(status == 0 and taken == TURNS_OF_20, f"{name}: {taken} turns")
         tell(events == sorted(events, reverse=True) and events[-1] < 100 < events[0], f"whole {nodes}: {events} events")
+    # nobody waits for a part of what the only body worker of a run evaluates
+    lines = traced(folder, "whole alone", 6765, "--grain", "1", "20")
+    kinds = [line.split()[0] for line in lines]
+    tell((kinds.count("exec"), kinds.count("whole")) == (0, 1), f"whole alone: {kinds}")
     for word in range(1, 21):
         trace = f"{folder}/whole {word}"
         status, out, err = called(
@@ -376,7 +380,8 @@ def wholes(folder):
 
 def kept_values(folder):
     """Tasks that take more turns than are allowed: the node uses the values that their evaluations kept, so that few turns are evaluated more
-    than once, also where the large ones form a chain, with a small one before or behind each, and where that chain is too deep."""
+    than once, also where the large ones form a chain, with a small one before or behind each, and where that chain is too deep. The only body
+    worker of a run evaluates a job in one go, unless it is too deep."""
     for name, program, grain, most, word, value in (
         ("fib", None, "20000", 1.1, "25", "value 75025"),
         ("fib, less at once", None, "2000", 1.15, "20", "value 6765"),
@@ -391,12 +396,14 @@ def kept_values(folder):
                 out.write(COMB % program)
         _, _, err = called(PROGRAM, "serial", file, "--stats", word)
         needed = int(re.search(r"^turns (\d+)$", err, re.M).group(1))
-        status, out, err = called(PROGRAM, "run", file, "--bodies", "1", "--grain", grain, "--turns", TURNS, "--stats", word)
-        tell((status, out) == (0, f"{value}\n"), f"kept, {name}: {status} {out}{err}")
-        told = dict(line.rsplit(" ", 1) for line in err.splitlines())
-        taken = sum(int(told.get(it, 0)) for it in ("turns", "turns in them", "turns evaluated in vain"))
-        tell(taken <= most * needed, f"kept, {name}: {taken} turns for {needed}")
-        tell(int(told.get("values kept and used", 0)) > 0, f"kept, {name}: no value that was kept is used")
+        for bodies in "2", "1":
+            status, out, err = called(PROGRAM, "run", file, "--bodies", bodies, "--grain", grain, "--turns", TURNS, "--stats", word)
+            tell((status, out) == (0, f"{value}\n"), f"kept, {name}: {status} {out}{err}")
+            told = dict(line.rsplit(" ", 1) for line in err.splitlines())
+            taken = sum(int(told.get(it, 0)) for it in ("turns", "turns in them", "turns evaluated in vain"))
+            is_whole = bodies == "1" and value != "too deep"
+            tell(taken <= (1 if is_whole else most) * needed, f"kept, {name}: {taken} turns for {needed}")
+            tell(is_whole or int(told.get("values kept and used", 0)) > 0, f"kept, {name}: no value that was kept is used")
 
 
 def deep(folder):

@@ -7,8 +7,9 @@
 #include <string.h>
 #include <unistd.h>
 
-/* A value that is to be saved costs a commit of some milliseconds: of these packets one is taken in so many microseconds, and
- * the others count as lost: a worker sends each once. */
+/* A value that is to be saved costs a commit of some milliseconds, for which whoever joins waits: of these packets one is taken in
+ * so many microseconds, the first one so long behind the first worker that asks for the job, and the others count as lost: a worker
+ * sends each once. */
 enum { SAVES = 100000, KIND_SAVE = 14 };
 
 /* Behind the outcome it ends once all workers have heard it and for so long nobody came who hasn't. */
@@ -94,7 +95,10 @@ static void hands_on(struct house *house, struct said *said) {
 /* A datagram. Whether the file could be written. */
 static bool hears(struct house *house, struct said *said, uint64_t now) {
     if (said->kind == KIND_ASKS || said->kind == KIND_PACKET) house->stirred = now;
-    if (said->kind == KIND_ASKS) return says_job(house, said->id, &said->from), true;
+    if (said->kind == KIND_ASKS) {
+        if (!house->known.count) house->saved = now;
+        return says_job(house, said->id, &said->from), true;
+    }
     if (said->kind == KIND_HEARD && house->ended) {
         for (size_t i = 0; i < sizeof house->known.of / sizeof house->known.of[0]; i++)
             if (house->known.of[i].word == said->id) house->known.of[i].heard = true;

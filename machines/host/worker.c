@@ -7,11 +7,13 @@
 #include <string.h>
 #include <unistd.h>
 
-/* In microseconds: after which time it sends again what isn't answered, at first and at most; after which time it says that it is
- * there; how long it pauses at most between two requests for work; and after which time in a row with work it looks at what came.
- * Of packets: the kind of a request for work. */
-enum { AGAIN = 4000, LATEST_AGAIN = 100000, THERE = 200000, LONGEST_PAUSE = 20000, SLICE = 500 };
+/* In microseconds: after which time it sends again what isn't answered, where somebody asks whom it doesn't know, at first and at
+ * most; after which time it says that it is there; how long it pauses between two requests for work, at first and at most, and at
+ * least between two that it makes while it has some; and after which time in a row with work it looks at what came. Of packets: the
+ * kind of a request for work. Of a task: how many turns take longer than a request and its answer. */
+enum { UNKNOWN = 500, AGAIN = 2000, LATEST_AGAIN = 100000, THERE = 200000, PAUSE = 20, LONGEST_PAUSE = 20000, AHEAD = 1000, SLICE = 500 };
 enum { KIND_STEAL = 3 };
+enum { LONG = 8192 };
 /* So many answers to requests for work are looked at, of how long they took. */
 enum { TRIPS = 4096 };
 
@@ -26,11 +28,11 @@ struct worker {
     size_t text_len, inputs;
     int64_t *input;
     uint64_t job, word, random;
-    uint64_t sent_at, again, ask_at, pause, heard, told_to_go, resent;
+    uint64_t sent_at, again, ask_at, ahead_at, pause, heard, told_to_go, resent;
     bool over, leaves, by_house;
     struct progress *progress;
     struct kinds kinds;
-    uint64_t turns, wholes, turns_in_them, asks, starts, ignored;
+    uint64_t turns, wholes, turns_in_them, last_turns, asks, starts, ignored;
     uint64_t asked_at, answers;
     uint32_t trips[TRIPS];
 };
@@ -86,7 +88,7 @@ static int starts(struct worker *worker) {
         if (!random_bytes(&worker->word, 8)) return tell("no numbers by chance"), STATUS_NONE;
         worker->word >>= 1;
     } while (!worker->word);
-    worker->random = worker->word, worker->pause = worker->ask_at = 0, worker->sent_at = micros(), worker->again = AGAIN;
+    worker->random = worker->word, worker->pause = worker->ask_at = worker->last_turns = 0, worker->sent_at = micros(), worker->again = AGAIN;
     worker->starts++, worker->progress->events++;
     int32_t error = cilknow_node(worker->text, worker->text_len, worker->input, worker->inputs, worker->job, worker->word,
                                  worker->words->grain, &worker->actor);
@@ -109,7 +111,7 @@ static void takes(struct worker *worker, const struct said *part) {
     if (asked && cilknow_asked(worker->actor) != 1) worker->trips[worker->answers++ % TRIPS] = (uint32_t)(micros() - worker->asked_at);
     if (did >= 0 || (did <= -40 && did != CILKNOW_MEMORY)) trace_packet(&worker->trace, "take", packet, len);
     /* (it answers nobody whom it doesn't know to be there; to say that it is there itself brings the clearinghouse's latest list) */
-    if (did == 1 && packet[KIND_AT] == KIND_STEAL && worker->again > AGAIN) worker->again = AGAIN;
+    if (did == 1 && packet[KIND_AT] == KIND_STEAL) worker->again = UNKNOWN;
     sends(worker);
 }
 
@@ -137,25 +139,6 @@ static void resends(struct worker *worker, uint64_t now) {
     worker->by_house = false;
 }
 
-/* Carries out ready frames; whether one was there. */
-static bool works(struct worker *worker, uint64_t now) {
-    for (int count = 0;; count++) {
-        int64_t did = cilknow_work(worker->actor);
-        if (did <= 0) return count > 0;
-        worker->pause = worker->ask_at = 0;
-        worker->progress->events++;
-        uint64_t turns = did == 2 ? cilknow_last_turns(worker->actor) : 0;
-        worker->turns += did == 1, worker->wholes += did == 2, worker->turns_in_them += turns;
-        if (worker->trace.file) {
-            uint64_t minter = cilknow_last_minter(worker->actor), grant = cilknow_last_grant(worker->actor), frame = cilknow_last_frame(worker->actor);
-            if (did == 2) trace_event(&worker->trace, "whole 0 %" PRIu64 " %" PRIu64 " %" PRIu64 " %" PRIu64, minter, grant, frame, turns);
-            else trace_event(&worker->trace, "exec 0 %" PRIu64 " %" PRIu64 " %" PRIu64, minter, grant, frame);
-        }
-        sends(worker);
-        if (count >= 64 || micros() - now > SLICE) return true;
-    }
-}
-
 /* Another live worker by chance, 0 where none is found. */
 static uint64_t other(struct worker *worker) {
     uint64_t members = (uint64_t)cilknow_members(worker->actor), from = members ? draw(&worker->random) % members : 0;
@@ -175,8 +158,42 @@ static void asks(struct worker *worker, uint64_t now) {
     trace_ask(&worker->trace, victim);
     sends(worker);
     worker->sent_at = now, worker->again = AGAIN;
-    worker->pause = !worker->pause ? 20 : worker->pause * 2 < LONGEST_PAUSE ? worker->pause * 2 : LONGEST_PAUSE;
+    /* (so that it has waited for a quarter of the time that it has had none already, at most) */
+    worker->pause = !worker->pause ? PAUSE : worker->pause + worker->pause / 4 < LONGEST_PAUSE ? worker->pause + worker->pause / 4 : LONGEST_PAUSE;
     worker->ask_at = now + worker->pause;
+}
+
+/* Before it carries out the only ready frame it asks for the next one, where that frame's task may take long: whom it asks looks at
+ * what came only behind a task of its own. */
+static void asks_ahead(struct worker *worker) {
+    if (worker->last_turns < LONG || worker->told_to_go || cilknow_asked(worker->actor) == 1) return;
+    if (cilknow_ready(worker->actor) != 1 || cilknow_ready_beyond(worker->actor, 1) == 1) return;
+    uint64_t now = micros();
+    if (now < worker->ahead_at) return;
+    worker->ahead_at = now + AHEAD;
+    asks(worker, now);
+}
+
+
+/* Carries out ready frames; whether one was there. */
+static bool works(struct worker *worker, uint64_t now) {
+    for (int count = 0;; count++) {
+        asks_ahead(worker);
+        int64_t did = cilknow_work(worker->actor);
+        if (did <= 0) return count > 0;
+        worker->pause = worker->ask_at = 0;
+        worker->progress->events++;
+        uint64_t turns = did == 2 ? cilknow_last_turns(worker->actor) : 0;
+        if (turns) worker->last_turns = turns;
+        worker->turns += did == 1, worker->wholes += did == 2, worker->turns_in_them += turns;
+        if (worker->trace.file) {
+            uint64_t minter = cilknow_last_minter(worker->actor), grant = cilknow_last_grant(worker->actor), frame = cilknow_last_frame(worker->actor);
+            if (did == 2) trace_event(&worker->trace, "whole 0 %" PRIu64 " %" PRIu64 " %" PRIu64 " %" PRIu64, minter, grant, frame, turns);
+            else trace_event(&worker->trace, "exec 0 %" PRIu64 " %" PRIu64 " %" PRIu64, minter, grant, frame);
+        }
+        sends(worker);
+        if (count >= 64 || micros() - now > SLICE) return true;
+    }
 }
 
 /* Hands its work to another worker. Where there is none it ends as by a crash: its work is done again. */
@@ -200,7 +217,7 @@ static void leaves(struct worker *worker) {
 static uint64_t goes_on(struct worker *worker, uint64_t now) {
     int64_t state = cilknow_state(worker->actor);
     bool waits = state != CILKNOW_MEMBER || cilknow_asked(worker->actor) == 1;
-    uint64_t again = waits || worker->again == AGAIN ? worker->again : THERE;
+    uint64_t again = waits || worker->again <= AGAIN ? worker->again : THERE;
     if (now - worker->sent_at >= again) {
         resends(worker, now);
         return 0;
@@ -244,7 +261,7 @@ static int joins(struct worker *worker) {
             memcpy(job + (size_t)said.number * PART, said.bytes, said.len);
             len += said.len;
         }
-        wire_wait(&worker->wire, 50000);
+        if (!count || have < count) wire_wait(&worker->wire, 50000);
     }
     free(has);
     worker->inputs = len >= 16 ? (size_t)number_at(job + 8) : SIZE_MAX;

@@ -4,6 +4,8 @@
 #include <string.h>
 
 static const char program[] = "thread main(k, n) { send_argument(k, n + 1); }";
+static const char two_kids[] = "thread main(k, n) { if n < 2 { send_argument(k, n); } else { spawn_next sum(k, ?x, ?y); spawn main(x, n - 1); "
+                               "spawn main(y, n - 2); } } thread sum(k, x, y) { send_argument(k, x + y); }";
 static int line_of_fault;
 #define IS(is, is_to_be) \
     do { \
@@ -131,7 +133,10 @@ static int whole_job(void) {
     IS(cilknow_asked(node), 0);
     (void)passes(node, house), (void)passes(house, node);
     IS(cilknow_ready(node), 1);
+    IS(cilknow_ready_beyond(node, 1), 0);
+    IS(cilknow_ready_beyond(node, UINT64_MAX), 0);
     IS(cilknow_work(node), 1);
+    IS(cilknow_ready(node), 0);
     IS(cilknow_last_turns(node), 0);
     IS(cilknow_last_grant(node) > 0, 1);
     IS(passes(node, house) > 0, 1);
@@ -148,6 +153,37 @@ static int whole_job(void) {
     cilknow_end(house);
     IS(cilknow_house(text, strlen(program), input, 1, 8, file, file_len, &house), CILKNOW_OTHER_JOB);
     IS(cilknow_house(text, strlen(program), input, 1, 7, file, 7, &house), CILKNOW_NO_STORE);
+    return 0;
+}
+
+/* Of three frames two are ready once a task has its kids. */
+static int ready_frames(void) {
+    const uint8_t *text = (const uint8_t *)two_kids;
+    int64_t input[1] = {2}, value = 0;
+    cilknow_actor *house, *node;
+    file_len = 0;
+    IS(cilknow_house(text, strlen(two_kids), input, 1, 7, file, 0, &house), CILKNOW_OK);
+    IS(keeps(house) > 0, 1);
+    IS(cilknow_node(text, strlen(two_kids), input, 1, 7, 5, 0, &node), CILKNOW_OK);
+    (void)passes(node, house), (void)passes(house, node);
+    IS(cilknow_ask(node, 0), CILKNOW_OK);
+    (void)passes(node, house), (void)passes(house, node);
+    IS(cilknow_ready(node), 1);
+    IS(cilknow_ready_beyond(node, 1), 0);
+    (void)passes(node, house), (void)passes(house, node);
+    IS(cilknow_work(node), 1);
+    IS(cilknow_ready_beyond(node, 1), 1);
+    IS(cilknow_ready_beyond(node, 2), 0);
+    IS(cilknow_work(node), 1);
+    IS(cilknow_ready_beyond(node, 1), 0);
+    IS(cilknow_work(node), 1);
+    IS(cilknow_ready(node), 1);
+    IS(cilknow_work(node), 1);
+    IS(cilknow_ready(node), 0);
+    IS(passes(node, house) > 0, 1);
+    IS(cilknow_outcome(house, &value), 1);
+    IS(value, 1);
+    cilknow_end(house), cilknow_end(node);
     return 0;
 }
 
@@ -171,7 +207,7 @@ static int without_an_actor(void) {
 }
 
 int main(void) {
-    if (node_alone() || whole_job() || without_an_actor()) return fprintf(stderr, "calls.c:%d\n", line_of_fault), 1;
+    if (node_alone() || whole_job() || ready_frames() || without_an_actor()) return fprintf(stderr, "calls.c:%d\n", line_of_fault), 1;
     printf("all calls answer as they should\n");
     return 0;
 }

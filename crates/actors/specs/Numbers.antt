@@ -23,7 +23,7 @@ call_of what a =
     if what == 4 then Some (Depart a) else
     if what == 5 then Some (Tick a) else
     if what == 16 then Some (See see.State) else
-    if what == 17 then Some (See see.Ready) else
+    if what == 17 then Some (See (see.Ready a)) else
     if what == 18 then Some (See see.Asked) else
     if what == 19 then Some (See see.Members) else
     if what == 20 then Some (See (see.Member a)) else

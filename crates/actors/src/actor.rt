@@ -129,7 +129,7 @@ impl<'a> HostNode<'a> {
     fn show(&self, seen: Seen) -> Result<i64, ActorError> {
         match seen {
             Seen::State => Ok(state_of(&self.node)),
-            Seen::Ready => match self.node.is_ready() {
+            Seen::Ready(count) => match self.node.has_ready(count) {
                 Ok(ready) => Ok(i64::from(ready)),
                 Err(error) => Err(ActorError::Node(error)),
             },

@@ -25,8 +25,8 @@ pub enum Call {
 pub enum Seen {
     /// A node: 0 joining, 1 a member, 2 leaving, 3 ended. A clearinghouse: 4 open, 5 stopped.
     State,
-    /// A node: 1 where a frame is ready, else 0.
-    Ready,
+    /// A node: 1 where more than so many frames are ready, else 0.
+    Ready(u64),
     /// A node: 1 where a request waits for its answer, else 0.
     Asked,
     /// A node: how many workers its roster lists.
@@ -99,7 +99,7 @@ impl Call {
             DEPART => Some(Call::Depart(a)),
             TICK => Some(Call::Tick(a)),
             STATE => Some(Call::See(Seen::State)),
-            READY => Some(Call::See(Seen::Ready)),
+            READY => Some(Call::See(Seen::Ready(a))),
             ASKED => Some(Call::See(Seen::Asked)),
             MEMBERS => Some(Call::See(Seen::Members)),
             MEMBER => Some(Call::See(Seen::Member(a))),

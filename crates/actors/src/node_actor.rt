@@ -110,9 +110,12 @@ impl<'a> NodeActor<'a> {
         &self.node
     }
 
-    /// Whether a frame is ready. Refused only when out of memory (E63).
-    pub fn is_ready(&self) -> Result<bool, NodeError> {
-        Ok(self.node.ready_at(self.alloc, 0)?.is_some())
+    /// Whether more than so many frames are ready. Refused only when out of memory (E63).
+    pub fn has_ready(&self, count: u64) -> Result<bool, NodeError> {
+        let Ok(index) = usize::try_from(count) else {
+            return Ok(false);
+        };
+        Ok(self.node.ready_at(self.alloc, index)?.is_some())
     }
 
     /// Whether no packet waits.

@@ -26,15 +26,22 @@ const PART: u64 = 32;
 /// In at most how many turns the next task is evaluated. They are halved where one didn't come to
 /// its end in as many, and doubled where one took more than half of them; there are more where
 /// little was in vain so far. So what is evaluated in vain is at most some times as much as what
-/// isn't, however many of a node's tasks are large. They are no fewer than the first one had, and
-/// where one thread evaluates alone, and nobody waits for a part of what it has, as many as the run
-/// allows; but in a program that goes deep, of which little is kept, as few as are worth it.
+/// isn't, however many of a node's tasks are large. They are no fewer than the first one had, but
+/// in a program that goes deep, of which little is kept, as few as are worth it.
+///
+/// Where one thread evaluates alone nobody waits for a part of what it has, and a task takes as
+/// many turns as it needs; once one wasn't evaluated to its end all the same, as it is too deep or
+/// the run has no more turns, each takes at most as many as the run allows, and, unless the program
+/// goes deep, no fewer.
 #[derive(Clone, Copy)]
 pub(crate) struct Budget {
-    // How many a run allows; 0 where each frame takes its own turn.
-    allowed: u64,
-    // How many the first task may take, and how many each other one at least, at first and now.
+    // How many a run allows where several threads evaluate; 0 where each frame takes its own turn.
+    grain: u64,
+    // How many the first task may take, and where it takes more, the one behind it.
+    begin: u64,
     first: u64,
+    // How many any one may take now, and how many each one at least, at first and now.
+    allowed: u64,
     least: u64,
     floor: u64,
     most: u64,
@@ -47,18 +54,25 @@ pub(crate) struct Budget {
 impl Budget {
     /// None was evaluated yet.
     pub(crate) fn new(grain: Grain) -> Budget {
-        let allowed = grain.most_turns;
+        let most = grain.most_turns;
         let parts = FIRST.saturating_mul(grain.evaluators);
-        let part = allowed.checked_div(parts).unwrap_or(allowed);
-        let first = part.max(LEAST).min(allowed);
+        let part = most.checked_div(parts).unwrap_or(most);
+        let first = part.max(LEAST).min(most);
         let is_alone = grain.evaluators <= 1;
-        let least = if is_alone { allowed } else { first };
+        let least = if is_alone { most } else { first };
+        let begin = if is_alone && most > 0 {
+            u64::MAX
+        } else {
+            first
+        };
         Budget {
-            allowed,
+            grain: most,
+            begin,
             first,
+            allowed: most.max(begin),
             least,
             floor: least,
-            most: first,
+            most: begin,
             used: 0,
             vain: 0,
         }
@@ -66,7 +80,7 @@ impl Budget {
 
     /// Whether tasks are evaluated whole.
     pub(crate) fn is_some(&self) -> bool {
-        self.allowed > 0
+        self.grain > 0
     }
 
     /// In at most how many turns the next task is evaluated.
@@ -97,17 +111,21 @@ impl Budget {
     pub(crate) fn fail(&mut self, turns: u64, is_deep: bool) {
         self.vain = self.vain.saturating_add(turns);
         if is_deep {
-            self.floor = LEAST.min(self.allowed);
+            self.floor = LEAST.min(self.grain);
         }
-        if turns <= self.most {
+        if self.allowed > self.grain {
+            self.allowed = self.grain;
+            self.most = self.first.max(self.floor);
+        } else if turns <= self.most {
             self.most = (self.most / 2).max(self.floor);
         }
     }
 
     /// Another node starts at the place: nothing is known of its tasks.
     pub(crate) fn forget(&mut self) {
+        self.allowed = self.grain.max(self.begin);
         self.floor = self.least;
-        self.most = self.first;
+        self.most = self.begin;
         self.used = 0;
         self.vain = 0;
     }

@@ -71,13 +71,14 @@ pub fn evaluate(
     ) {
         Ok(whole) => Ok(whole),
         Err((numbers, _)) => {
+            let turns = keeper.taken();
             let (kept, mut large) = keeper.into_parts();
-            let levels = levels_behind(kept.as_slice(), room, most_turns);
-            large_of(&mut large, kept.as_slice(), most_turns);
+            let levels = levels_behind(kept.as_slice(), room, turns);
+            large_of(&mut large, kept.as_slice(), turns);
             Err((
                 numbers,
                 Left {
-                    turns: most_turns,
+                    turns,
                     kept,
                     large,
                     levels,

@@ -201,12 +201,15 @@ desk_field = struct_send (shape Desk.the_type) (
       (
         search sendable depth 12,
         (
-          sizes_field,
+          search sendable depth 12,
           (
-            search sendable depth 12,
+            sizes_field,
             (
               search sendable depth 12,
-              (search (sendable, crosses) depth 12, (search (sendable, frames) depth 12, tt)),
+              (
+                search sendable depth 12,
+                (search (sendable, crosses) depth 12, (search (sendable, frames) depth 12, tt)),
+              ),
             ),
           ),
         ),

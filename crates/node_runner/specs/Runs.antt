@@ -17,7 +17,6 @@ use Rattle.node_runner.specs.Lines.{IsHomeOf, IsLineOf}
 use Rattle.node_runner.specs.declared.crew.ActorContext.{ActorContext}
 use Rattle.node_runner.specs.declared.crew.NodeContext.{NodeContext}
 use Rattle.node_runner.specs.declared.crew.WorkerContext.{WorkerContext}
-use Rattle.node_runner.specs.declared.node.NodeRun.{NodeRun}
 use Rattle.node_runner.specs.declared.run.Ran.{Ran}
 
 -- where what is saved on the disk that was given agrees, the outcome is the job's meaning; the
@@ -52,10 +51,6 @@ IsNodeIn job words node = IsPenOf words node.pen × IsHomeOf job.program node.de
 -- an actor's context, in a chronicle
 abbrev pub IsContextIn : {D : Type 0} → ChronicleOf → TableOf → ActorContext D → Type 0
 IsContextIn c words context = IsSeatIn c context.seat × IfSome context.node (IsNodeIn c.job words)
-
--- what a node's thread has, in a chronicle and over a table of start words
-abbrev pub IsRunIn : {D : Type 0} → ChronicleOf → TableOf → NodeRun D → Type 0
-IsRunIn c words run = IsSeatIn c run.seat × (run.pen.table ≡ words.table) × IsHomeOf c.job.program run.desk.home × (run.flat.program ≡ c.job.program)
 
 -- a body worker's context, for turns of the job's program
 abbrev pub IsWorkerOf : JobOf → WorkerContext → Type 0

@@ -91,7 +91,8 @@ impl RunConfig {
 
     /// The same, where a ready frame's task may be evaluated whole, with all that comes of it, in
     /// at most so many turns, and fewer where those before it took more than they might; where it
-    /// isn't, or for 0, the frame takes its own turn.
+    /// isn't, or for 0, the frame takes its own turn. One body worker of one node takes as many
+    /// turns as there are, since nobody waits for a part of what it has, until a task takes more.
     pub fn with_grain(self, grain: u64) -> RunConfig
         ensures { result ≡ self }
     {
@@ -106,11 +107,15 @@ impl RunConfig {
 
     /// How the body workers of all nodes evaluate tasks whole.
     pub(crate) fn task_grain(&self) -> Grain {
-        let (nodes, bodies) = (u64::from(self.nodes), u64::from(self.bodies));
         Grain {
             most_turns: self.grain,
-            evaluators: nodes.saturating_mul(bodies),
+            evaluators: self.evaluators(),
         }
+    }
+
+    /// How many threads evaluate tasks at once.
+    pub(crate) fn evaluators(&self) -> u64 {
+        u64::from(self.nodes).saturating_mul(u64::from(self.bodies))
     }
 
     /// How many nodes.

@@ -24,9 +24,6 @@ const BATCH: u64 = 64;
 /// again.
 const SHARE: u64 = 65_536;
 
-/// Of the turns that are left a thread takes one in so many for an evaluation at most.
-const SPARED: u64 = 1_024;
-
 /// What is added to the count of threads where one gives up waiting for the others: more than there
 /// are.
 const GIVEN_UP: u64 = 1 << 32;
@@ -38,6 +35,8 @@ const GIVEN_UP: u64 = 1 << 32;
 pub(crate) struct Counts {
     limit: u64,
     patience: u64,
+    // Of the turns that are left an evaluation takes one in so many at most.
+    parts: u64,
     threads: AtomicU64,
     turns: CachePadded<AtomicU64>,
     events: CachePadded<AtomicU64>,
@@ -71,12 +70,13 @@ const MISSING: u64 = 3;
 const DISK: u64 = 256;
 
 impl Counts {
-    /// Nothing is counted yet, so many turns may be taken, and a thread that waits for others
-    /// sleeps so often before the first one.
-    pub(crate) fn new(limit: u64, patience: u64) -> Counts {
+    /// Nothing is counted yet, so many turns may be taken, a thread that waits for others sleeps so
+    /// often before the first one, and so many threads evaluate tasks at once.
+    pub(crate) fn new(limit: u64, patience: u64, evaluators: u64) -> Counts {
         Counts {
             limit,
             patience,
+            parts: evaluators.saturating_mul(2).max(1),
             threads: AtomicU64::new(0),
             turns: CachePadded::new(AtomicU64::new(0)),
             events: CachePadded::new(AtomicU64::new(0)),
@@ -159,10 +159,10 @@ impl Counts {
     }
 
     /// How many turns of at most so many a thread gets for an evaluation, besides its own. They are
-    /// few where few are left, so that all body workers together leave others enough.
+    /// few where few are left, so that all evaluators together leave others half of them.
     pub(crate) fn take_for(&self, most: u64) -> u64 {
         let left = self.limit.saturating_sub(self.turns.load(SeqCst));
-        let taken = most.min(left / SPARED);
+        let taken = most.min(left.checked_div(self.parts).unwrap_or(0));
         let _ = self.turns.fetch_add(taken, SeqCst);
         taken
     }

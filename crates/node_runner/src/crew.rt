@@ -6,7 +6,7 @@ ghost use Rattle.node_runner.specs.Lines.{IsHomeOf, IsPassFor};
 ghost use Rattle.node_runner.specs.Runs.{IsContextIn, IsNodeIn, IsWorkerOf};
 
 use crate::bells::Bells;
-use crate::desk::{Desk, Home, Ticket};
+use crate::desk::{Desk, Home, Ticket, most_tickets};
 use crate::line::Line;
 use crate::turn::Finished;
 use chronicle::ActorSeat;
@@ -118,7 +118,7 @@ fn desk_of<R: Wait>(
     ensures workers { All (IsWorkerOf job.now) workers.old.items → All (IsWorkerOf job.now) workers.new.items }
 {
     let bodies = usize::from(bodies);
-    let (_, owner, thieves) = LocalPool::new(alloc, ROOM, bodies)?;
+    let (_, owner, thieves) = LocalPool::new(alloc, most_tickets(bodies, grain), bodies)?;
     let first = Finished::first(job.checked());
     let (queue, _, mut passes) = TurnQueue::new(rt, alloc, ROOM, bodies + 1, first)?;
     let queue = Arc::new(alloc, queue)?;

@@ -19,8 +19,24 @@ use std::sync::{Arc, Wait};
 /// How many tickets of a node are out at most for each of its body workers.
 const TICKETS: usize = 2;
 
+/// And where no other node asks for these frames, and tasks are evaluated whole: a node's own
+/// thread may wait some milliseconds for a processor that its workers have, and none of them is to
+/// be idle meanwhile.
+const TICKETS_ALONE: usize = 8;
+
 /// From how many turns on an evaluation takes long: longer than to wake a thread that sleeps.
 const LONG: u64 = 16_384;
+
+/// How many tickets of a node with so many body workers are out at most.
+pub(crate) fn most_tickets(workers: usize, grain: Grain) -> usize {
+    let is_alone = grain.evaluators <= workers as u64;
+    let each = if is_alone && grain.most_turns > 0 {
+        TICKETS_ALONE
+    } else {
+        TICKETS
+    };
+    workers.saturating_mul(each)
+}
 
 /// A ready frame of a node that waits for a body worker, with the number of the ticket, and in at
 /// most how many turns its task is to be evaluated whole; 0 where only its own turn is. On so many
@@ -56,6 +72,7 @@ pub(crate) struct Desk {
     pub(crate) home: Home,
     bells: Arc<Bells, Global>,
     workers: usize,
+    most_tickets: usize,
     sizes: TaskSizes,
     // In how many turns that task was evaluated that came back last, or wasn't.
     last: u64,
@@ -77,17 +94,18 @@ impl Desk {
     ) -> Result<Desk, AllocError>
         ensures { IfOk result (λ d. d.home ≡ home) }
     {
-        let room = workers.saturating_mul(TICKETS);
+        let most_tickets = most_tickets(workers, grain);
         Ok(Desk {
             owner,
             home,
             bells,
             workers,
+            most_tickets,
             sizes: TaskSizes::new(alloc, grain)?,
             last: 0,
             next: 0,
-            tickets: Vec::with_capacity(alloc, room)?,
-            frames: Vec::with_capacity(alloc, room)?,
+            tickets: Vec::with_capacity(alloc, most_tickets)?,
+            frames: Vec::with_capacity(alloc, most_tickets)?,
         })
     }
 
@@ -113,7 +131,7 @@ impl Desk {
 
     /// Whether no more tickets may be out.
     pub(crate) fn is_full(&self) -> bool {
-        self.tickets.len() >= self.workers.saturating_mul(TICKETS)
+        self.tickets.len() >= self.most_tickets
     }
 
     /// Whether no more tickets may be out, and to wait for one takes long.

@@ -19,6 +19,7 @@ use clearinghouse::HouseError;
 use disk::SteadyDisk;
 use event_script::{Event, HouseEvent};
 use std::alloc::Global;
+use std::marker::Model;
 use std::sync::Wait;
 use std::thread::yield_now;
 use std::time::Clock;
@@ -32,10 +33,16 @@ const TICK: u64 = 100;
 /// Saves are drawn from the next one.
 const PLACE: u64 = 64;
 
-/// The clearinghouse of a run: its packets, and the Saves among them, how many events were
-/// committed when it ticked last, how often it did, and in how many turns in a row it did nothing.
+/// What the clearinghouse's thread has in a run: what the actors share, a seat, what it knows of the
+/// board, the packets and the values that may come to it, how many events were committed when it
+/// ticked last, how often it did, and in how many turns in a row it did nothing. Contracts see the
+/// chronicle.
 #[derive(Drop)]
-struct House {
+struct HouseRun<'r, 's, 'a, G: Gate + Sync, D: SteadyDisk + Drop> {
+    alloc: Global,
+    shared: &'r Shared<'s, 'a, G, D>,
+    seat: ActorSeat<'a, D>,
+    note: Note,
     inbox: Inbox,
     saves: Saves,
     ticked: u64,
@@ -43,22 +50,44 @@ struct House {
     idle: u64,
 }
 
+impl<'r, 's, 'a, G: Gate + Sync, D: SteadyDisk + Drop> Model for HouseRun<'r, 's, 'a, G, D> {
+    ghost use Rattle.std.specs.Prelude.{◌≡◌};
+    ghost use Rattle.std.specs.Coded.{codes as known};
+    ghost use Rattle.task_tree.specs.contracts.tree.Expr as expr;
+    ghost use Rattle.task_tree.specs.contracts.tree.Block as block;
+    ghost use Rattle.task_tree.specs.contracts.tree.End as end;
+    ghost use Rattle.chronicle.specs.Seats.{ChronicleOf, IsSeatIn};
+    ghost use Rattle.node_runner.specs.Runs.{TakesOutcomesOf};
+
+    ghost Value = { ChronicleOf };
+
+    ghost coded = { Prim.hlevel (known, expr.the_row.coded, block.the_row.coded, end.the_row.coded) };
+
+    ghost view = { λ r. r.shared.now.chronicle.now };
+
+    ghost invariant = { λ r. IsSeatIn r.shared.now.chronicle.now r.seat
+        × TakesOutcomesOf r.shared.now.chronicle.now r.shared.now.board.now × (r.note.board ≡ r.shared.now.board.now.board) };
+}
+
 /// The clearinghouse's turns, until the run ends. It is opened first.
 pub(crate) fn run_house<'a, R: Wait + Clock, G: Gate + Sync, D: SteadyDisk + Drop>(
     rt: &R,
     alloc: Global,
     shared: &Shared<'_, 'a, G, D>,
-    mut seat: ActorSeat<'a, D>,
+    seat: ActorSeat<'a, D>,
 ) -> ActorSeat<'a, D>
     requires seat { IsSeatIn shared.now.chronicle.now seat }
     requires tie { TakesOutcomesOf shared.now.chronicle.now shared.now.board.now }
     ensures { IsSeatIn shared.entry.now.chronicle.now result }
 {
-    let mut note = shared.board.note();
     let faults = shared.config.faults();
     let fates = Fates::new(faults.word, PLACE, faults.lose, faults.repeat);
     let fates_of_saves = Fates::new(faults.word, PLACE + 1, faults.lose, faults.repeat);
-    let mut house = House {
+    let mut run = HouseRun {
+        alloc,
+        shared,
+        seat,
+        note: shared.board.note(),
         inbox: Inbox::new(None, Receiver::Clearinghouse, fates),
         saves: Saves::new(alloc, fates_of_saves),
         ticked: 0,
@@ -66,150 +95,125 @@ pub(crate) fn run_house<'a, R: Wait + Clock, G: Gate + Sync, D: SteadyDisk + Dro
         idle: 0,
     };
     let mut turns = Turns::new();
-    if !commit_event(rt, shared, &mut seat, &mut note, HouseEvent::Restart) {
-        return seat;
-    }
-    for _ in rt.forever() {
-        if !shared.counts.take_turn(&mut turns)
-            || !turn(rt, alloc, shared, &mut seat, &mut note, &mut house)
-        {
-            break;
+    if run.commit_event(rt, HouseEvent::Restart) {
+        for _ in rt.forever() {
+            if !shared.counts.take_turn(&mut turns) || !run.turn(rt) {
+                break;
+            }
         }
     }
+    let HouseRun { seat, .. } = run;
     seat
 }
 
-/// A turn: the next packet is taken, and afterwards it ticks, if it is time. Whether the run goes
-/// on.
-fn turn<'a, R: Wait + Clock, G: Gate + Sync, D: SteadyDisk + Drop>(
-    rt: &R,
-    alloc: Global,
-    shared: &Shared<'_, 'a, G, D>,
-    seat: &mut ActorSeat<'a, D>,
-    note: &mut Note,
-    house: &mut House,
-) -> bool
-    requires seat { IsSeatIn shared.now.chronicle.now seat.old }
-    requires tie { TakesOutcomesOf shared.now.chronicle.now shared.now.board.now }
-    requires note { note.old.board ≡ shared.now.board.now.board }
-    ensures seat { IsSeatIn shared.entry.now.chronicle.now seat.new }
-    ensures note { note.new.board ≡ note.old.board }
-{
-    let came = house.inbox.take(rt, alloc, shared.chronicle, seat);
-    shared.pace.see(house.inbox.seen());
-    match came {
-        Ok(Some(delivered)) => {
-            house.idle = 0;
-            shared.counts.count_event();
-            if !follow_up(shared, note, &delivered.committed) {
+impl<'r, 's, 'a, G: Gate + Sync, D: SteadyDisk + Drop> HouseRun<'r, 's, 'a, G, D> {
+    /// A turn: the next packet is taken, and afterwards it ticks, if it is time. Whether the run
+    /// goes on.
+    fn turn<R: Wait + Clock>(&mut self, rt: &R) -> bool
+        ensures { self.new ≡ self.old }
+    {
+        let came = self
+            .inbox
+            .take(rt, self.alloc, self.shared.chronicle, &mut self.seat);
+        self.shared.pace.see(self.inbox.seen());
+        match came {
+            Ok(Some(delivered)) => {
+                self.idle = 0;
+                self.shared.counts.count_event();
+                if !self.follow_up(&delivered.committed) {
+                    return false;
+                }
+            }
+            Ok(None) => {
+                if !self.save_next(rt) {
+                    return false;
+                }
+            }
+            Err(_) => {
+                self.shared.counts.end_by(End::Memory);
                 return false;
             }
         }
-        Ok(None) => {
-            if !save_next(rt, shared, seat, note, house) {
-                return false;
+        let events = self.shared.counts.events();
+        if events < self.ticked.saturating_add(TICK) {
+            return true;
+        }
+        self.shared
+            .gate
+            .passed(events, self.shared.chronicle.sent());
+        self.ticked = events;
+        self.ticks = self.ticks.saturating_add(1);
+        let moment = self.ticks.saturating_mul(TICK);
+        self.commit_event(rt, HouseEvent::Tick(moment))
+    }
+
+    /// Where no other packet came, a value is saved, if it is time; else it rests. Whether the run
+    /// goes on.
+    fn save_next<R: Wait + Clock>(&mut self, rt: &R) -> bool
+        ensures { self.new ≡ self.old }
+    {
+        match self.saves.take(rt, self.shared.chronicle, &mut self.seat) {
+            Ok(Some(committed)) => {
+                self.idle = 0;
+                self.shared.counts.count_event();
+                self.follow_up(&committed)
+            }
+            Ok(None) => {
+                self.rest(rt);
+                true
+            }
+            Err(_) => {
+                self.shared.counts.end_by(End::Memory);
+                false
             }
         }
-        Err(_) => {
-            shared.counts.end_by(End::Memory);
+    }
+
+    /// It lets others go on.
+    fn rest<R: Wait + Clock>(&mut self, rt: &R)
+        ensures { self.new ≡ self.old }
+    {
+        self.idle = self.idle.saturating_add(1);
+        let events = self.shared.counts.events();
+        if is_beginning(events, self.shared.config.nodes(), self.idle) {
+            yield_now();
+        } else {
+            rest_idle(rt, 1, self.idle);
+        }
+    }
+
+    /// An event of the clearinghouse is committed. Whether the run goes on: not where there is no
+    /// memory, nor where `follow_up` ends it.
+    fn commit_event<R: Wait>(&mut self, rt: &R, event: HouseEvent) -> bool
+        ensures { self.new ≡ self.old }
+    {
+        let (chronicle, counts) = (self.shared.chronicle, self.shared.counts);
+        match commit(rt, chronicle, counts, &mut self.seat, Event::AtHouse(event)) {
+            Some(committed) => self.follow_up(&committed),
+            None => false,
+        }
+    }
+
+    /// What follows from what was told of an event of the clearinghouse. The run goes on, unless an
+    /// outcome is told, which is published, or the clearinghouse can't go on with its disk.
+    fn follow_up(&mut self, committed: &Committed) -> bool
+        requires { StoredAgree self.old.job self.old.first → (o : OutcomeOf)
+            → outcome_told committed.now.told ≡ Some o → o ≡ meaning_of self.old.job }
+        ensures { self.new ≡ self.old }
+    {
+        if let Some(outcome) = committed.outcome() {
+            if self.shared.board.publish(&mut self.note, outcome).is_err() {
+                self.shared.counts.end_by(End::Memory);
+            }
             return false;
         }
-    }
-    let events = shared.counts.events();
-    if events < house.ticked.saturating_add(TICK) {
-        return true;
-    }
-    shared.gate.passed(events, shared.chronicle.sent());
-    house.ticked = events;
-    house.ticks = house.ticks.saturating_add(1);
-    let moment = house.ticks.saturating_mul(TICK);
-    commit_event(rt, shared, seat, note, HouseEvent::Tick(moment))
-}
-
-/// Where no other packet came, a value is saved, if it is time; else it rests. Whether the run goes
-/// on.
-fn save_next<'a, R: Wait + Clock, G: Gate + Sync, D: SteadyDisk + Drop>(
-    rt: &R,
-    shared: &Shared<'_, 'a, G, D>,
-    seat: &mut ActorSeat<'a, D>,
-    note: &mut Note,
-    house: &mut House,
-) -> bool
-    requires seat { IsSeatIn shared.now.chronicle.now seat.old }
-    requires tie { TakesOutcomesOf shared.now.chronicle.now shared.now.board.now }
-    requires note { note.old.board ≡ shared.now.board.now.board }
-    ensures seat { IsSeatIn shared.entry.now.chronicle.now seat.new }
-    ensures note { note.new.board ≡ note.old.board }
-{
-    match house.saves.take(rt, shared.chronicle, seat) {
-        Ok(Some(committed)) => {
-            house.idle = 0;
-            shared.counts.count_event();
-            follow_up(shared, note, &committed)
-        }
-        Ok(None) => {
-            house.idle = house.idle.saturating_add(1);
-            if is_beginning(shared.counts.events(), shared.config.nodes(), house.idle) {
-                yield_now();
-            } else {
-                rest_idle(rt, 1, house.idle);
+        match refused(committed.told) {
+            Some(number) => {
+                self.shared.counts.end_by(End::Disk(number));
+                false
             }
-            true
+            None => true,
         }
-        Err(_) => {
-            shared.counts.end_by(End::Memory);
-            false
-        }
-    }
-}
-
-/// An event of the clearinghouse is committed. Whether the run goes on: not where there is no
-/// memory, nor where `follow_up` ends it.
-fn commit_event<'a, R: Wait, G: Gate + Sync, D: SteadyDisk + Drop>(
-    rt: &R,
-    shared: &Shared<'_, 'a, G, D>,
-    seat: &mut ActorSeat<'a, D>,
-    note: &mut Note,
-    event: HouseEvent,
-) -> bool
-    requires seat { IsSeatIn shared.now.chronicle.now seat.old }
-    requires tie { TakesOutcomesOf shared.now.chronicle.now shared.now.board.now }
-    requires note { note.old.board ≡ shared.now.board.now.board }
-    ensures seat { IsSeatIn shared.entry.now.chronicle.now seat.new }
-    ensures note { note.new.board ≡ note.old.board }
-{
-    let event = Event::AtHouse(event);
-    let Some(committed) = commit(rt, shared.chronicle, shared.counts, seat, event) else {
-        return false;
-    };
-    follow_up(shared, note, &committed)
-}
-
-/// What follows from what was told of an event of the clearinghouse. The run goes on, unless an
-/// outcome is told, which is published, or the clearinghouse can't go on with its disk.
-fn follow_up<G: Gate + Sync, D: SteadyDisk + Drop>(
-    shared: &Shared<'_, '_, G, D>,
-    note: &mut Note,
-    committed: &Committed,
-) -> bool
-    requires tie { TakesOutcomesOf shared.now.chronicle.now shared.now.board.now }
-    requires note { note.old.board ≡ shared.now.board.now.board }
-    requires outcome { StoredAgree shared.now.chronicle.now.job shared.now.chronicle.now.first → (o : OutcomeOf)
-        → outcome_told committed.now.told ≡ Some o → o ≡ meaning_of shared.now.chronicle.now.job }
-    ensures { note.new.board ≡ note.old.board }
-{
-    if let Some(outcome) = committed.outcome() {
-        if shared.board.publish(note, outcome).is_err() {
-            shared.counts.end_by(End::Memory);
-        }
-        return false;
-    }
-    match refused(committed.told) {
-        Some(number) => {
-            shared.counts.end_by(End::Disk(number));
-            false
-        }
-        None => true,
     }
 }
 

@@ -2,7 +2,6 @@ ghost use Rattle.std.specs.Prelude.{◌≡◌, length};
 ghost use Rattle.kind_check.specs.Total.{Takes};
 ghost use Rattle.chronicle.specs.Seats.{IsSeatIn};
 ghost use Rattle.node_runner.specs.Lines.{IsHomeOf};
-ghost use Rattle.node_runner.specs.Runs.{IsRunIn};
 ghost use Rattle.node_runner.specs.Turns.{IsFoundOf};
 
 use crate::config::RunConfig;
@@ -27,6 +26,7 @@ use node_core::{NodeError, Work};
 use serial_meaning::Flat;
 use start_words::Pen;
 use std::alloc::Global;
+use std::marker::Model;
 use std::sync::Wait;
 use std::thread::yield_now;
 use std::time::Clock;
@@ -92,15 +92,38 @@ struct Node {
     left_out: bool,
 }
 
-/// What a node's thread has in a run: a seat, a pen, a desk for its body workers, the flat code by
-/// which it evaluates small tasks itself, and the node of its place.
+/// What a node's thread has in a run: what the actors share, a seat, a pen, a desk for its body
+/// workers, the flat code by which it evaluates small tasks itself, and the node of its place.
+/// Contracts see the chronicle.
 #[derive(Drop)]
-struct NodeRun<'a, D: SteadyDisk + Drop> {
+struct NodeRun<'r, 's, 'a, G: Gate + Sync, D: SteadyDisk + Drop> {
+    alloc: Global,
+    shared: &'r Shared<'s, 'a, G, D>,
     seat: ActorSeat<'a, D>,
     pen: Pen,
     desk: Desk,
     flat: Flat,
     node: Node,
+}
+
+impl<'r, 's, 'a, G: Gate + Sync, D: SteadyDisk + Drop> Model for NodeRun<'r, 's, 'a, G, D> {
+    ghost use Rattle.std.specs.Prelude.{◌≡◌};
+    ghost use Rattle.std.specs.Coded.{codes as known};
+    ghost use Rattle.task_tree.specs.contracts.tree.Expr as expr;
+    ghost use Rattle.task_tree.specs.contracts.tree.Block as block;
+    ghost use Rattle.task_tree.specs.contracts.tree.End as end;
+    ghost use Rattle.chronicle.specs.Seats.{ChronicleOf, IsSeatIn};
+    ghost use Rattle.start_words.specs.Words.{IsPenOf};
+    ghost use Rattle.node_runner.specs.Lines.{IsHomeOf};
+
+    ghost Value = { ChronicleOf };
+
+    ghost coded = { Prim.hlevel (known, expr.the_row.coded, block.the_row.coded, end.the_row.coded) };
+
+    ghost view = { λ r. r.shared.now.chronicle.now };
+
+    ghost invariant = { λ r. IsSeatIn r.shared.now.chronicle.now r.seat × IsPenOf r.shared.now.words.now r.pen
+        × IsHomeOf r.shared.now.chronicle.now.job.program r.desk.home × (r.flat.program ≡ r.shared.now.chronicle.now.job.program) };
 }
 
 /// The turns of a node place, until the run ends.
@@ -125,6 +148,8 @@ pub(crate) fn run_node<'a, R: Wait + Clock, G: Gate + Sync, D: SteadyDisk + Drop
     };
     let mut note = shared.board.note();
     let mut run = NodeRun {
+        alloc,
+        shared,
         seat,
         pen,
         desk,
@@ -132,542 +157,492 @@ pub(crate) fn run_node<'a, R: Wait + Clock, G: Gate + Sync, D: SteadyDisk + Drop
         node: Node::new(alloc, shared.config, place),
     };
     let mut turns = Turns::new();
-    if start(rt, shared, &mut run) {
+    if run.start(rt) {
         for _ in rt.forever() {
             if !shared.counts.take_turn(&mut turns)
                 || shared.board.read(&mut note).is_some()
-                || !turn(rt, alloc, shared, &mut run)
+                || !run.turn(rt)
             {
                 break;
             }
         }
     }
-    run.desk.bells().end();
-    run.seat
+    let NodeRun { seat, desk, .. } = run;
+    desk.bells().end();
+    seat
 }
 
-/// A turn: a crash that is due; or else a departure and a Resend that are due, and then what there
-/// is to do. So a node goes on with what came to it however often it has to send again. After a
-/// Resend it does nothing while another actor is behind it. Whether there was memory.
-fn turn<'a, R: Wait + Clock, G: Gate + Sync, D: SteadyDisk + Drop>(
-    rt: &R,
-    alloc: Global,
-    shared: &Shared<'_, 'a, G, D>,
-    run: &mut NodeRun<'a, D>,
-) -> bool
-    requires { IsRunIn shared.now.chronicle.now shared.now.words.now run.old }
-    ensures { IsRunIn shared.entry.now.chronicle.now shared.entry.now.words.now run.new }
-{
-    let events = shared.counts.events();
-    if run.node.plans.take_crash(events) && !run.node.leaves {
-        return crash(rt, shared, run);
-    }
-    if run.node.is_over {
-        shared.pace.forget(run.node.index());
-        run.node.rested = run.node.rested.saturating_add(1);
-        rest(rt, shared.config.nodes(), run.node.rested);
-        return true;
-    }
-    if run.node.holds {
-        let behind = shared
-            .pace
-            .is_behind(shared.chronicle.sent(), run.node.sent);
-        if run.node.is_held(behind) {
-            rest(rt, shared.config.nodes(), run.node.held);
+impl<'r, 's, 'a, G: Gate + Sync, D: SteadyDisk + Drop> NodeRun<'r, 's, 'a, G, D> {
+    /// A turn: a crash that is due; or else a departure and a Resend that are due, and then what
+    /// there is to do. So a node goes on with what came to it however often it has to send again.
+    /// After a Resend it does nothing while another actor is behind it. Whether there was memory.
+    fn turn<R: Wait + Clock>(&mut self, rt: &R) -> bool
+        ensures { self.new ≡ self.old }
+    {
+        let events = self.shared.counts.events();
+        if self.node.plans.take_crash(events) && !self.node.leaves {
+            return self.crash(rt);
+        }
+        if self.node.is_over {
+            self.shared.pace.forget(self.node.index());
+            self.node.rested = self.node.rested.saturating_add(1);
+            rest(rt, self.shared.config.nodes(), self.node.rested);
             return true;
         }
-    }
-    if !run.node.leaves && run.node.plans.take_departure(events) && !depart(rt, shared, run) {
-        return false;
-    }
-    if events >= run.node.sent.saturating_add(SILENCE) && !send_again(rt, shared, run) {
-        return false;
-    }
-    do_next(rt, alloc, shared, run)
-}
-
-/// What there is to do in a turn; where there is nothing the node rests, and sends again where it
-/// rested long. Whether there was memory.
-fn do_next<'a, R: Wait + Clock, G: Gate + Sync, D: SteadyDisk + Drop>(
-    rt: &R,
-    alloc: Global,
-    shared: &Shared<'_, 'a, G, D>,
-    run: &mut NodeRun<'a, D>,
-) -> bool
-    requires { IsRunIn shared.now.chronicle.now shared.now.words.now run.old }
-    ensures { IsRunIn shared.entry.now.chronicle.now shared.entry.now.words.now run.new }
-{
-    match go_on(rt, alloc, shared, run) {
-        Some(true) => true,
-        Some(false) => rest_or_send_again(rt, shared, run),
-        None => false,
-    }
-}
-
-/// The next packet comes, or else a frame is carried out of which is known what it comes to, or a
-/// ready one is offered to the body workers, or the node asks. Where tasks are evaluated whole what
-/// is known goes before the packets, some times in a row at most, so that no thief is granted what
-/// is evaluated already. Whether one of these was done; none where there was no memory.
-fn go_on<'a, R: Wait + Clock, G: Gate + Sync, D: SteadyDisk + Drop>(
-    rt: &R,
-    alloc: Global,
-    shared: &Shared<'_, 'a, G, D>,
-    run: &mut NodeRun<'a, D>,
-) -> Option<bool>
-    requires { IsRunIn shared.now.chronicle.now shared.now.words.now run.old }
-    ensures { IsRunIn shared.entry.now.chronicle.now shared.entry.now.words.now run.new }
-{
-    let is_known_first = shared.config.grain() > 0 && run.node.known < MOST_KNOWN;
-    if is_known_first && carry_out_known(rt, alloc, shared, run)? {
-        run.node.known = run.node.known.saturating_add(1);
-        return Some(true);
-    }
-    run.node.known = 0;
-    if take_next(rt, alloc, shared, run)? {
-        return Some(true);
-    }
-    if !is_known_first && carry_out_known(rt, alloc, shared, run)? {
-        return Some(true);
-    }
-    if offer_next(rt, alloc, shared, run)? {
-        return Some(true);
-    }
-    if run.node.has_asked || run.node.plans.is_to_leave() || run.desk.is_busy() {
-        return Some(false);
-    }
-    if run.node.pauses > 0 {
-        run.node.pauses = run.node.pauses.saturating_sub(1);
-        run.node.sleep(rt, shared.counts, shared.config.nodes());
-        return Some(true);
-    }
-    ask(rt, shared, run)
-}
-
-/// The next packet comes to the node, if there is one. Whether one did; none where there was no
-/// memory.
-fn take_next<'a, R: Wait + Clock, G: Gate + Sync, D: SteadyDisk + Drop>(
-    rt: &R,
-    alloc: Global,
-    shared: &Shared<'_, 'a, G, D>,
-    run: &mut NodeRun<'a, D>,
-) -> Option<bool>
-    requires { IsRunIn shared.now.chronicle.now shared.now.words.now run.old }
-    ensures { IsRunIn shared.entry.now.chronicle.now shared.entry.now.words.now run.new }
-{
-    match run
-        .node
-        .inbox
-        .take(rt, alloc, shared.chronicle, &mut run.seat)
-    {
-        Ok(Some(delivered)) => {
-            if !take_packet(alloc, shared, &mut run.node, &delivered) {
-                return None;
+        if self.node.holds {
+            let behind = self
+                .shared
+                .pace
+                .is_behind(self.shared.chronicle.sent(), self.node.sent);
+            if self.node.is_held(behind) {
+                rest(rt, self.shared.config.nodes(), self.node.held);
+                return true;
             }
-            Some(true)
         }
-        Ok(None) => Some(false),
-        Err(_) => {
-            shared.counts.end_by(End::Memory);
-            None
+        if !self.node.leaves && self.node.plans.take_departure(events) && !self.depart(rt) {
+            return false;
+        }
+        if events >= self.node.sent.saturating_add(SILENCE) && !self.send_again(rt) {
+            return false;
+        }
+        self.do_next(rt)
+    }
+
+    /// What there is to do in a turn; where there is nothing the node rests, and sends again where
+    /// it rested long. Whether there was memory.
+    fn do_next<R: Wait + Clock>(&mut self, rt: &R) -> bool
+        ensures { self.new ≡ self.old }
+    {
+        match self.go_on(rt) {
+            Some(true) => true,
+            Some(false) => self.rest_or_send_again(rt),
+            None => false,
         }
     }
-}
 
-/// There is nothing to do: the node rests, and sends again where it rested long. Whether there was
-/// memory.
-fn rest_or_send_again<'a, R: Wait + Clock, G: Gate + Sync, D: SteadyDisk + Drop>(
-    rt: &R,
-    shared: &Shared<'_, 'a, G, D>,
-    run: &mut NodeRun<'a, D>,
-) -> bool
-    requires { IsRunIn shared.now.chronicle.now shared.now.words.now run.old }
-    ensures { IsRunIn shared.entry.now.chronicle.now shared.entry.now.words.now run.new }
-{
-    if run.desk.is_waiting() && !run.desk.has_long_work() && run.node.stay_awake() {
-        return true;
-    }
-    if run.node.idle < run.node.patience {
-        run.node.idle = run.node.idle.saturating_add(1);
-        run.node
-            .rest(rt, &run.desk, shared.counts, shared.config.nodes());
-        return true;
-    }
-    run.node.patience = run.node.patience.saturating_mul(2).min(MOST_PATIENCE);
-    // (there may be a ready frame that no memory was found to look for)
-    run.node.may_be_ready = true;
-    send_again(rt, shared, run)
-}
-
-/// A frame is carried out of which is known what it comes to: by what came back of it, or as
-/// `settle_next` does. Whether there was one; none where there was no memory.
-fn carry_out_known<'a, R: Wait, G: Gate + Sync, D: SteadyDisk + Drop>(
-    rt: &R,
-    alloc: Global,
-    shared: &Shared<'_, 'a, G, D>,
-    run: &mut NodeRun<'a, D>,
-) -> Option<bool>
-    requires { IsRunIn shared.now.chronicle.now shared.now.words.now run.old }
-    ensures { IsRunIn shared.entry.now.chronicle.now shared.entry.now.words.now run.new }
-{
-    let Some(returned) = run.desk.take(rt, shared.chronicle.job().checked()) else {
-        return settle_next(rt, alloc, shared, run);
-    };
-    if !carry_out(rt, alloc, shared, run, returned.frame, &returned.found) {
-        return None;
-    }
-    Some(true)
-}
-
-/// A node starts at the place, with a new start word. Whether there was memory.
-fn start<'a, R: Wait, G: Gate + Sync, D: SteadyDisk + Drop>(
-    rt: &R,
-    shared: &Shared<'_, 'a, G, D>,
-    run: &mut NodeRun<'a, D>,
-) -> bool
-    requires { IsRunIn shared.now.chronicle.now shared.now.words.now run.old }
-    ensures { IsRunIn shared.entry.now.chronicle.now shared.entry.now.words.now run.new }
-{
-    let Ok(word) = run.pen.draw(shared.words) else {
-        run.node.is_over = true;
-        return true;
-    };
-    run.node.word = word;
-    run.node.inbox.receiver = Receiver::Worker(word);
-    run.node.members.forget();
-    run.node.may_be_ready = false;
-    run.node.next = None;
-    run.node.has_asked = false;
-    run.node.rested = 0;
-    run.node.idle = 0;
-    run.node.patience = PATIENCE;
-    shared.pace.hear(run.node.index(), shared.counts.events());
-    let event = Event::Start(run.node.place, word);
-    commit(rt, shared.chronicle, shared.counts, &mut run.seat, event).is_some()
-}
-
-/// The node of the place loses its memory, and another one starts. Its tickets are forgotten.
-/// Whether there was memory.
-fn crash<'a, R: Wait, G: Gate + Sync, D: SteadyDisk + Drop>(
-    rt: &R,
-    shared: &Shared<'_, 'a, G, D>,
-    run: &mut NodeRun<'a, D>,
-) -> bool
-    requires { IsRunIn shared.now.chronicle.now shared.now.words.now run.old }
-    ensures { IsRunIn shared.entry.now.chronicle.now shared.entry.now.words.now run.new }
-{
-    run.desk.forget();
-    let event = Event::Crash(run.node.place);
-    if commit(rt, shared.chronicle, shared.counts, &mut run.seat, event).is_none() {
-        return false;
-    }
-    start(rt, shared, run)
-}
-
-/// An event of the node is committed. What was told of it; none where there was no memory.
-fn do_event<'a, R: Wait, G: Gate + Sync, D: SteadyDisk + Drop>(
-    rt: &R,
-    shared: &Shared<'_, 'a, G, D>,
-    run: &mut NodeRun<'a, D>,
-    event: NodeEvent,
-) -> Option<EventAnswer>
-    requires { IsRunIn shared.now.chronicle.now shared.now.words.now run.old }
-    ensures { IsRunIn shared.entry.now.chronicle.now shared.entry.now.words.now run.new }
-{
-    let event = Event::AtNode(run.node.place, event);
-    let committed = commit(rt, shared.chronicle, shared.counts, &mut run.seat, event)?;
-    run.node.note(committed.told);
-    Some(committed.told)
-}
-
-/// The node leaves to another live member, if there is one that doesn't leave itself, none leaves
-/// to this one, and it may. It takes its tickets back before, and offers them again where it may
-/// not leave. Whether there was memory.
-fn depart<'a, R: Wait, G: Gate + Sync, D: SteadyDisk + Drop>(
-    rt: &R,
-    shared: &Shared<'_, 'a, G, D>,
-    run: &mut NodeRun<'a, D>,
-) -> bool
-    requires { IsRunIn shared.now.chronicle.now shared.now.words.now run.old }
-    ensures { IsRunIn shared.entry.now.chronicle.now shared.entry.now.words.now run.new }
-{
-    let Some(heir) = run.node.members.heir(run.node.word, shared.leavers) else {
-        return true;
-    };
-    if !shared.leavers.begin(run.node.index(), run.node.word, heir) {
-        return true;
-    }
-    run.desk.take_back();
-    run.node.may_be_ready = true;
-    run.node.next = None;
-    match do_event(rt, shared, run, NodeEvent::Depart(heir)) {
-        Some(EventAnswer::Did(_, _)) => {
-            run.node.leaves = true;
-            true
+    /// The next packet comes, or else a frame is carried out of which is known what it comes to, or
+    /// a ready one is offered to the body workers, or the node asks. Where tasks are evaluated
+    /// whole what is known goes before the packets, some times in a row at most, so that no thief
+    /// is granted what is evaluated already. Whether one of these was done; none where there was no
+    /// memory.
+    fn go_on<R: Wait + Clock>(&mut self, rt: &R) -> Option<bool>
+        ensures { self.new ≡ self.old }
+    {
+        let is_known_first = self.shared.config.grain() > 0 && self.node.known < MOST_KNOWN;
+        if is_known_first && self.carry_out_known(rt)? {
+            self.node.known = self.node.known.saturating_add(1);
+            return Some(true);
         }
-        Some(_) => {
-            shared.leavers.stay(run.node.index());
-            true
+        self.node.known = 0;
+        if self.take_next(rt)? {
+            return Some(true);
         }
-        None => false,
-    }
-}
-
-/// The node sends again. One that has ended is over where it left; else it crashes, and another one
-/// starts. Whether there was memory.
-fn send_again<'a, R: Wait, G: Gate + Sync, D: SteadyDisk + Drop>(
-    rt: &R,
-    shared: &Shared<'_, 'a, G, D>,
-    run: &mut NodeRun<'a, D>,
-) -> bool
-    requires { IsRunIn shared.now.chronicle.now shared.now.words.now run.old }
-    ensures { IsRunIn shared.entry.now.chronicle.now shared.entry.now.words.now run.new }
-{
-    run.node.sent = shared.counts.events();
-    run.node.holds = true;
-    run.node.held = 0;
-    shared.pace.hear(run.node.index(), run.node.sent);
-    let (rested, patience) = (run.node.rested, run.node.patience);
-    let Some(told) = do_event(rt, shared, run, NodeEvent::Resend) else {
-        return false;
-    };
-    (run.node.rested, run.node.patience) = (rested, patience);
-    match told {
-        EventAnswer::Refused(NodeError::NotJoined) if run.node.leaves => {
-            shared.leavers.end(run.node.index());
-            run.node.is_over = true;
-            true
+        if !is_known_first && self.carry_out_known(rt)? {
+            return Some(true);
         }
-        EventAnswer::Refused(NodeError::NotJoined) => crash(rt, shared, run),
-        _ => true,
+        if self.offer_next(rt)? {
+            return Some(true);
+        }
+        if self.node.has_asked || self.node.plans.is_to_leave() || self.desk.is_busy() {
+            return Some(false);
+        }
+        if self.node.pauses > 0 {
+            self.node.pauses = self.node.pauses.saturating_sub(1);
+            self.node
+                .sleep(rt, self.shared.counts, self.shared.config.nodes());
+            return Some(true);
+        }
+        self.ask(rt)
     }
-}
 
-/// A packet came to the node. Whether there was memory.
-fn take_packet<G: Gate + Sync, D: SteadyDisk + Drop>(
-    alloc: Global,
-    shared: &Shared<'_, '_, G, D>,
-    node: &mut Node,
-    delivered: &Delivered,
-) -> bool {
-    let told = delivered.committed.told;
-    shared.counts.count_event();
-    node.note(told);
-    node.next = None;
-    node.has_asked = false;
-    let Some(roster) = &delivered.roster else {
-        return true;
-    };
-    if matches!(told, EventAnswer::Did(_, _)) && !node.members.take(alloc, roster.as_slice()) {
-        shared.counts.end_by(End::Memory);
-        return false;
+    /// The next packet comes to the node, if there is one. Whether one did; none where there was no
+    /// memory.
+    fn take_next<R: Wait + Clock>(&mut self, rt: &R) -> Option<bool>
+        ensures { self.new ≡ self.old }
+    {
+        match self
+            .node
+            .inbox
+            .take(rt, self.alloc, self.shared.chronicle, &mut self.seat)
+        {
+            Ok(Some(delivered)) => {
+                if !self.take_packet(&delivered) {
+                    return None;
+                }
+                Some(true)
+            }
+            Ok(None) => Some(false),
+            Err(_) => {
+                self.shared.counts.end_by(End::Memory);
+                None
+            }
+        }
     }
-    true
-}
 
-/// A ready frame that isn't out is carried out where that takes no evaluation: by its own turn,
-/// where its task is short work or known to be large, or by its task's value, where an evaluation
-/// kept it. Whether one was; none where there was no memory.
-fn settle_next<'a, R: Wait, G: Gate + Sync, D: SteadyDisk + Drop>(
-    rt: &R,
-    alloc: Global,
-    shared: &Shared<'_, 'a, G, D>,
-    run: &mut NodeRun<'a, D>,
-) -> Option<bool>
-    requires { IsRunIn shared.now.chronicle.now shared.now.words.now run.old }
-    ensures { IsRunIn shared.entry.now.chronicle.now shared.entry.now.words.now run.new }
-{
-    if !run.node.may_be_ready {
-        return Some(false);
+    /// There is nothing to do: the node rests, and sends again where it rested long. Whether there
+    /// was memory.
+    fn rest_or_send_again<R: Wait + Clock>(&mut self, rt: &R) -> bool
+        ensures { self.new ≡ self.old }
+    {
+        if self.desk.is_waiting() && !self.desk.has_long_work() && self.node.stay_awake() {
+            return true;
+        }
+        if self.node.idle < self.node.patience {
+            self.node.idle = self.node.idle.saturating_add(1);
+            self.node.rest(
+                rt,
+                &self.desk,
+                self.shared.counts,
+                self.shared.config.nodes(),
+            );
+            return true;
+        }
+        self.node.patience = self.node.patience.saturating_mul(2).min(MOST_PATIENCE);
+        // (there may be a ready frame that no memory was found to look for)
+        self.node.may_be_ready = true;
+        self.send_again(rt)
     }
-    let Some(work) = next_ready(rt, alloc, shared, run) else {
-        run.node.may_be_ready = false;
-        return Some(false);
-    };
-    let checked = shared.chronicle.job().checked();
-    let fits = takes_its_numbers(checked, &work);
-    if fits && run.desk.is_short(checked, &work) {
-        return run_here(rt, alloc, shared, run, work);
-    }
-    if let Some(whole) = run.desk.value_of(checked, &work) {
-        let turns = whole.turns();
-        if !carry_out(
-            rt,
-            alloc,
-            shared,
-            run,
-            frame_of(&work),
-            &Found::Whole(whole),
-        ) {
+
+    /// A frame is carried out of which is known what it comes to: by what came back of it, or as
+    /// `settle_next` does. Whether there was one; none where there was no memory.
+    fn carry_out_known<R: Wait>(&mut self, rt: &R) -> Option<bool>
+        ensures { self.new ≡ self.old }
+    {
+        let Some(returned) = self.desk.take(rt, self.shared.chronicle.job().checked()) else {
+            return self.settle_next(rt);
+        };
+        if !self.carry_out(rt, returned.frame, &returned.found) {
             return None;
         }
-        shared.counts.use_kept(turns);
-        return Some(true);
+        Some(true)
     }
-    if fits && run.desk.was_large(&work) {
-        return run_here(rt, alloc, shared, run, work);
-    }
-    run.node.next = Some(work);
-    Some(false)
-}
 
-/// A ready frame that isn't out is carried out by its task's value, where that is small and no body
-/// worker waits for one; else it is offered to the body workers, if they take one more. Whether one
-/// was; none where there was no memory.
-fn offer_next<'a, R: Wait, G: Gate + Sync, D: SteadyDisk + Drop>(
-    rt: &R,
-    alloc: Global,
-    shared: &Shared<'_, 'a, G, D>,
-    run: &mut NodeRun<'a, D>,
-) -> Option<bool>
-    requires { IsRunIn shared.now.chronicle.now shared.now.words.now run.old }
-    ensures { IsRunIn shared.entry.now.chronicle.now shared.entry.now.words.now run.new }
-{
-    if !run.node.may_be_ready {
-        return Some(false);
-    }
-    let Some(work) = next_ready(rt, alloc, shared, run) else {
-        run.node.may_be_ready = false;
-        return Some(false);
-    };
-    let checked = shared.chronicle.job().checked();
-    let fits = takes_its_numbers(checked, &work);
-    if fits && run.desk.is_small(&work) && is_alone(rt, alloc, shared, run, &work) {
-        return evaluate_here(rt, alloc, shared, run, work);
-    }
-    if run.desk.is_full() {
-        run.node.next = Some(work);
-        return Some(false);
-    }
-    Some(run.desk.offer(work))
-}
-
-/// Whether body workers need not be told of a ready frame: they have as much as they take, or
-/// nothing at all, and there is no other ready frame, so that no two would run at once.
-fn is_alone<'a, R: Wait, G: Gate + Sync, D: SteadyDisk + Drop>(
-    rt: &R,
-    alloc: Global,
-    shared: &Shared<'_, 'a, G, D>,
-    run: &mut NodeRun<'a, D>,
-    work: &Work,
-) -> bool
-    requires { IsRunIn shared.now.chronicle.now shared.now.words.now run.old }
-    ensures { IsRunIn shared.entry.now.chronicle.now shared.entry.now.words.now run.new }
-{
-    if run.desk.is_waiting() {
-        return run.desk.is_full();
-    }
-    let this = [frame_of(work)];
-    let other = shared
-        .chronicle
-        .ready(rt, alloc, &mut run.seat, run.node.place, &this);
-    other.is_none()
-}
-
-/// The ready frame that was found right behind the last one, or else the next one that isn't out,
-/// if there is one.
-fn next_ready<'a, R: Wait, G: Gate + Sync, D: SteadyDisk + Drop>(
-    rt: &R,
-    alloc: Global,
-    shared: &Shared<'_, 'a, G, D>,
-    run: &mut NodeRun<'a, D>,
-) -> Option<Work>
-    requires { IsRunIn shared.now.chronicle.now shared.now.words.now run.old }
-    ensures { IsRunIn shared.entry.now.chronicle.now shared.entry.now.words.now run.new }
-{
-    if let Some(work) = run.node.next.take() {
-        return Some(work);
-    }
-    shared.chronicle.ready(rt, alloc, &mut run.seat, run.node.place, run.desk.frames())
-}
-
-/// A frame of the node is carried out by its turn, which no body worker is asked for. None where
-/// there was no memory.
-fn run_here<'a, R: Wait, G: Gate + Sync, D: SteadyDisk + Drop>(
-    rt: &R,
-    alloc: Global,
-    shared: &Shared<'_, 'a, G, D>,
-    run: &mut NodeRun<'a, D>,
-    work: Work,
-) -> Option<bool>
-    requires run { IsRunIn shared.now.chronicle.now shared.now.words.now run.old }
-    requires takes { Takes shared.now.chronicle.now.job.program work.thread (length work.numbers) }
-    ensures { IsRunIn shared.entry.now.chronicle.now shared.entry.now.words.now run.new }
-{
-    let frame = frame_of(&work);
-    let checked = shared.chronicle.job().checked();
-    let Ok(turn) = Done::on(alloc, checked, work.thread, work.numbers) else {
-        shared.counts.end_by(End::Memory);
-        return None;
-    };
-    if !carry_out(rt, alloc, shared, run, frame, &Found::Turn(turn)) {
-        return None;
-    }
-    Some(true)
-}
-
-/// The small task of a ready frame is evaluated by the node's own thread. Where it takes more turns
-/// than those before it the frame is the next one that is offered. None where there was no memory.
-fn evaluate_here<'a, R: Wait, G: Gate + Sync, D: SteadyDisk + Drop>(
-    rt: &R,
-    alloc: Global,
-    shared: &Shared<'_, 'a, G, D>,
-    run: &mut NodeRun<'a, D>,
-    work: Work,
-) -> Option<bool>
-    requires run { IsRunIn shared.now.chronicle.now shared.now.words.now run.old }
-    requires takes { Takes shared.now.chronicle.now.job.program work.thread (length work.numbers) }
-    ensures { IsRunIn shared.entry.now.chronicle.now shared.entry.now.words.now run.new }
-{
-    let frame = frame_of(&work);
-    let checked = shared.chronicle.job().checked();
-    let most = shared.counts.take_for(run.desk.few_turns(work.thread));
-    match run
-        .desk
-        .evaluate_small(alloc, checked, &run.flat, work, most)
+    /// A node starts at the place, with a new start word. Whether there was memory.
+    fn start<R: Wait>(&mut self, rt: &R) -> bool
+        ensures { self.new ≡ self.old }
     {
-        Ok(whole) => {
-            shared.counts.give_back(most - whole.turns());
-            if !carry_out(rt, alloc, shared, run, frame, &Found::Whole(whole)) {
+        let Ok(word) = self.pen.draw(self.shared.words) else {
+            self.node.is_over = true;
+            return true;
+        };
+        self.node.word = word;
+        self.node.inbox.receiver = Receiver::Worker(word);
+        self.node.members.forget();
+        self.node.may_be_ready = false;
+        self.node.next = None;
+        self.node.has_asked = false;
+        self.node.rested = 0;
+        self.node.idle = 0;
+        self.node.patience = PATIENCE;
+        self.shared
+            .pace
+            .hear(self.node.index(), self.shared.counts.events());
+        let event = Event::Start(self.node.place, word);
+        commit(
+            rt,
+            self.shared.chronicle,
+            self.shared.counts,
+            &mut self.seat,
+            event,
+        )
+        .is_some()
+    }
+
+    /// The node of the place loses its memory, and another one starts. Its tickets are forgotten.
+    /// Whether there was memory.
+    fn crash<R: Wait>(&mut self, rt: &R) -> bool
+        ensures { self.new ≡ self.old }
+    {
+        self.desk.forget();
+        let event = Event::Crash(self.node.place);
+        if commit(
+            rt,
+            self.shared.chronicle,
+            self.shared.counts,
+            &mut self.seat,
+            event,
+        )
+        .is_none()
+        {
+            return false;
+        }
+        self.start(rt)
+    }
+
+    /// An event of the node is committed. What was told of it; none where there was no memory.
+    fn do_event<R: Wait>(&mut self, rt: &R, event: NodeEvent) -> Option<EventAnswer>
+        ensures { self.new ≡ self.old }
+    {
+        let event = Event::AtNode(self.node.place, event);
+        let committed = commit(
+            rt,
+            self.shared.chronicle,
+            self.shared.counts,
+            &mut self.seat,
+            event,
+        )?;
+        self.node.note(committed.told);
+        Some(committed.told)
+    }
+
+    /// The node leaves to another live member, if there is one that doesn't leave itself, none
+    /// leaves to this one, and it may. It takes its tickets back before, and offers them again
+    /// where it may not leave. Whether there was memory.
+    fn depart<R: Wait>(&mut self, rt: &R) -> bool
+        ensures { self.new ≡ self.old }
+    {
+        let Some(heir) = self.node.members.heir(self.node.word, self.shared.leavers) else {
+            return true;
+        };
+        if !self
+            .shared
+            .leavers
+            .begin(self.node.index(), self.node.word, heir)
+        {
+            return true;
+        }
+        self.desk.take_back();
+        self.node.may_be_ready = true;
+        self.node.next = None;
+        match self.do_event(rt, NodeEvent::Depart(heir)) {
+            Some(EventAnswer::Did(_, _)) => {
+                self.node.leaves = true;
+                true
+            }
+            Some(_) => {
+                self.shared.leavers.stay(self.node.index());
+                true
+            }
+            None => false,
+        }
+    }
+
+    /// The node sends again. One that has ended is over where it left; else it crashes, and another
+    /// one starts. Whether there was memory.
+    fn send_again<R: Wait>(&mut self, rt: &R) -> bool
+        ensures { self.new ≡ self.old }
+    {
+        self.node.sent = self.shared.counts.events();
+        self.node.holds = true;
+        self.node.held = 0;
+        self.shared.pace.hear(self.node.index(), self.node.sent);
+        let (rested, patience) = (self.node.rested, self.node.patience);
+        let Some(told) = self.do_event(rt, NodeEvent::Resend) else {
+            return false;
+        };
+        (self.node.rested, self.node.patience) = (rested, patience);
+        match told {
+            EventAnswer::Refused(NodeError::NotJoined) if self.node.leaves => {
+                self.shared.leavers.end(self.node.index());
+                self.node.is_over = true;
+                true
+            }
+            EventAnswer::Refused(NodeError::NotJoined) => self.crash(rt),
+            _ => true,
+        }
+    }
+
+    /// A packet came to the node. Whether there was memory.
+    fn take_packet(&mut self, delivered: &Delivered) -> bool
+        ensures { self.new ≡ self.old }
+    {
+        let told = delivered.committed.told;
+        self.shared.counts.count_event();
+        self.node.note(told);
+        self.node.next = None;
+        self.node.has_asked = false;
+        let Some(roster) = &delivered.roster else {
+            return true;
+        };
+        if matches!(told, EventAnswer::Did(_, _))
+            && !self.node.members.take(self.alloc, roster.as_slice())
+        {
+            self.shared.counts.end_by(End::Memory);
+            return false;
+        }
+        true
+    }
+
+    /// A ready frame that isn't out is carried out where that takes no evaluation: by its own turn,
+    /// where its task is short work or known to be large, or by its task's value, where an
+    /// evaluation kept it. Whether one was; none where there was no memory.
+    fn settle_next<R: Wait>(&mut self, rt: &R) -> Option<bool>
+        ensures { self.new ≡ self.old }
+    {
+        let Some(work) = self.next_ready(rt) else {
+            return Some(false);
+        };
+        let checked = self.shared.chronicle.job().checked();
+        let fits = takes_its_numbers(checked, &work);
+        if fits && self.desk.is_short(checked, &work) {
+            return self.run_here(rt, work);
+        }
+        if let Some(whole) = self.desk.value_of(checked, &work) {
+            let turns = whole.turns();
+            if !self.carry_out(rt, frame_of(&work), &Found::Whole(whole)) {
                 return None;
             }
+            self.shared.counts.use_kept(turns);
+            return Some(true);
         }
-        Err(work) => {
-            shared.counts.waste(most);
-            run.node.next = Some(work);
+        if fits && self.desk.was_large(&work) {
+            return self.run_here(rt, work);
         }
+        self.node.next = Some(work);
+        Some(false)
     }
-    Some(true)
-}
 
-/// A frame of the node is carried out by what was found for it: its turn, or what its task gives.
-/// Whether there was memory.
-fn carry_out<'a, R: Wait, G: Gate + Sync, D: SteadyDisk + Drop>(
-    rt: &R,
-    alloc: Global,
-    shared: &Shared<'_, 'a, G, D>,
-    run: &mut NodeRun<'a, D>,
-    frame: FrameOf,
-    found: &Found,
-) -> bool
-    requires run { IsRunIn shared.now.chronicle.now shared.now.words.now run.old }
-    requires own { IsFoundOf shared.now.chronicle.now.job.program found.now }
-    ensures { IsRunIn shared.entry.now.chronicle.now shared.entry.now.words.now run.new }
-{
-    let Some(continued) = commit_found(
-        rt,
-        alloc,
-        shared.chronicle,
-        shared.counts,
-        &mut run.seat,
-        run.node.place,
-        frame,
-        found,
-        run.desk.frames(),
-    ) else {
-        return false;
-    };
-    follow_up(&mut run.node, continued);
-    true
+    /// A ready frame that isn't out is carried out by its task's value, where that is small and no
+    /// body worker waits for one; else it is offered to the body workers, if they take one more.
+    /// Whether one was; none where there was no memory.
+    fn offer_next<R: Wait>(&mut self, rt: &R) -> Option<bool>
+        ensures { self.new ≡ self.old }
+    {
+        let Some(work) = self.next_ready(rt) else {
+            return Some(false);
+        };
+        let checked = self.shared.chronicle.job().checked();
+        let fits = takes_its_numbers(checked, &work);
+        if fits && self.desk.is_small(&work) && self.is_alone(rt, &work) {
+            return self.evaluate_here(rt, work);
+        }
+        if self.desk.is_full() {
+            self.node.next = Some(work);
+            return Some(false);
+        }
+        Some(self.desk.offer(work))
+    }
+
+    /// Whether body workers need not be told of a ready frame: they have as much as they take, or
+    /// nothing at all, and there is no other ready frame, so that no two would run at once.
+    fn is_alone<R: Wait>(&mut self, rt: &R, work: &Work) -> bool
+        ensures { self.new ≡ self.old }
+    {
+        if self.desk.is_waiting() {
+            return self.desk.is_full();
+        }
+        let this = [frame_of(work)];
+        let other = self
+            .shared
+            .chronicle
+            .ready(rt, self.alloc, &mut self.seat, self.node.place, &this);
+        other.is_none()
+    }
+
+    /// The ready frame that was found right behind the last one, or else the next one that isn't
+    /// out, if there may be one, and is.
+    fn next_ready<R: Wait>(&mut self, rt: &R) -> Option<Work>
+        ensures { self.new ≡ self.old }
+    {
+        if !self.node.may_be_ready {
+            return None;
+        }
+        if let Some(work) = self.node.next.take() {
+            return Some(work);
+        }
+        let found = self.shared.chronicle.ready(
+            rt,
+            self.alloc,
+            &mut self.seat,
+            self.node.place,
+            self.desk.frames(),
+        );
+        self.node.may_be_ready = found.is_some();
+        found
+    }
+
+    /// A frame of the node is carried out by its turn, which no body worker is asked for. None
+    /// where there was no memory.
+    fn run_here<R: Wait>(&mut self, rt: &R, work: Work) -> Option<bool>
+        requires { Takes self.old.job.program work.thread (length work.numbers) }
+        ensures { self.new ≡ self.old }
+    {
+        let frame = frame_of(&work);
+        let checked = self.shared.chronicle.job().checked();
+        let Ok(turn) = Done::on(self.alloc, checked, work.thread, work.numbers) else {
+            self.shared.counts.end_by(End::Memory);
+            return None;
+        };
+        if !self.carry_out(rt, frame, &Found::Turn(turn)) {
+            return None;
+        }
+        Some(true)
+    }
+
+    /// The small task of a ready frame is evaluated by the node's own thread. Where it takes more
+    /// turns than those before it the frame is the next one that is offered. None where there was
+    /// no memory.
+    fn evaluate_here<R: Wait>(&mut self, rt: &R, work: Work) -> Option<bool>
+        requires { Takes self.old.job.program work.thread (length work.numbers) }
+        ensures { self.new ≡ self.old }
+    {
+        let frame = frame_of(&work);
+        let checked = self.shared.chronicle.job().checked();
+        let most = self
+            .shared
+            .counts
+            .take_for(self.desk.few_turns(work.thread));
+        match self
+            .desk
+            .evaluate_small(self.alloc, checked, &self.flat, work, most)
+        {
+            Ok(whole) => {
+                self.shared.counts.give_back(most - whole.turns());
+                if !self.carry_out(rt, frame, &Found::Whole(whole)) {
+                    return None;
+                }
+            }
+            Err(work) => {
+                self.shared.counts.waste(most);
+                self.node.next = Some(work);
+            }
+        }
+        Some(true)
+    }
+
+    /// A frame of the node is carried out by what was found for it: its turn, or what its task
+    /// gives. Whether there was memory.
+    fn carry_out<R: Wait>(&mut self, rt: &R, frame: FrameOf, found: &Found) -> bool
+        requires { IsFoundOf self.old.job.program found.now }
+        ensures { self.new ≡ self.old }
+    {
+        let Some(continued) = commit_found(
+            rt,
+            self.alloc,
+            self.shared.chronicle,
+            self.shared.counts,
+            &mut self.seat,
+            self.node.place,
+            frame,
+            found,
+            self.desk.frames(),
+        ) else {
+            return false;
+        };
+        follow_up(&mut self.node, continued);
+        true
+    }
+
+    /// The node asks for work, where somebody is listed. Whether it did; none where there was no
+    /// memory.
+    fn ask<R: Wait + Clock>(&mut self, rt: &R) -> Option<bool>
+        ensures { self.new ≡ self.old }
+    {
+        let Some(victim) = self.node.members.victim(self.node.word) else {
+            return Some(false);
+        };
+        self.node.dry = self.node.dry.saturating_add(1);
+        self.node.pauses = pauses(self.node.dry, self.node.left_out);
+        let told = self.do_event(rt, NodeEvent::Ask(victim))?;
+        if let EventAnswer::Did(_, _) = told {
+            self.node.members.ask(victim);
+        }
+        self.node.has_asked = match told {
+            EventAnswer::Did(_, _) | EventAnswer::Refused(NodeError::Pending) => true,
+            _ => false,
+        };
+        Some(self.node.has_asked)
+    }
 }
 
 /// A frame was carried out. A ready frame that was found right behind it is looked at in the next
@@ -682,32 +657,6 @@ fn follow_up(node: &mut Node, continued: Continued) {
         node.may_be_ready = false;
     }
     node.next = next;
-}
-
-/// The node asks for work, where somebody is listed. Whether it did; none where there was no
-/// memory.
-fn ask<'a, R: Wait + Clock, G: Gate + Sync, D: SteadyDisk + Drop>(
-    rt: &R,
-    shared: &Shared<'_, 'a, G, D>,
-    run: &mut NodeRun<'a, D>,
-) -> Option<bool>
-    requires { IsRunIn shared.now.chronicle.now shared.now.words.now run.old }
-    ensures { IsRunIn shared.entry.now.chronicle.now shared.entry.now.words.now run.new }
-{
-    let Some(victim) = run.node.members.victim(run.node.word) else {
-        return Some(false);
-    };
-    run.node.dry = run.node.dry.saturating_add(1);
-    run.node.pauses = pauses(run.node.dry, run.node.left_out);
-    let told = do_event(rt, shared, run, NodeEvent::Ask(victim))?;
-    if let EventAnswer::Did(_, _) = told {
-        run.node.members.ask(victim);
-    }
-    run.node.has_asked = match told {
-        EventAnswer::Did(_, _) | EventAnswer::Refused(NodeError::Pending) => true,
-        _ => false,
-    };
-    Some(run.node.has_asked)
 }
 
 impl Node {

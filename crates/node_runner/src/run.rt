@@ -79,7 +79,7 @@ pub fn run_job<'a, R: Threads + Wait + Clock + Sync, G: Gate + Sync, D: SteadyDi
         if !can_make(rt, threads_of(config).saturating_sub(1)) {
             return Err(RunError::Memory);
         }
-        let counts = Counts::new(config.turns(), patience);
+        let counts = Counts::new(config.turns(), patience, config.evaluators());
         let Finished {
             mut trace,
             disk,

@@ -25,9 +25,41 @@ use kind_check::Checked;
 use node_core::Work;
 use serial_meaning::Flat;
 use std::alloc::Global;
+use std::marker::Model;
 use std::sync::Wait;
 use std::thread::yield_now;
 use std::time::Clock;
+
+/// What a body worker's thread has in a run: what the actors share, its way back to its node, the
+/// flat code, what it knows of the board, and its turns. Contracts see the chronicle.
+#[derive(Drop)]
+struct WorkerRun<'r, 's, 'a, G: Gate + Sync, D: SteadyDisk + Drop> {
+    alloc: Global,
+    shared: &'r Shared<'s, 'a, G, D>,
+    line: Line,
+    flat: Flat,
+    note: Note,
+    turns: Turns,
+}
+
+impl<'r, 's, 'a, G: Gate + Sync, D: SteadyDisk + Drop> Model for WorkerRun<'r, 's, 'a, G, D> {
+    ghost use Rattle.std.specs.Prelude.{◌≡◌};
+    ghost use Rattle.std.specs.Coded.{codes as known};
+    ghost use Rattle.task_tree.specs.contracts.tree.Expr as expr;
+    ghost use Rattle.task_tree.specs.contracts.tree.Block as block;
+    ghost use Rattle.task_tree.specs.contracts.tree.End as end;
+    ghost use Rattle.chronicle.specs.Seats.{ChronicleOf};
+    ghost use Rattle.node_runner.specs.Lines.{IsLineOf};
+
+    ghost Value = { ChronicleOf };
+
+    ghost coded = { Prim.hlevel (known, expr.the_row.coded, block.the_row.coded, end.the_row.coded) };
+
+    ghost view = { λ r. r.shared.now.chronicle.now };
+
+    ghost invariant = { λ r. IsLineOf r.shared.now.chronicle.now.job.program r.line
+        × (r.flat.program ≡ r.shared.now.chronicle.now.job.program) × (r.note.board ≡ r.shared.now.board.now.board) };
+}
 
 /// A body worker's turns, until the run ends: it steals a ticket of its node, evaluates the frame
 /// once the gate lets it, and gives back what it found.
@@ -44,27 +76,31 @@ pub(crate) fn run_worker<R: Wait + Clock, G: Gate + Sync, D: SteadyDisk + Drop>(
     }
     let WorkerContext {
         mut worker,
-        mut line,
+        line,
         bells,
     } = context;
     let Ok(flat) = Flat::of(alloc, shared.chronicle.job().checked()) else {
         shared.counts.end_by(End::Memory);
         return;
     };
-    let mut note = shared.board.note();
-    let mut turns = Turns::new();
+    let mut run = WorkerRun {
+        alloc,
+        shared,
+        line,
+        flat,
+        note: shared.board.note(),
+        turns: Turns::new(),
+    };
     let mut idle: u64 = 0;
     for _ in rt.forever() {
-        if !take_turn(shared, &mut turns, &mut note) {
+        if !run.take_turn() {
             break;
         }
         let offered = bells.offered();
         if let Some(ticket) = worker.steal() {
             idle = 0;
             bells.take();
-            if !work(
-                rt, alloc, shared, &flat, &mut line, &mut turns, &mut note, ticket,
-            ) {
+            if !run.work(rt, ticket) {
                 break;
             }
             bells.give_back();
@@ -85,55 +121,78 @@ fn wait<R: Wait>(rt: &R, bells: &Bells, offered: u64, idle: u64) {
     }
 }
 
-/// Takes a turn. Whether there was one, and the run goes on.
-fn take_turn<G: Gate + Sync, D: SteadyDisk + Drop>(
-    shared: &Shared<'_, '_, G, D>,
-    turns: &mut Turns,
-    note: &mut Note,
-) -> bool
-    requires { note.old.board ≡ shared.now.board.now.board }
-    ensures { note.new.board ≡ note.old.board }
-{
-    shared.counts.take_turn(turns) && shared.board.read(note).is_none()
-}
+impl<'r, 's, 'a, G: Gate + Sync, D: SteadyDisk + Drop> WorkerRun<'r, 's, 'a, G, D> {
+    /// Takes a turn. Whether there was one, and the run goes on.
+    fn take_turn(&mut self) -> bool
+        ensures { self.new ≡ self.old }
+    {
+        self.shared.counts.take_turn(&mut self.turns)
+            && self.shared.board.read(&mut self.note).is_none()
+    }
 
-/// A ticket's frame is evaluated, and what was found goes back. Whether the run goes on, and there
-/// was memory.
-fn work<R: Wait + Clock, G: Gate + Sync, D: SteadyDisk + Drop>(
-    rt: &R,
-    alloc: Global,
-    shared: &Shared<'_, '_, G, D>,
-    flat: &Flat,
-    line: &mut Line,
-    turns: &mut Turns,
-    note: &mut Note,
-    ticket: Ticket,
-) -> bool
-    requires flat { flat.now.program ≡ shared.now.chronicle.now.job.program }
-    requires line { IsLineOf shared.now.chronicle.now.job.program line.old }
-    requires note { note.old.board ≡ shared.now.board.now.board }
-    ensures line { IsLineOf shared.entry.now.chronicle.now.job.program line.new }
-    ensures note { note.new.board ≡ note.old.board }
-{
-    let checked = shared.chronicle.job().checked();
-    if !takes_its_numbers(checked, &ticket.work) {
-        return true;
+    /// A ticket's frame is evaluated, and what was found goes back. Whether the run goes on, and
+    /// there was memory.
+    fn work<R: Wait + Clock>(&mut self, rt: &R, ticket: Ticket) -> bool
+        ensures { self.new ≡ self.old }
+    {
+        let checked = self.shared.chronicle.job().checked();
+        if !takes_its_numbers(checked, &ticket.work) {
+            return true;
+        }
+        if !self.pass_gate(rt) {
+            return false;
+        }
+        let counts = self.shared.counts;
+        let Some(evaluated) = evaluate_ticket(self.alloc, checked, &self.flat, counts, ticket)
+        else {
+            counts.end_by(End::Memory);
+            return false;
+        };
+        self.give_back(rt, Finished::of(checked, evaluated))
     }
-    if !pass_gate(rt, shared, turns, note) {
-        return false;
+
+    /// Numbers a body, and asks the gate, each time in a turn, until it lets it be evaluated.
+    /// Whether it did before the run ended.
+    fn pass_gate<R: Wait + Clock>(&mut self, rt: &R) -> bool
+        ensures { self.new ≡ self.old }
+    {
+        let body = self.shared.counts.body();
+        self.shared.gate.begun(body);
+        let mut waited: u64 = 0;
+        for _ in rt.forever() {
+            if !self.take_turn() {
+                return false;
+            }
+            if self.shared.gate.may_go(body) {
+                return true;
+            }
+            waited = waited.saturating_add(1);
+            rest(rt, self.shared.config.nodes(), waited);
+        }
+        false
     }
-    let Some(evaluated) = evaluate_ticket(alloc, checked, flat, shared.counts, ticket) else {
-        shared.counts.end_by(End::Memory);
-        return false;
-    };
-    give_back(
-        rt,
-        shared,
-        line,
-        turns,
-        note,
-        Finished::of(checked, evaluated),
-    )
+
+    /// A turn goes back, as soon as there is room for it. Whether it did before the run ended.
+    fn give_back<R: Wait + Clock>(&mut self, rt: &R, finished: Finished) -> bool
+        requires { finished.program ≡ self.old.job.program }
+        ensures { self.new ≡ self.old }
+    {
+        let checked = self.shared.chronicle.job().checked();
+        let mut finished = finished;
+        let mut waited: u64 = 0;
+        for _ in rt.forever() {
+            match self.line.put(rt, checked, finished) {
+                Ok(()) => return true,
+                Err(back) => finished = back,
+            }
+            if !self.take_turn() {
+                return false;
+            }
+            waited = waited.saturating_add(1);
+            rest(rt, self.shared.config.nodes(), waited);
+        }
+        false
+    }
 }
 
 /// Evaluates a ticket's task whole, in as many turns as it says or are left; where these are none,
@@ -182,7 +241,8 @@ fn evaluate_ticket(
             })
         }
         Err((numbers, left)) => {
-            counts.waste(most);
+            counts.waste(left.turns);
+            counts.give_back(most.saturating_sub(left.turns));
             evaluate_turn(alloc, checked, number, frame, thread, numbers, left)
         }
     }
@@ -210,63 +270,4 @@ fn evaluate_turn(
         found: Found::Turn(turn),
         left,
     })
-}
-
-/// Numbers a body, and asks the gate, each time in a turn, until it lets it be evaluated. Whether
-/// it did before the run ended.
-fn pass_gate<R: Wait + Clock, G: Gate + Sync, D: SteadyDisk + Drop>(
-    rt: &R,
-    shared: &Shared<'_, '_, G, D>,
-    turns: &mut Turns,
-    note: &mut Note,
-) -> bool
-    requires { note.old.board ≡ shared.now.board.now.board }
-    ensures { note.new.board ≡ note.old.board }
-{
-    let body = shared.counts.body();
-    shared.gate.begun(body);
-    let mut waited: u64 = 0;
-    for _ in rt.forever() {
-        if !take_turn(shared, turns, note) {
-            return false;
-        }
-        if shared.gate.may_go(body) {
-            return true;
-        }
-        waited = waited.saturating_add(1);
-        rest(rt, shared.config.nodes(), waited);
-    }
-    false
-}
-
-/// A turn goes back, as soon as there is room for it. Whether it did before the run ended.
-fn give_back<R: Wait + Clock, G: Gate + Sync, D: SteadyDisk + Drop>(
-    rt: &R,
-    shared: &Shared<'_, '_, G, D>,
-    line: &mut Line,
-    turns: &mut Turns,
-    note: &mut Note,
-    finished: Finished,
-) -> bool
-    requires line { IsLineOf shared.now.chronicle.now.job.program line.old }
-    requires note { note.old.board ≡ shared.now.board.now.board }
-    requires own { finished.program ≡ shared.now.chronicle.now.job.program }
-    ensures line { IsLineOf shared.entry.now.chronicle.now.job.program line.new }
-    ensures note { note.new.board ≡ note.old.board }
-{
-    let checked = shared.chronicle.job().checked();
-    let mut finished = finished;
-    let mut waited: u64 = 0;
-    for _ in rt.forever() {
-        match line.put(rt, checked, finished) {
-            Ok(()) => return true,
-            Err(back) => finished = back,
-        }
-        if !take_turn(shared, turns, note) {
-            return false;
-        }
-        waited = waited.saturating_add(1);
-        rest(rt, shared.config.nodes(), waited);
-    }
-    false
 }

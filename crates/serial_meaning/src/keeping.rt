@@ -100,6 +100,8 @@ pub struct Keeper {
     finished: Vec<Whole>,
     begun: Vec<Begun>,
     under_way: Vec<UnderWay>,
+    // In how many turns the evaluation broke off.
+    taken: u64,
 }
 
 impl Model for Keeper {
@@ -134,7 +136,21 @@ impl Keeper {
             finished: Vec::new(alloc),
             begun: Vec::new(alloc),
             under_way: Vec::new(alloc),
+            taken: 0,
         }
+    }
+
+    /// In how many turns the evaluation broke off, where it ran out of turns, or came to where no
+    /// place is left. It is a hint alone.
+    pub fn taken(&self) -> u64 {
+        self.taken
+    }
+
+    /// The evaluation broke off in so many turns.
+    pub(crate) fn note_taken(&mut self, turns: u64)
+        ensures { self.new ≡ self.old }
+    {
+        self.taken = turns;
     }
 
     /// The tasks that were finished, and those that were under way where the evaluation ran out of

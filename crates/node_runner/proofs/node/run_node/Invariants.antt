@@ -1,8 +1,7 @@
 use Rattle.std.proofs.Common.{◌≡◌}
-use Rattle.node_runner.specs.Runs.{IsRunIn}
 use Rattle.node_runner.proofs.node.run_node.Given as goal
 
 abbrev pub invariant-loop : goal.invariant-loop
 invariant-loop g l =
     (goal.iterator-loop g).can_next l.iterator' × (goal.iterator-loop g).is_finite l.iterator'
-    × IsRunIn l.shared.chronicle.now l.shared.words.now l.run × (l.note.board ≡ l.shared.board.now.board)
+    × (l.run ≡ l.shared.chronicle.now) × (l.note.board ≡ l.shared.board.now.board)

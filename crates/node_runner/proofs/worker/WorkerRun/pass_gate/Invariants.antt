@@ -1,6 +1,6 @@
 use Rattle.std.proofs.Common.{◌≡◌}
-use Rattle.node_runner.proofs.worker.pass_gate.Given as goal
+use Rattle.node_runner.proofs.worker.WorkerRun.pass_gate.Given as goal
 
 abbrev pub invariant-loop : goal.invariant-loop
 invariant-loop g l = (goal.iterator-loop g).can_next l.iterator' × (goal.iterator-loop g).is_finite l.iterator'
-    × (l.note.board ≡ l.shared.board.now.board)
+    × (l.self ≡ l.fn.self)
