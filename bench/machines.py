@@ -2,6 +2,7 @@
 import os
 import signal
 import socket
+import statistics
 import subprocess
 import sys
 import tempfile
@@ -9,7 +10,7 @@ import time
 
 PROGRAM, FOLDER, EXAMPLES = sys.argv[1:4]
 INPUT = sys.argv[4] if len(sys.argv) > 4 else "36"
-TIMES = int(sys.argv[5]) if len(sys.argv) > 5 else 3
+TIMES = int(sys.argv[5]) if len(sys.argv) > 5 else 9
 FIB = f"{EXAMPLES}/fib.ck"
 NODE = f"{FOLDER}/cilknow-node"
 MOST_WORKERS = 3
@@ -104,10 +105,11 @@ def told(waited):
 
 
 # (all of them one after the other, and that some times, so that each sees the same machine)
-tries = [[(serial(workers), machines(workers)) for workers in range(1, MOST_WORKERS + 1)] for _ in range(TIMES)]
-at_once, runs = ([min(each[at][which] for each in tries) for at in range(MOST_WORKERS)] for which in (0, 1))
+tries = [[(serial(workers), *machines(workers)) for workers in range(1, MOST_WORKERS + 1)] for _ in range(TIMES)]
+at_once, runs = ([statistics.median(each[at][which] for each in tries) for at in range(MOST_WORKERS)] for which in (0, 1))
+answered = [[it for each in tries for it in each[at][3]] for at in range(MOST_WORKERS)]
 print(f"FIB {INPUT}: serial {at_once[0]:.2f} s")
-for workers, together, (took, _, waited) in zip(range(1, MOST_WORKERS + 1), at_once, runs):
+for workers, together, took, waited in zip(range(1, MOST_WORKERS + 1), at_once, runs, answered):
     print(f"a house and {workers} workers: {took:.2f} s, {at_once[0] / took:.2f} times as fast as serial, {together / workers / took:.2f} of as many evaluators "
           f"at once; a request for work and its answer: {told(waited)}")
 large = str(int(INPUT) + 4)

@@ -2,13 +2,14 @@
 import os
 import re
 import shutil
+import statistics
 import subprocess
 import sys
 import tempfile
 import time
 
 PROGRAM, EXAMPLES = sys.argv[1:3]
-TRIES = 5
+TRIES = 9
 MOST_AT_ONCE = 4
 MANY = "100000000000"
 # As many tasks as calls; with a cut-off a programmer would write none below it.
@@ -52,18 +53,8 @@ WIDE = (
 
 
 def timed(*words, env=None):
-    """Wall and processor time in seconds of a command's best run of some, and what it told."""
-    best = None
-    for _ in range(TRIES):
-        took = once(*words, env=env)
-        if took is None:
-            return None
-        best = min(best, took) if best else took
-    before = os.times()
-    subprocess.run(words, stdout=subprocess.DEVNULL, stderr=subprocess.DEVNULL, env=env)
-    after = os.times()
-    busy = after.children_user + after.children_system - before.children_user - before.children_system
-    return best[0], busy, best[1]
+    """The median of a command's wall times in seconds."""
+    return statistics.median(once(*words, env=env)[0] for _ in range(TRIES))
 
 
 def once(*words, env=None, copies=1):
@@ -84,19 +75,22 @@ HOWS = [["--bodies", str(it)] for it in range(1, MOST_AT_ONCE + 1)] + [["--nodes
 
 
 def row(name, file, inputs):
-    """Rows of a job: serially, and on nodes. All of them are run one after the other, and that some times, so that each sees the same machine.
-    So many evaluators at once tell what as many cores give: the part of it that a run has is the last column."""
+    """Rows of a job: serially, and on nodes. All of them are run one after the other, and that some times, so that each sees the same machine;
+    the median of each is told. (Cores that others share have two speeds: the least of some tries is chance.) So many evaluators at once tell
+    what as many cores give: the part of it that a run has is the last column."""
     serially = (PROGRAM, "serial", file, "--turns", MANY)
     # (counting takes a tenth of a serial turn)
     needed = count(subprocess.run((*serially, "--stats", *inputs), capture_output=True, text=True).stderr, "turns")
     commands = {" ".join(how): (PROGRAM, "run", file, "--turns", MANY, "--grain", "100000", *how) for how in HOWS}
-    at_once, took = {}, {}
+    at_once = {copies: [] for copies in range(1, MOST_AT_ONCE + 1)}
+    tries = {how: [] for how in commands}
     for _ in range(TRIES):
-        for copies in range(1, MOST_AT_ONCE + 1):
-            at_once[copies] = min(at_once.get(copies, 1e9), once(*serially, *inputs, copies=copies)[0])
+        for copies, each in at_once.items():
+            each.append(once(*serially, *inputs, copies=copies)[0])
         for how, words in commands.items():
-            ended, least = once(*words, *inputs), took.get(how, 1e9)
-            took[how] = min(least, ended[0]) if ended and least else None
+            tries[how].append(once(*words, *inputs))
+    at_once = {copies: statistics.median(each) for copies, each in at_once.items()}
+    took = {how: statistics.median(it[0] for it in each) if all(each) else None for how, each in tries.items()}
     alone = at_once[1]
     print(f"| {name} | `serial` | {alone * 1e3:.0f} | 1.00 | {needed:,} | | 1.00 |", flush=True)
     for how, words in commands.items():
@@ -127,7 +121,7 @@ def openmp(folder):
         for threads in 1, 2, 3, 4:
             took = timed(program, "36", cut, env={**os.environ, "OMP_NUM_THREADS": str(threads)})
             first = first or took[0]
-            print(f"| {name} | {threads} | {took[0] * 1e3:.0f} | {first / took[0]:.2f} |", flush=True)
+            print(f"| {name} | {threads} | {took * 1e3:.0f} | {first / took:.2f} |", flush=True)
 
 
 def crashed():
@@ -141,7 +135,7 @@ def crashed():
         ("no fault",), ("one crashes after 50 events", "--crash", "1"), ("each crashes twice, one every 50 events", "--crash", "8"),
         ("one crashes in the midst", "--crash", "1", *midst), ("one leaves in the midst", "--depart", "1", *midst),
     ):
-        print(f"| {name} | {timed(*words, *faults, '36')[0] * 1e3:.0f} |", flush=True)
+        print(f"| {name} | {timed(*words, *faults, '36') * 1e3:.0f} |", flush=True)
 
 
 print("| job | how | ms | times as fast as `serial` | turns, or evaluated for each needed | events that carry out frames | of as many evaluators at once |")

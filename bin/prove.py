@@ -161,7 +161,9 @@ def prove(rtlib, chain):
             for at, name in enumerate(ready):
                 idle = chain.lanes - sum(jobs for _, jobs in running.values())
                 if idle > 0:
-                    jobs = max(1, min(4, idle // (len(ready) - at)))
+                    # (those that take much less don't count: a crate can't have more jobs once it has begun)
+                    rivals = sum(chain.minutes[it] * 4 >= chain.minutes[name] for it in ready[at:])
+                    jobs = max(1, min(4, idle // rivals))
                     chain.left.remove(name)
                     running[pool.submit(build, rtlib, chain.crates[name], jobs)] = name, jobs
             ended = wait(running, timeout=EVERY, return_when=FIRST_COMPLETED).done

@@ -749,6 +749,52 @@ def by_slurm():
             tell((status, out) == wanted, f"slurm.sbatch: {status} {out} {err}")
 
 
+def by_htcondor():
+    """What the file for HTCondor describes, started as its manual says: each job in a folder of its own, with a copy of the files that are
+    transferred alone. One of three is told that its machine is wanted back: it hands its work on and ends in its time, with the status by
+    which it leaves the queue; a fourth one, which stands still, is killed behind it."""
+    described = {}
+    with open(f"{EXAMPLES}/machines/htcondor.sub", encoding="ascii") as it:
+        for line in it:
+            name, equals, value = line.partition("=")
+            if equals and not line.startswith("#"):
+                described[name.strip()] = value.strip()
+            elif line.startswith("queue"):
+                described["queue"] = line.removeprefix("queue").strip()
+    given = {"house": "", "count": "4"}
+
+    def filled(name, **own):
+        return re.sub(r"\$\((\w+)\)", lambda it: {**given, **own}[it[1]], described[name])
+
+    with tempfile.TemporaryDirectory() as folder:
+        job = Job(folder, inputs=("39",))
+        given["house"] = f"127.0.0.1:{job.port}"
+        house = job.house()
+        job.is_up()
+        tell(described["executable"] == "/usr/local/bin/cilknow-node", f"htcondor.sub: {described['executable']} isn't what `make install` writes")
+        end, grace, jobs = getattr(signal, described["kill_sig"]), float(described["job_max_vacate_time"]), []
+        for number in range(int(filled("queue"))):
+            scratch = f"{folder}/{number}"
+            os.mkdir(scratch)
+            for file in described["transfer_input_files"].split(","):
+                shutil.copy(f"{folder}/{file.strip()}", scratch)
+            with open(f"{scratch}/{filled('error', Process=str(number))}", "w", encoding="utf-8") as err:
+                words = (f"{PLAIN}/{os.path.basename(described['executable'])}", *filled("arguments", Process=str(number)).split())
+                jobs.append(subprocess.Popen(words, cwd=scratch, env={}, stdin=subprocess.DEVNULL, stdout=subprocess.DEVNULL, stderr=err))
+        time.sleep(0.5)
+        jobs[3].send_signal(signal.SIGSTOP)
+        jobs[0].send_signal(end)
+        # (one that takes longer is killed)
+        tell(told(jobs[0], grace)[0] == 0, f"htcondor.sub: a worker that is told to go ends with {jobs[0].returncode}")
+        jobs[3].kill()
+        status, out, err = told(house, 120)
+        tell((status, out) == (0, "value 63245986\n"), f"htcondor.sub: {status} {out} {err}")
+        # (who leaves the queue is not started again)
+        tell(described["on_exit_remove"] == "ExitCode =?= 0", f"htcondor.sub: {described['on_exit_remove']}")
+        ended = [told(it)[0] for it in jobs]
+        tell(ended == [0, 0, 0, -signal.SIGKILL], f"htcondor.sub: {ended}")
+
+
 def launchers():
     """The scripts that start workers, with other commands in place of those that reach a machine."""
     described()
@@ -881,7 +927,7 @@ def has_namespaces():
 
 
 def main():
-    beside = [Beside(sanitized_runs), Beside(on_terminal), Beside(by_slurm)]
+    beside = [Beside(sanitized_runs), Beside(on_terminal), Beside(by_slurm), Beside(by_htcondor)]
     if has_namespaces():
         beside.append(Beside(cut_off, "unshare", "-rn"))
     else:
@@ -894,7 +940,7 @@ def main():
 
 ROWS = (library, forged, plain_runs, strangers, late_house, without_network, full_disk, installed, launchers, refusals)
 if ONLY:
-    {it.__name__: it for it in (*ROWS, sanitized_runs, on_terminal, by_slurm, cut_off)}[ONLY]()
+    {it.__name__: it for it in (*ROWS, sanitized_runs, on_terminal, by_slurm, by_htcondor, cut_off)}[ONLY]()
 else:
     main()
 sys.exit(CHECKS.end())

@@ -97,7 +97,8 @@ static void *late(void *it) {
 int pthread_create(pthread_t *thread, const pthread_attr_t *how, void *(*call)(void *), void *with) {
     int (*create)(pthread_t *, const pthread_attr_t *, void *(*)(void *), void *);
     create = dlsym(RTLD_NEXT, "pthread_create");
-    if (__sync_add_and_fetch(&made, 1) != NUMBER) return create(thread, how, call, with);
+    int number = __sync_add_and_fetch(&made, 1);
+    if (number < NUMBER || number > LAST) return create(thread, how, call, with);
 #ifdef REFUSED
     return EAGAIN;
 #else
@@ -435,7 +436,7 @@ def fates(folder):
 
 def few_threads(folder):
     """Runs by a user who may have so many threads in all. With enough there is an outcome; with too few the run ends
-    at once, and without an answer where the system holds to that. Only root can become another user here, so else it
+    within two seconds more, and without an answer where the system holds to that. Only root can become another user here, so else it
     isn't tried."""
     if os.getuid() != 0:
         return
@@ -469,13 +470,14 @@ def few_threads(folder):
         tell(not isinstance(fault, subprocess.TimeoutExpired), "few threads: the run doesn't end")
 
 
-def with_thread(folder, number, *how):
-    """A run on two nodes whose thread of this number is made as the words say to the C compiler, and how many seconds
-    it took; None without a C compiler. The first four threads are those by which it tries how many it may have."""
+def with_thread(folder, number, last, *how):
+    """A run on two nodes whose threads of these numbers are made as the words say to the C compiler, and how many
+    seconds it took; None without a C compiler. Where one of the first four isn't there in time, by the next four it
+    tries how many it may have, and the next ones are its own again."""
     cc, library = shutil.which("cc"), f"{folder}/thread.so"
     if cc is None:
         return None
-    words = (cc, "-shared", "-fPIC", f"-DNUMBER={number}", *how, "-o", library, "-xc", "-", "-ldl")
+    words = (cc, "-shared", "-fPIC", f"-DNUMBER={number}", f"-DLAST={last}", *how, "-o", library, "-xc", "-", "-ldl")
     made = subprocess.run(words, input=LIBRARY, capture_output=True, text=True)
     tell(made.returncode == 0, f"thread {number}: {made.stderr}")
     words, env = (BUILT, "run", FIB, "--nodes", "2", "7"), {**os.environ, "LD_PRELOAD": library}
@@ -484,23 +486,23 @@ def with_thread(folder, number, *how):
     return (done.returncode, done.stdout, done.stderr), time.monotonic() - began
 
 
-def late_thread(folder, number):
-    """A run one of whose threads begins some seconds late: the others wait for it, or are made anew behind it."""
-    ran = with_thread(folder, number, f"-DSECONDS={LATE}")
+def late_threads(folder, number, last):
+    """A run some of whose threads begin some seconds late: all are made anew behind them."""
+    ran = with_thread(folder, number, last, f"-DSECONDS={LATE}")
     if ran:
         given, seconds = ran
-        tell(given == (0, "value 13\n", ""), f"late thread {number}: {given}")
-        tell(seconds >= LATE, f"late thread {number}: the run ends after {seconds:.1f} s")
+        tell(given == (0, "value 13\n", ""), f"late threads {number} to {last}: {given}")
+        tell(seconds >= LATE, f"late threads {number} to {last}: the run ends after {seconds:.1f} s")
 
 
-def refused_thread(folder, number, answer):
-    """A run one of whose threads is refused: it ends by that where it tries how many it may have, and else all are
+def refused_threads(folder, number, last, answer):
+    """A run some of whose threads are refused: it ends by that where it tries how many it may have, and else all are
     made anew."""
-    ran = with_thread(folder, number, "-DREFUSED")
+    ran = with_thread(folder, number, last, "-DREFUSED")
     if ran:
         given, seconds = ran
-        tell(given == answer, f"refused thread {number}: {given}")
-        tell(seconds < LATE, f"refused thread {number}: the run takes {seconds:.1f} s")
+        tell(given == answer, f"refused threads {number} to {last}: {given}")
+        tell(seconds < LATE, f"refused threads {number} to {last}: the run takes {seconds:.1f} s")
 
 
 def rows():
@@ -546,10 +548,10 @@ with tempfile.TemporaryDirectory() as folder:
     deep(folder)
     fates(folder)
     few_threads(folder)
-    late_thread(folder, 2)
-    late_thread(folder, 6)
-    refused_thread(folder, 2, (3, "", "cilknow: E96\n"))
-    refused_thread(folder, 6, (0, "value 13\n", ""))
+    late_threads(folder, 2, 2)
+    late_threads(folder, 3, 6)
+    refused_threads(folder, 2, 2, (0, "value 13\n", ""))
+    refused_threads(folder, 2, 6, (3, "", "cilknow: E96\n"))
 rows()
 refused()
 sys.exit(CHECKS.end())

@@ -2,6 +2,7 @@
 #include "host.h"
 #include <errno.h>
 #include <inttypes.h>
+#include <sched.h>
 #include <signal.h>
 #include <stdlib.h>
 #include <string.h>
@@ -9,9 +10,11 @@
 
 /* In microseconds: after which time it sends again what isn't answered, where somebody asks whom it doesn't know, at first and at
  * most; after which time it says that it is there; how long it pauses between two requests for work, at first and at most, and at
- * least between two that it makes while it has some; and after which time in a row with work it looks at what came. Of packets: the
- * kind of a request for work. Of a task: how many turns take longer than a request and its answer. */
-enum { UNKNOWN = 500, AGAIN = 2000, LATEST_AGAIN = 100000, THERE = 200000, PAUSE = 20, LONGEST_PAUSE = 20000, AHEAD = 1000, SLICE = 500 };
+ * least between two that it makes while it has some; how long it stays awake for an answer, which comes sooner than the system wakes
+ * who sleeps; and after which time in a row with work it looks at what came. Of packets: the kind of a request for work. Of a task:
+ * how many turns take longer than a request and its answer. */
+enum { UNKNOWN = 500, AGAIN = 2000, LATEST_AGAIN = 100000, THERE = 200000, PAUSE = 20, LONGEST_PAUSE = 50000, AHEAD = 1000, AWAKE = 100 };
+enum { SLICE = 500 };
 enum { KIND_STEAL = 3 };
 enum { LONG = 8192 };
 /* So many answers to requests for work are looked at, of how long they took. */
@@ -174,7 +177,6 @@ static void asks_ahead(struct worker *worker) {
     asks(worker, now);
 }
 
-
 /* Carries out ready frames; whether one was there. */
 static bool works(struct worker *worker, uint64_t now) {
     for (int count = 0;; count++) {
@@ -232,6 +234,13 @@ static uint64_t goes_on(struct worker *worker, uint64_t now) {
     }
     uint64_t due = worker->sent_at + again;
     return due > now ? due - now < LONGEST_PAUSE ? due - now : LONGEST_PAUSE : 1;
+}
+
+/* Until something comes, for at most so many microseconds. */
+static void rests(struct worker *worker, uint64_t most) {
+    bool soon = cilknow_asked(worker->actor) == 1 && micros() - worker->asked_at < AWAKE;
+    if (soon) (void)sched_yield();
+    else wire_wait(&worker->wire, most);
 }
 
 /* Gets the job: its number, its input and its text. A status, or -1 where it is told to go. */
@@ -303,7 +312,7 @@ static int computes(struct worker *worker, size_t shows) {
         }
         progress_shows(worker->progress, shows, begun, now, NULL);
         uint64_t rest = goes_on(worker, now);
-        if (rest && !worker->over) wire_wait(&worker->wire, rest);
+        if (rest && !worker->over) rests(worker, rest);
     }
     return status;
 }

@@ -27,7 +27,9 @@ const PART: u64 = 32;
 /// its end in as many, and doubled where one took more than half of them; there are more where
 /// little was in vain so far. So what is evaluated in vain is at most some times as much as what
 /// isn't, however many of a node's tasks are large. They are no fewer than the first one had, but
-/// in a program that goes deep, of which little is kept, as few as are worth it.
+/// in a program that goes deep, of which little is kept, as few as are worth it. A thread of which
+/// no task came to its end so far tells nothing of others' tasks: beside its large ones those may be
+/// small.
 ///
 /// Where one thread evaluates alone nobody waits for a part of what it has, and a task takes as
 /// many turns as it needs; once one wasn't evaluated to its end all the same, as it is too deep or
@@ -107,16 +109,18 @@ impl Budget {
     }
 
     /// A task wasn't evaluated to its end in so many turns. Where most of these were deep below it
-    /// little may be kept of the next ones too, so that they may be as few as are worth it.
-    pub(crate) fn fail(&mut self, turns: u64, is_deep: bool) {
+    /// little may be kept of the next ones too, so that they may be as few as are worth it. Where no
+    /// task of its thread was evaluated to its end so far, others' are as they were.
+    pub(crate) fn fail(&mut self, turns: u64, is_deep: bool, has_ended: bool) {
         self.vain = self.vain.saturating_add(turns);
-        if is_deep {
+        let was_free = self.allowed > self.grain;
+        if is_deep && (was_free || has_ended) {
             self.floor = LEAST.min(self.grain);
         }
-        if self.allowed > self.grain {
+        if was_free {
             self.allowed = self.grain;
             self.most = self.first.max(self.floor);
-        } else if turns <= self.most {
+        } else if has_ended && turns <= self.most {
             self.most = (self.most / 2).max(self.floor);
         }
     }

@@ -89,7 +89,8 @@ impl TaskSizes {
             levels,
         } = left;
         if turns > 0 {
-            self.budget.fail(turns, levels == ALL_LEVELS);
+            let has_ended = self.threads.has_ended(thread);
+            self.budget.fail(turns, levels == ALL_LEVELS, has_ended);
             self.threads.fail(thread, levels);
         }
         self.large.learn(large);

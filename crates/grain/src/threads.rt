@@ -22,12 +22,14 @@ const MOST_SMALL: u64 = 4_096;
 const MARGIN: u64 = 4;
 
 /// What is known of the tasks of one thread: how many in a row weren't evaluated to their end, and
-/// how many weren't tried since the last one that was; how many in a row were, and on how many
-/// levels the next evaluation keeps values; and how many turns the last ones took at most.
+/// how many weren't tried since the last one that was; whether any was, how many in a row were, and
+/// on how many levels the next evaluation keeps values; and how many turns the last ones took at
+/// most.
 #[derive(Clone, Copy)]
 struct Known {
     failed: u32,
     passed: u32,
+    has_ended: bool,
     ended: u32,
     levels: u16,
     turns: u64,
@@ -78,12 +80,21 @@ impl Threads {
         }
     }
 
+    /// Whether a task of a thread was evaluated to its end so far.
+    pub(crate) fn has_ended(&self, thread: u8) -> bool {
+        match self.known.get(usize::from(thread)) {
+            Some(known) => known.has_ended,
+            None => false,
+        }
+    }
+
     /// A task of a thread was evaluated to its end in so many turns. Where those before it were
     /// too, the next ones keep few values.
     pub(crate) fn succeed(&mut self, thread: u8, turns: u64) {
         if let Some(known) = self.known.get_mut(usize::from(thread)) {
             known.turns = turns.max(known.turns / 2);
             known.failed = 0;
+            known.has_ended = true;
             known.ended = known.ended.saturating_add(1);
             if known.ended >= MOST_ENDED {
                 known.levels = LEVELS;
@@ -121,6 +132,7 @@ const UNKNOWN: u64 = 64 * MOST_SMALL;
 const NOTHING: Known = Known {
     failed: 0,
     passed: 0,
+    has_ended: false,
     ended: 0,
     levels: LEVELS,
     turns: UNKNOWN,

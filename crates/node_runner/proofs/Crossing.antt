@@ -48,6 +48,7 @@ use Rattle.grain.specs.contracts.left.Left as Left
 use Rattle.grain.specs.contracts.sizes.TaskSizes as TaskSizes
 use Rattle.grain.specs.contracts.threads.Known as Known
 use Rattle.grain.specs.contracts.threads.Threads as Threads
+use Rattle.node_runner.specs.contracts.bells.RunBells as RunBells
 use Rattle.node_runner.specs.contracts.leavers.Leavers as Leavers
 use Rattle.node_runner.specs.contracts.line.Line as Line
 use Rattle.node_runner.specs.contracts.pace.Pace as Pace
@@ -59,6 +60,9 @@ use Rattle.node_runner.proofs.config.RunConfig.TheSendSync as config
 
 pub board : IsSync Board.the_row
 board = search (sendable, once.the_sync, outcome.the_sync, outcome.the_send, crosses) depth 25
+
+pub run_bells : IsSync RunBells.the_row
+run_bells = search (sendable, crosses) depth 25
 
 pub pace : IsSync Pace.the_row
 pace = search (sendable, crosses) depth 25
@@ -78,14 +82,17 @@ shared s a G D k h y d = recorded_sync (Shared.the_field s a G D k h).row _ _ (S
           (
             search (sendable, counts.the_sync) depth 12,
             (
-              search (sendable, pace) depth 12,
+              search (sendable, run_bells) depth 12,
               (
-                search (sendable, leavers) depth 12,
+                search (sendable, pace) depth 12,
                 (
-                  search (sendable, config.the_sync) depth 12,
+                  search (sendable, leavers) depth 12,
                   (
-                    search (sendable, y) depth 12,
-                    tt,
+                    search (sendable, config.the_sync) depth 12,
+                    (
+                      search (sendable, y) depth 12,
+                      tt,
+                    ),
                   ),
                 ),
               ),

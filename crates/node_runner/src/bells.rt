@@ -1,7 +1,8 @@
-//! Sleeping until there is something to do: the body workers of a node until it offers a ticket,
-//! and the node until a turn comes back.
+//! Sleeping until there is something to do: the body workers of a node until it offers a ticket, a
+//! node until a turn or a packet comes, and the clearinghouse until a packet does.
 
 use crossbeam_utils::CachePadded;
+use std::alloc::{AllocError, Global};
 use std::sync::Wait;
 use std::sync::atomic::AtomicU64;
 use std::sync::atomic::Ordering::SeqCst;
@@ -41,6 +42,14 @@ impl Bell {
         let _ = self.rung.fetch_add(1, SeqCst);
     }
 
+    /// It is rung, and wakes one that sleeps.
+    fn wake(&self) {
+        self.ring();
+        if self.asleep() > 0 {
+            self.rung.wake_one();
+        }
+    }
+
     /// Sleeps for at most so many microseconds, unless it was rung since it had been rung so often.
     fn sleep<R: Wait>(&self, rt: &R, rung: u64, most: u64) {
         let _ = self.asleep.fetch_add(1, SeqCst);
@@ -51,19 +60,21 @@ impl Bell {
     }
 }
 
-/// The bells of a node: one that it rings for each ticket that it offers, and one that its body
-/// workers ring for each that they took and are done with. Who looks for something reads how often
-/// the bell was rung, looks, and sleeps only where it wasn't rung since. So nobody sleeps beside
-/// what it waits for. The bells and the workers' count lie on cache lines of their own.
+/// The bell that a node rings for each ticket that it offers, and what its body workers count. Who
+/// looks for something reads how often the bell was rung, looks, and sleeps only where it wasn't
+/// rung since. So nobody sleeps beside what it waits for. The bell and the counts lie on cache lines
+/// of their own.
 #[derive(Drop)]
 pub(crate) struct Bells {
     workers: u64,
     offered: CachePadded<Bell>,
-    returned: CachePadded<Bell>,
-    /// How many tickets body workers took.
+    /// How many tickets body workers took, and are done with.
     taken: CachePadded<AtomicU64>,
+    returned: CachePadded<AtomicU64>,
     /// How many tickets the node took back.
     taken_back: AtomicU64,
+    /// The number of the node's place.
+    place: AtomicU64,
 }
 
 impl Bells {
@@ -72,10 +83,21 @@ impl Bells {
         Bells {
             workers: workers as u64,
             offered: CachePadded::new(Bell::new()),
-            returned: CachePadded::new(Bell::new()),
             taken: CachePadded::new(AtomicU64::new(0)),
+            returned: CachePadded::new(AtomicU64::new(0)),
             taken_back: AtomicU64::new(0),
+            place: AtomicU64::new(0),
         }
+    }
+
+    /// They are those of the node of a place.
+    pub(crate) fn set_place(&self, place: usize) {
+        self.place.store(place as u64, SeqCst);
+    }
+
+    /// The number of the node's place.
+    pub(crate) fn place(&self) -> usize {
+        self.place.load(SeqCst) as usize
     }
 
     /// A ticket was offered. A body worker is woken where fewer look for tickets than wait.
@@ -105,7 +127,7 @@ impl Bells {
     /// How many body workers have a ticket.
     fn busy(&self) -> u64 {
         let taken = self.taken.load(SeqCst);
-        taken.saturating_sub(self.returned.rung())
+        taken.saturating_sub(self.returned.load(SeqCst))
     }
 
     /// How many body workers are awake and have no ticket.
@@ -135,23 +157,101 @@ impl Bells {
         self.offered.sleep(rt, offered, LONG);
     }
 
-    /// A body worker gave its turn back: the node is woken, if it sleeps.
+    /// A body worker is done with a ticket.
     pub(crate) fn give_back(&self) {
-        self.returned.ring();
-        if self.returned.asleep() > 0 {
-            self.returned.rung.wake_one();
+        let _ = self.returned.fetch_add(1, SeqCst);
+    }
+}
+
+/// The bell of a node, and the start word of the one that is up at its place.
+#[derive(Drop)]
+struct NodeBell {
+    bell: Bell,
+    word: AtomicU64,
+}
+
+/// The bells of a run: one of the clearinghouse, which is rung for packets that are sent to it, and
+/// one of each node, which is rung for these too, for turns that come back, and for an outcome. Each
+/// lies on cache lines of its own.
+#[derive(Drop)]
+pub(crate) struct RunBells {
+    house: CachePadded<Bell>,
+    nodes: Vec<CachePadded<NodeBell>>,
+}
+
+impl RunBells {
+    /// Those of a run of so many nodes, of which none was rung.
+    pub(crate) fn new(alloc: Global, nodes: u8) -> Result<RunBells, AllocError> {
+        let mut bells = Vec::with_capacity(alloc, usize::from(nodes))?;
+        for _ in 0..nodes {
+            bells.push(CachePadded::new(NodeBell {
+                bell: Bell::new(),
+                word: AtomicU64::new(0),
+            }))?;
+        }
+        Ok(RunBells {
+            house: CachePadded::new(Bell::new()),
+            nodes: bells,
+        })
+    }
+
+    /// A node starts at a place, with this start word.
+    pub(crate) fn set_word(&self, place: usize, word: u64) {
+        if let Some(node) = self.nodes.get(place) {
+            node.word.store(word, SeqCst);
         }
     }
 
-    /// How often body workers were done with a ticket, as the node reads it before it looks for a
-    /// turn.
-    pub(crate) fn returned(&self) -> u64 {
-        self.returned.rung()
+    /// The start word of the node at a place.
+    pub(crate) fn word(&self, place: usize) -> u64 {
+        match self.nodes.get(place) {
+            Some(node) => node.word.load(SeqCst),
+            None => 0,
+        }
     }
 
-    /// The node, to which no turn came back, sleeps until one does, for at most so many
+    /// There is something for the node of a place, which is woken, if it sleeps.
+    pub(crate) fn wake_node(&self, place: usize) {
+        if let Some(node) = self.nodes.get(place) {
+            node.bell.wake();
+        }
+    }
+
+    /// There is an outcome: all nodes are woken.
+    pub(crate) fn wake_nodes(&self) {
+        for node in self.nodes.iter() {
+            node.bell.wake();
+        }
+    }
+
+    /// There is something for the clearinghouse, which is woken, if it sleeps.
+    pub(crate) fn wake_house(&self) {
+        self.house.wake();
+    }
+
+    /// How often the bell of a place's node was rung, as it reads it before it looks for something.
+    pub(crate) fn node_rung(&self, place: usize) -> u64 {
+        match self.nodes.get(place) {
+            Some(node) => node.bell.rung(),
+            None => 0,
+        }
+    }
+
+    /// The same of the clearinghouse.
+    pub(crate) fn house_rung(&self) -> u64 {
+        self.house.rung()
+    }
+
+    /// The node of a place, which found nothing, sleeps until its bell is rung, for at most so many
     /// microseconds.
-    pub(crate) fn sleep_node<R: Wait>(&self, rt: &R, returned: u64, most: u64) {
-        self.returned.sleep(rt, returned, most);
+    pub(crate) fn sleep_node<R: Wait>(&self, rt: &R, place: usize, rung: u64, most: u64) {
+        if let Some(node) = self.nodes.get(place) {
+            node.bell.sleep(rt, rung, most);
+        }
+    }
+
+    /// The same of the clearinghouse.
+    pub(crate) fn sleep_house<R: Wait>(&self, rt: &R, rung: u64, most: u64) {
+        self.house.sleep(rt, rung, most);
     }
 }

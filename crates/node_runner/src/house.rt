@@ -10,7 +10,7 @@ use crate::counts::{End, Turns};
 use crate::fates::Fates;
 use crate::gate::Gate;
 use crate::inbox::Inbox;
-use crate::resting::{is_beginning, rest_idle};
+use crate::resting::{is_beginning, is_to_sleep, rest_idle, wait};
 use crate::saves::Saves;
 use crate::shared::{Shared, commit};
 use board::Note;
@@ -33,10 +33,13 @@ const TICK: u64 = 100;
 /// Saves are drawn from the next one.
 const PLACE: u64 = 64;
 
+/// It rests as a node that is alone in its run.
+const ALONE: u8 = 1;
+
 /// What the clearinghouse's thread has in a run: what the actors share, a seat, what it knows of the
 /// board, the packets and the values that may come to it, how many events were committed when it
-/// ticked last, how often it did, and in how many turns in a row it did nothing. Contracts see the
-/// chronicle.
+/// ticked last, how often it did, in how many turns in a row it did nothing, and how often its bell
+/// had been rung when this turn began. Contracts see the chronicle.
 #[derive(Drop)]
 struct HouseRun<'r, 's, 'a, G: Gate + Sync, D: SteadyDisk + Drop> {
     alloc: Global,
@@ -48,6 +51,7 @@ struct HouseRun<'r, 's, 'a, G: Gate + Sync, D: SteadyDisk + Drop> {
     ticked: u64,
     ticks: u64,
     idle: u64,
+    rung: u64,
 }
 
 impl<'r, 's, 'a, G: Gate + Sync, D: SteadyDisk + Drop> Model for HouseRun<'r, 's, 'a, G, D> {
@@ -93,6 +97,7 @@ pub(crate) fn run_house<'a, R: Wait + Clock, G: Gate + Sync, D: SteadyDisk + Dro
         ticked: 0,
         ticks: 0,
         idle: 0,
+        rung: 0,
     };
     let mut turns = Turns::new();
     if run.commit_event(rt, HouseEvent::Restart) {
@@ -112,12 +117,15 @@ impl<'r, 's, 'a, G: Gate + Sync, D: SteadyDisk + Drop> HouseRun<'r, 's, 'a, G, D
     fn turn<R: Wait + Clock>(&mut self, rt: &R) -> bool
         ensures { self.new ≡ self.old }
     {
+        self.rung = self.shared.bells.house_rung();
+        let sent = self.shared.chronicle.sent();
         let came = self
             .inbox
             .take(rt, self.alloc, self.shared.chronicle, &mut self.seat);
         self.shared.pace.see(self.inbox.seen());
         match came {
             Ok(Some(delivered)) => {
+                self.shared.wake_receivers(sent);
                 self.idle = 0;
                 self.shared.counts.count_event();
                 if !self.follow_up(&delivered.committed) {
@@ -152,8 +160,10 @@ impl<'r, 's, 'a, G: Gate + Sync, D: SteadyDisk + Drop> HouseRun<'r, 's, 'a, G, D
     fn save_next<R: Wait + Clock>(&mut self, rt: &R) -> bool
         ensures { self.new ≡ self.old }
     {
+        let sent = self.shared.chronicle.sent();
         match self.saves.take(rt, self.shared.chronicle, &mut self.seat) {
             Ok(Some(committed)) => {
+                self.shared.wake_receivers(sent);
                 self.idle = 0;
                 self.shared.counts.count_event();
                 self.follow_up(&committed)
@@ -177,8 +187,11 @@ impl<'r, 's, 'a, G: Gate + Sync, D: SteadyDisk + Drop> HouseRun<'r, 's, 'a, G, D
         let events = self.shared.counts.events();
         if is_beginning(events, self.shared.config.nodes(), self.idle) {
             yield_now();
+        } else if is_to_sleep(self.idle) {
+            let most = wait(ALONE, false);
+            self.shared.bells.sleep_house(rt, self.rung, most);
         } else {
-            rest_idle(rt, 1, self.idle);
+            rest_idle(rt, ALONE, self.idle);
         }
     }
 
@@ -188,8 +201,12 @@ impl<'r, 's, 'a, G: Gate + Sync, D: SteadyDisk + Drop> HouseRun<'r, 's, 'a, G, D
         ensures { self.new ≡ self.old }
     {
         let (chronicle, counts) = (self.shared.chronicle, self.shared.counts);
+        let sent = chronicle.sent();
         match commit(rt, chronicle, counts, &mut self.seat, Event::AtHouse(event)) {
-            Some(committed) => self.follow_up(&committed),
+            Some(committed) => {
+                self.shared.wake_receivers(sent);
+                self.follow_up(&committed)
+            }
             None => false,
         }
     }
@@ -205,6 +222,7 @@ impl<'r, 's, 'a, G: Gate + Sync, D: SteadyDisk + Drop> HouseRun<'r, 's, 'a, G, D
             if self.shared.board.publish(&mut self.note, outcome).is_err() {
                 self.shared.counts.end_by(End::Memory);
             }
+            self.shared.bells.wake_nodes();
             return false;
         }
         match refused(committed.told) {

@@ -12,7 +12,8 @@
 //! another actor is behind it, so that none is taken for dead because its thread is slow.
 //!
 //! **Body workers.** Each node has as many as the configuration says. A ready frame becomes a
-//! ticket, at most two for each worker at once. A worker steals a ticket of its node without
+//! ticket, at most two for each worker at once, or eight where the node is alone and tasks are
+//! evaluated whole. A worker steals a ticket of its node without
 //! waiting, numbers the body, asks the gate until it lets it go, evaluates it outside any lock, and
 //! gives the turn back by a queue. A frame that is offered stays ready in the node until its turn
 //! is committed, and a thief can have it. Then the turn is stale, and the event refuses it. Before
@@ -26,6 +27,10 @@
 //! where its body workers have as much as they take, or nothing beside which it could run
 //! (`evaluate_here`). What came back, and what needs no evaluation, goes before packets then, up to
 //! 16 times in a row, so that no thief is granted what is evaluated already (`go_on`).
+//!
+//! **Sleep.** An actor that finds nothing for some turns sleeps until its bell is rung (`RunBells`),
+//! and some time at most (`resting`): by whom sends it a packet, by a body worker of its own that is
+//! done with a ticket, and once there is an outcome.
 //!
 //! **Faults** are drawn from one word, for each place by itself: packets that are lost and that
 //! come twice (`Fates`), and whom a node asks. Crash i comes once 50 i events were committed, on

@@ -36,11 +36,11 @@ pub(crate) fn threads_of(config: &RunConfig) -> u64 {
     1 + nodes + nodes * u64::from(config.bodies())
 }
 
-/// A thread is there, and waits for all others, which may be slow. That the system makes as many
-/// was tried before. Where it doesn't any more, what a thread was to do is done by another one,
-/// behind what that one does, and they would wait for each other without end: so none of them
-/// begins where one isn't there in time, not that one either, and all are made anew. Whether all
-/// are there.
+/// A thread is there, and waits for all others, which may be slow. Where the system doesn't make as
+/// many, what a thread was to do is done by another one, behind what that one does, and they would
+/// wait for each other without end: so none of them begins where one isn't there in time, not that
+/// one either, and all are made anew, once the system was seen to make as many. Whether all are
+/// there.
 pub(crate) fn await_all<R: Wait + Clock, G: Gate + Sync, D: SteadyDisk + Drop>(
     rt: &R,
     shared: &Shared<'_, '_, G, D>,

@@ -4,6 +4,7 @@ ghost use Rattle.chronicle.specs.Seats.{IsSeatIn};
 ghost use Rattle.node_runner.specs.Lines.{IsHomeOf};
 ghost use Rattle.node_runner.specs.Turns.{IsFoundOf};
 
+use crate::bells::RunBells;
 use crate::config::RunConfig;
 use crate::counts::{Counts, End, Turns};
 use crate::desk::Desk;
@@ -84,9 +85,8 @@ struct Node {
     /// more.
     dry: u64,
     pauses: u64,
-    /// How often its body workers were done with a ticket when it last rested. It has looked for a
-    /// turn since.
-    returned: u64,
+    /// How often its bell had been rung when this turn began.
+    rung: u64,
     /// How many events were committed when it last slept, and whether it was left out then.
     passed: u64,
     left_out: bool,
@@ -146,6 +146,7 @@ pub(crate) fn run_node<'a, R: Wait + Clock, G: Gate + Sync, D: SteadyDisk + Drop
         desk.bells().end();
         return seat;
     };
+    desk.bells().set_place(usize::from(place.index()));
     let mut note = shared.board.note();
     let mut run = NodeRun {
         alloc,
@@ -179,6 +180,7 @@ impl<'r, 's, 'a, G: Gate + Sync, D: SteadyDisk + Drop> NodeRun<'r, 's, 'a, G, D>
     fn turn<R: Wait + Clock>(&mut self, rt: &R) -> bool
         ensures { self.new ≡ self.old }
     {
+        self.node.rung = self.shared.bells.node_rung(self.node.index());
         let events = self.shared.counts.events();
         if self.node.plans.take_crash(events) && !self.node.leaves {
             return self.crash(rt);
@@ -248,8 +250,9 @@ impl<'r, 's, 'a, G: Gate + Sync, D: SteadyDisk + Drop> NodeRun<'r, 's, 'a, G, D>
         }
         if self.node.pauses > 0 {
             self.node.pauses = self.node.pauses.saturating_sub(1);
+            let nodes = self.shared.config.nodes();
             self.node
-                .sleep(rt, self.shared.counts, self.shared.config.nodes());
+                .sleep(rt, self.shared.bells, self.shared.counts, nodes);
             return Some(true);
         }
         self.ask(rt)
@@ -260,12 +263,14 @@ impl<'r, 's, 'a, G: Gate + Sync, D: SteadyDisk + Drop> NodeRun<'r, 's, 'a, G, D>
     fn take_next<R: Wait + Clock>(&mut self, rt: &R) -> Option<bool>
         ensures { self.new ≡ self.old }
     {
+        let sent = self.shared.chronicle.sent();
         match self
             .node
             .inbox
             .take(rt, self.alloc, self.shared.chronicle, &mut self.seat)
         {
             Ok(Some(delivered)) => {
+                self.shared.wake_receivers(sent);
                 if !self.take_packet(&delivered) {
                     return None;
                 }
@@ -292,6 +297,7 @@ impl<'r, 's, 'a, G: Gate + Sync, D: SteadyDisk + Drop> NodeRun<'r, 's, 'a, G, D>
             self.node.rest(
                 rt,
                 &self.desk,
+                self.shared.bells,
                 self.shared.counts,
                 self.shared.config.nodes(),
             );
@@ -337,15 +343,18 @@ impl<'r, 's, 'a, G: Gate + Sync, D: SteadyDisk + Drop> NodeRun<'r, 's, 'a, G, D>
         self.shared
             .pace
             .hear(self.node.index(), self.shared.counts.events());
+        self.shared.bells.set_word(self.node.index(), word);
         let event = Event::Start(self.node.place, word);
-        commit(
+        let sent = self.shared.chronicle.sent();
+        let committed = commit(
             rt,
             self.shared.chronicle,
             self.shared.counts,
             &mut self.seat,
             event,
-        )
-        .is_some()
+        );
+        self.shared.wake_receivers(sent);
+        committed.is_some()
     }
 
     /// The node of the place loses its memory, and another one starts. Its tickets are forgotten.
@@ -374,6 +383,7 @@ impl<'r, 's, 'a, G: Gate + Sync, D: SteadyDisk + Drop> NodeRun<'r, 's, 'a, G, D>
         ensures { self.new ≡ self.old }
     {
         let event = Event::AtNode(self.node.place, event);
+        let sent = self.shared.chronicle.sent();
         let committed = commit(
             rt,
             self.shared.chronicle,
@@ -381,6 +391,7 @@ impl<'r, 's, 'a, G: Gate + Sync, D: SteadyDisk + Drop> NodeRun<'r, 's, 'a, G, D>
             &mut self.seat,
             event,
         )?;
+        self.shared.wake_receivers(sent);
         self.node.note(committed.told);
         Some(committed.told)
     }
@@ -606,6 +617,7 @@ impl<'r, 's, 'a, G: Gate + Sync, D: SteadyDisk + Drop> NodeRun<'r, 's, 'a, G, D>
         requires { IsFoundOf self.old.job.program found.now }
         ensures { self.new ≡ self.old }
     {
+        let sent = self.shared.chronicle.sent();
         let Some(continued) = commit_found(
             rt,
             self.alloc,
@@ -619,6 +631,7 @@ impl<'r, 's, 'a, G: Gate + Sync, D: SteadyDisk + Drop> NodeRun<'r, 's, 'a, G, D>
         ) else {
             return false;
         };
+        self.shared.wake_receivers(sent);
         follow_up(&mut self.node, continued);
         true
     }
@@ -685,7 +698,7 @@ impl Node {
             held: 0,
             dry: 0,
             pauses: 0,
-            returned: 0,
+            rung: 0,
             passed: 0,
             left_out: false,
         }
@@ -725,34 +738,40 @@ impl Node {
         true
     }
 
-    /// It sleeps, and longer where it is left out: where it asks in vain, and others went on since
-    /// it slept last.
-    fn sleep<R: Clock>(&mut self, rt: &R, counts: &Counts, nodes: u8) {
+    /// It sleeps until its bell is rung, and longer at most where it is left out: where it asks in
+    /// vain, and others went on since it slept last.
+    fn sleep<R: Wait>(&mut self, rt: &R, bells: &RunBells, counts: &Counts, nodes: u8) {
         let events = counts.events();
         let others = events.saturating_sub(self.passed);
         self.passed = events;
         self.left_out = asks_in_vain(self.dry) && others >= OTHERS;
-        pause(rt, nodes, self.left_out);
+        let most = pause(nodes, self.left_out);
+        bells.sleep_node(rt, self.index(), self.rung, most);
     }
 
-    /// It lets others go on, in a run of so many nodes; where its body workers have something,
-    /// until a turn comes back, unless one did since it rested last: at once where that takes long,
-    /// so that it doesn't take a processor from them. Where it is left out it sleeps in each turn.
-    fn rest<R: Wait + Clock>(&mut self, rt: &R, desk: &Desk, counts: &Counts, nodes: u8) {
+    /// It lets others go on, in a run of so many nodes, until its bell is rung, unless it was in this
+    /// turn: at once where what its body workers have takes long, so that it doesn't take a
+    /// processor from them. Where it is left out it sleeps in each turn.
+    fn rest<R: Wait + Clock>(
+        &mut self,
+        rt: &R,
+        desk: &Desk,
+        bells: &RunBells,
+        counts: &Counts,
+        nodes: u8,
+    ) {
         self.rested = self.rested.saturating_add(1);
         if desk.is_waiting() {
             let long = desk.has_long_work();
             if long || is_to_sleep(self.rested) {
-                desk.bells()
-                    .sleep_node(rt, self.returned, wait(nodes, long));
+                bells.sleep_node(rt, self.index(), self.rung, wait(nodes, long));
             }
         } else if is_beginning(counts.events(), nodes, self.rested) {
             yield_now();
         } else if self.left_out || is_to_sleep(self.rested) {
-            self.sleep(rt, counts, nodes);
+            self.sleep(rt, bells, counts, nodes);
         } else {
             rest_idle(rt, nodes, self.rested);
         }
-        self.returned = desk.bells().returned();
     }
 }

@@ -1,5 +1,5 @@
-//! Whether the system makes the threads of a run, which is tried before any of them has something
-//! to do.
+//! Whether the system makes the threads of a run, which is tried where one of them wasn't there, and
+//! before any of them has something to do.
 
 use std::sync::Wait;
 use std::sync::atomic::AtomicU64;

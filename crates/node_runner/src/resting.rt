@@ -20,11 +20,8 @@ const SLEEP: u64 = 50;
 /// The same in a run of one node, which nobody asks for work.
 const SLEEP_ALONE: u64 = 200;
 
-/// The same where that node's body workers are busy for long, by one of which it is woken.
+/// The same where a node's body workers are busy for long: one of them wakes it, or a packet.
 const SLEEP_BUSY: u64 = 2_000;
-
-/// The same in a run of several nodes, of which another one may ask it for work meanwhile.
-const SLEEP_ASKED: u64 = 200;
 
 /// How long a node sleeps at least that asks in vain while others go on, in microseconds.
 const LONG_SLEEP: u64 = 250;
@@ -67,10 +64,10 @@ pub(crate) fn asks_in_vain(asked: u64) -> bool {
     asked >= LONGEST
 }
 
-/// An actor that pauses sleeps in a turn, and longer where it is to.
-pub(crate) fn pause(rt: &impl Clock, nodes: u8, long: bool) {
+/// How long a node sleeps that pauses in a run of so many, in microseconds; longer where it is to.
+pub(crate) fn pause(nodes: u8, long: bool) -> u64 {
     let least = if long { LONG_SLEEP } else { 0 };
-    sleep(rt, Duration::from_micros(nap(nodes).max(least)));
+    nap(nodes).max(least)
 }
 
 /// An actor that waits for another one, and did nothing in so many turns, lets others go on.
@@ -92,18 +89,15 @@ fn rest_after(rt: &impl Clock, nodes: u8, idle: u64, yields: u64) {
     if idle < yields {
         yield_now();
     } else if is_to_sleep(idle) {
-        pause(rt, nodes, false);
+        sleep(rt, Duration::from_micros(nap(nodes)));
     }
 }
 
-/// How long a node sleeps at most in a run of so many until a turn comes back, in microseconds;
-/// longer where its body workers are busy for long.
+/// How long an actor sleeps at most in a run of so many nodes until its bell is rung, in
+/// microseconds; longer where body workers are busy for long.
 pub(crate) fn wait(nodes: u8, long: bool) -> u64 {
-    match (long, nodes) {
-        (true, 1) => SLEEP_BUSY,
-        (true, _) => nap(nodes).max(SLEEP_ASKED),
-        (false, _) => nap(nodes),
-    }
+    let least = if long { SLEEP_BUSY } else { 0 };
+    nap(nodes).max(least)
 }
 
 /// How long an actor sleeps in a run of so many nodes, in microseconds: so long that all of them

@@ -4,6 +4,7 @@ ghost use Rattle.chronicle.specs.Kept.{IsLeftBy};
 ghost use Rattle.chronicle.specs.Seats.{IsSeatIn};
 ghost use Rattle.node_runner.specs.Runs.{IsContextIn, IsRanOf, IsWorkerOf, KeepsOutcome, TakesOutcomesOf};
 
+use crate::bells::RunBells;
 use crate::config::RunConfig;
 use crate::counts::{Counts, End};
 use crate::crew::{ActorContext, WorkerContext, contexts};
@@ -53,13 +54,12 @@ pub struct Ran<D: Drop> {
 /// where the clearinghouse can't go on, or the outcome isn't found on the disk: what that keeps is
 /// then for whoever opens it anew to find.
 ///
-/// Whether the system makes as many threads is tried before anything else, with threads that do
-/// nothing. Where one isn't there half a second later all end before anything is committed, it is
-/// tried again, and they are made anew and waited for twice as long, up to two minutes each time:
-/// threads that are slow are waited for. Each loop turn of an actor or a body worker counts as one,
-/// and so does each question to the gate. Where 131,072 turns and more may be taken a thread takes
-/// several at once, at most 64, and so fewer than one in a hundred may be left to threads that
-/// don't begin them.
+/// Where a thread isn't there after half a second all end before anything is committed. Whether the
+/// system makes as many is tried then, with threads that do nothing; and they are made anew and
+/// waited for twice as long, up to two minutes each time: threads that are slow are waited for.
+/// Each loop turn of an actor or a body worker counts as one, and so does each question to the gate.
+/// Where 131,072 turns and more may be taken a thread takes several at once, at most 64, and so
+/// fewer than one in a hundred may be left to threads that don't begin them.
 pub fn run_job<'a, R: Threads + Wait + Clock + Sync, G: Gate + Sync, D: SteadyDisk + Drop + Send>(
     rt: &R,
     alloc: Global,
@@ -75,8 +75,8 @@ pub fn run_job<'a, R: Threads + Wait + Clock + Sync, G: Gate + Sync, D: SteadyDi
     let mut first = first;
     let mut patience = PATIENCE;
     for _ in 0..u64::MAX {
-        // (this thread is one of them)
-        if !can_make(rt, threads_of(config).saturating_sub(1)) {
+        // (the first time the threads themselves tell; this thread is one of them)
+        if patience > PATIENCE && !can_make(rt, threads_of(config).saturating_sub(1)) {
             return Err(RunError::Memory);
         }
         let counts = Counts::new(config.turns(), patience, config.evaluators());
@@ -171,11 +171,15 @@ fn traced<'a, R: Threads + Wait + Clock + Sync, G: Gate + Sync, D: SteadyDisk + 
     let Ok(leavers) = Leavers::new(alloc, config) else {
         return Err(RunError::Memory);
     };
+    let Ok(bells) = RunBells::new(alloc, nodes) else {
+        return Err(RunError::Memory);
+    };
     let shared = Shared {
         chronicle: &chronicle,
         words: &words,
         board: &board,
         counts,
+        bells: &bells,
         pace: &pace,
         leavers: &leavers,
         config,

@@ -6,6 +6,7 @@ ghost use Rattle.chronicle.specs.History.{actor_number, outcome_told};
 ghost use Rattle.chronicle.specs.Seats.{IsSeatIn};
 ghost use Rattle.node_runner.specs.Turns.{IsFoundOf};
 
+use crate::bells::RunBells;
 use crate::config::RunConfig;
 use crate::counts::{Counts, End};
 use crate::gate::Gate;
@@ -13,7 +14,7 @@ use crate::leavers::Leavers;
 use crate::pace::Pace;
 use crate::turn::Found;
 use board::Board;
-use chronicle::{ActorSeat, Chronicle, Committed, Continued};
+use chronicle::{ActorSeat, Chronicle, Committed, Continued, Receiver};
 use disk::SteadyDisk;
 use event_script::{Event, FrameOf, NodeEvent, NodePlace};
 use start_words::WordTable;
@@ -28,10 +29,29 @@ pub(crate) struct Shared<'s, 'a, G: Gate + Sync, D: SteadyDisk + Drop> {
     pub(crate) words: &'s WordTable,
     pub(crate) board: &'s Board,
     pub(crate) counts: &'s Counts,
+    pub(crate) bells: &'s RunBells,
     pub(crate) pace: &'s Pace,
     pub(crate) leavers: &'s Leavers,
     pub(crate) config: &'s RunConfig,
     pub(crate) gate: &'s G,
+}
+
+impl<'s, 'a, G: Gate + Sync, D: SteadyDisk + Drop> Shared<'s, 'a, G, D> {
+    /// Wakes those that sleep to whom packets were sent behind so many.
+    pub(crate) fn wake_receivers(&self, before: u64) {
+        if self.chronicle.sent() <= before {
+            return;
+        }
+        if self.chronicle.sent_to(Receiver::Clearinghouse) > before {
+            self.bells.wake_house();
+        }
+        for place in 0..usize::from(self.config.nodes()) {
+            let receiver = Receiver::Worker(self.bells.word(place));
+            if self.chronicle.sent_to(receiver) > before {
+                self.bells.wake_node(place);
+            }
+        }
+    }
 }
 
 /// An event of the seat's actor is committed. None where there is no memory, which ends the run, or

@@ -104,6 +104,7 @@ pub(crate) fn run_worker<R: Wait + Clock, G: Gate + Sync, D: SteadyDisk + Drop>(
                 break;
             }
             bells.give_back();
+            shared.bells.wake_node(bells.place());
         } else {
             idle = idle.saturating_add(1);
             wait(rt, &bells, offered, idle);

@@ -58,6 +58,14 @@ IsNamedRefusal text (fault.Packet number) = (events : List Event) × (script tex
 IsNamedRefusal text fault.File = ⊥
 IsNamedRefusal text (fault.Job e) = ⊥
 
+-- and where events are told, one that can't be written
+abbrev pub IsToldRefusal : List ℕ → ReplayFault → Type 0
+IsToldRefusal text (fault.Line l) = script text ≡ Err l
+IsToldRefusal text fault.Memory = Unit {0}
+IsToldRefusal text (fault.Packet number) = (events : List Event) × (script text ≡ Ok events)
+IsToldRefusal text fault.File = Unit {0}
+IsToldRefusal text (fault.Job e) = ⊥
+
 -- some text and some script, as the files hold them, whose replay on the input comes to this
 pub record IsFilesReplay (input : List ℤ) (number : ℕ) (r : Replayed) : Type 0 where
   pub text : List ℕ

@@ -1,13 +1,15 @@
 ghost use Rattle.std.specs.Prelude.{◌≡◌, IfErr, IfOk, true};
-ghost use Rattle.replaying.specs.Replays.{IsFilesRefusal, IsFilesReplay, IsNamedFiles};
+ghost use Rattle.replaying.specs.Replays.{IsFilesRefusal, IsFilesReplay, IsNamedFiles, IsNamedReplay, IsReplayOf, IsToldRefusal};
 
 use crate::fault::ReplayFault;
 use crate::naming::replay_asked;
-use crate::noting::replay_files_shown;
+use crate::noting::replay_shown;
 use crate::replayed::{Replayed, replay_script};
 use crate::words::ReplayWords;
 use event_words::Narrator;
 use jobs::{bytes_within, job_of, text_bytes};
+use serial_meaning::Job;
+use std::alloc::Global;
 use std::io::{Stderr, Write};
 use std::rt::Files;
 use std::thread::Threads;
@@ -56,38 +58,36 @@ pub fn replay_words<R: Files + AllocGlobal + Threads + Clock + Sync, O: Write>(
     let ReplayWords {
         file,
         script,
-        job,
+        job: number,
         input,
         packets,
         names,
     } = words;
+    let text = text_bytes(rt, file)?;
+    let job = job_of(rt.alloc(), text.as_slice(), input, number)?;
+    let script = bytes_within(rt, script, u64::MAX)?;
     if packets {
-        replay_files_told(rt, file, script, names, input, job, out)
+        replay_told(rt.alloc(), &job, script.as_slice(), names, out)
     } else {
-        replay_files_shown(rt, file, script, names, input, job, err)
+        replay_shown(rt, rt.alloc(), &job, script.as_slice(), names, err)
     }
 }
 
-/// Replays the script of a file on a job, as `replay_files` does, and tells each event; names are
-/// compared where that is asked for.
-fn replay_files_told<R: Files + AllocGlobal, O: Write>(
-    rt: &R,
-    file: &str,
-    script: &str,
+/// Replays a script on a job and tells each event, a line each; names are compared where that is
+/// asked for. Refused also by the first line that can't be written, or for which there is no memory.
+fn replay_told<O: Write>(
+    alloc: Global,
+    job: &Job,
+    script: &[u8],
     names: bool,
-    input: Vec<i64>,
-    job: u64,
     out: &mut O,
 ) -> Result<Replayed, ReplayFault>
-    ensures run { IfOk result (IsFilesReplay input.items job) }
-    ensures named { names ≡ true → IfOk result (IsNamedFiles input.items job) }
-    ensures refused { IfErr result (IsFilesRefusal input.items) }
+    ensures run { IfOk result (IsReplayOf job.now script.now) }
+    ensures named { names ≡ true → IfOk result (IsNamedReplay job.now script.now) }
+    ensures refused { IfErr result (IsToldRefusal script.now) }
 {
-    let text = text_bytes(rt, file)?;
-    let job = job_of(rt.alloc(), text.as_slice(), input, job)?;
-    let script = bytes_within(rt, script, u64::MAX)?;
-    let mut narrator = Narrator::new(rt.alloc(), out, script.as_slice());
-    let replayed = replay_asked(rt.alloc(), &job, script.as_slice(), names, &mut narrator);
+    let mut narrator = Narrator::new(alloc, out, script);
+    let replayed = replay_asked(alloc, job, script, names, &mut narrator);
     let told = narrator.finish();
     let replayed = replayed?;
     told?;

@@ -1,17 +1,15 @@
 //! Replays whose progress is told on a terminal.
 ghost use Rattle.std.specs.Prelude.{◌≡◌, IfErr, IfOk, true};
-ghost use Rattle.replaying.specs.Replays.{IsFilesRefusal, IsFilesReplay, IsNamedFiles, IsNamedRefusal, IsNamedReplay, IsReplayOf};
+ghost use Rattle.replaying.specs.Replays.{IsNamedRefusal, IsNamedReplay, IsReplayOf};
 
 use crate::fault::ReplayFault;
 use crate::naming::replay_asked;
 use crate::replayed::Replayed;
 use event_script::Event;
-use jobs::{bytes_within, job_of, text_bytes};
 use progress::{RunProgress, tell};
 use serial_meaning::Job;
 use std::alloc::Global;
 use std::io::{IsTerminal, Stderr};
-use std::rt::Files;
 use std::thread::{Threads, join};
 use std::time::Clock;
 use world::{EventAnswer, Unwatched, Watch, World};
@@ -54,7 +52,7 @@ fn replay_noted(
 
 /// Replays a script on a job; names are compared where that is asked for. Where standard error is a
 /// terminal and the replay takes long, how far it has come is told there.
-fn replay_shown<R: Threads + Clock + Sync>(
+pub(crate) fn replay_shown<R: Threads + Clock + Sync>(
     rt: &R,
     alloc: Global,
     job: &Job,
@@ -83,26 +81,4 @@ fn replay_shown<R: Threads + Clock + Sync>(
         { replay_noted(alloc, job, script, names, shared) },
     );
     replayed
-}
-
-/// Replays the script of a file on a job, as `replay_files` does; names are compared where that is
-/// asked for. Where standard error is a terminal and the replay takes long, how far it has come is
-/// told there.
-pub(crate) fn replay_files_shown<R: Files + AllocGlobal + Threads + Clock + Sync>(
-    rt: &R,
-    file: &str,
-    script: &str,
-    names: bool,
-    input: Vec<i64>,
-    job: u64,
-    err: &mut Stderr,
-) -> Result<Replayed, ReplayFault>
-    ensures run { IfOk result (IsFilesReplay input.items job) }
-    ensures named { names ≡ true → IfOk result (IsNamedFiles input.items job) }
-    ensures refused { IfErr result (IsFilesRefusal input.items) }
-{
-    let text = text_bytes(rt, file)?;
-    let job = job_of(rt.alloc(), text.as_slice(), input, job)?;
-    let script = bytes_within(rt, script, u64::MAX)?;
-    replay_shown(rt, rt.alloc(), &job, script.as_slice(), names, err)
 }
