@@ -547,7 +547,7 @@ def late_house():
 
 
 def full_disk():
-    """A store that can't be written: the run ends, and says so."""
+    """A store that can't be written whole: the run ends, and says so; where there is room the next one goes on."""
     with tempfile.TemporaryDirectory() as folder:
         job = Job(folder, inputs=("10",))
 
@@ -558,7 +558,13 @@ def full_disk():
         words = ("house", FIB, "10", "--store", job.store, "--listen", f"127.0.0.1:{job.port}", "--key", job.key)
         done = subprocess.run((f"{PLAIN}/cilknow-node", *words), capture_output=True, text=True, timeout=30, preexec_fn=limited)
         tell(done.returncode == 3 and "the store: File too large" in done.stderr and not done.stdout, f"a full disk: {done}")
-        refused(job, words, 3, "E71")
+        try:
+            house, worker = job.house(), job.worker()
+            status, out, err = told(house)
+            tell((status, out) == (0, "value 55\n"), f"a disk that has room again: {status} {out} {err}")
+            tell(told(worker)[0] == 0, "a disk that has room again: the worker")
+        finally:
+            job.end()
 
 
 def without_network():

@@ -3,8 +3,8 @@
 
 Usage: tests/run_stores.py [PROGRAM [KILLS]], by default bin/cilknow and 30.
 
-A run is killed so many times, each time a little later after it began. Each time the file is empty, or has the record of the job without
-outcome or with the right one, of an epoch that never falls; a run that comes to its end answers the right outcome, and the next one answers
+A run is killed so many times, each time a little later after it began. Each time the file is empty, or a store as it is made, of the older
+form, or has the record of the job without outcome or with the right one, of an epoch that never falls; a run that comes to its end answers the right outcome, and the next one answers
 that at once; and the file beside the store has its whole line where the store has a byte. Then come runs that are stopped in the midst while the
 store, the file beside it or both are removed, and runs under faults over stores of the older form. Then come a store of another job, of another
 program and of another input, files that are no store, one that another run has, folders, a device that is full, files that are named twice, and
@@ -33,7 +33,7 @@ INPUT, VALUE = "18", 2584
 # So many turns: a run under faults that takes more ends with E95.
 TURNS = "100000000"
 NONE, IS_VALUE, TOO_DEEP = broken_stores.NONE, broken_stores.IS_VALUE, broken_stores.TOO_DEEP
-# What builds that know the older form alone made of a new store of job 1.
+# What a run makes first of all of a new store of job 1, and builds that know the older form alone left so.
 OLD = broken_stores.file_of(broken_stores.slot_of(broken_stores.Record(1, 0, NONE, 0, 0, broken_stores.SMALL)), bytes(64))
 
 CHECKS = Tally()
@@ -79,6 +79,11 @@ def record(content):
     return found.job, found.epoch, found.tag, found.value
 
 
+def is_begun(content):
+    """Whether a file is a store as it is made, of the older form, or one that was opened and isn't one of the newer form yet."""
+    return broken_stores.read_store(content) == broken_stores.read_store(OLD)
+
+
 def kills(folder):
     """Runs that are killed, each a little later than the one before, until an outcome is kept; then over a new store."""
     path = f"{folder}/killed"
@@ -100,7 +105,8 @@ def kills(folder):
         tell((out, err) in (("", ""), (f"value {VALUE}\n", "")), f"kill {turn}: {out}{err}")
         content = bytes_of(path) if os.path.exists(path) else b""
         found = record(content) or (1, 0, NONE, 0)
-        tell((record(content) or not content) and found[0] == 1 and found[1] >= epoch, f"kill {turn}: the file has {content.hex()}")
+        is_store = record(content) or is_begun(content) or not content
+        tell(is_store and found[0] == 1 and found[1] >= epoch, f"kill {turn}: the file has {content.hex()}")
         said = content_of(beside)
         tell(said == line or not content and (said is None or line.startswith(said)), f"kill {turn}: beside the file lies {said}")
         epoch = found[1]

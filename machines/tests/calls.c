@@ -109,7 +109,7 @@ static int whole_job(void) {
     IS(cilknow_tick(house, 1), CILKNOW_UNSENT);
     IS(cilknow_packet(house, packet, sizeof packet), CILKNOW_UNSENT);
     IS(cilknow_file_call(house, call, 8) > 8, 1);
-    IS(keeps(house), 10);
+    IS(keeps(house), 17);
     IS(file_len, 4360);
     IS(cilknow_packet(house, packet, sizeof packet), 0);
     IS(cilknow_state(house), CILKNOW_OPEN);

@@ -11,7 +11,7 @@ use crate::error::ActorError;
 use crate::host_file::HostFile;
 use crate::house_actor::HouseActor;
 use crate::node_actor::NodeActor;
-use checkpoint::format;
+use checkpoint::format_small;
 use disk::{Disk, FileDisk};
 use ids::Incarnation;
 use jobs::job_of;
@@ -99,7 +99,7 @@ impl HostActor {
         let Ok(mut disk) = FileDisk::new(alloc, file) else {
             return Err(NO_MEMORY);
         };
-        if content.is_empty() && format(&mut disk, number).is_err() {
+        if content.is_empty() && format_small(&mut disk, number).is_err() {
             return Err(NO_MEMORY);
         }
         let actor = match HouseActor::open(alloc, job, disk, SILENCE) {

@@ -9,7 +9,7 @@ use Rattle.disk.proofs.Writes.{bytes_of-written}
 use Rattle.checkpoint.specs.Calls.{Passed, after}
 use Rattle.checkpoint.specs.Commit.{formatting}
 use Rattle.checkpoint.specs.Pair.{IsOpen, slot, body}
-use Rattle.checkpoint.specs.Format.{HasMoved, IsBoth, IsFormatted, IsMovedBody, SpellsLarge, SpellsMoved, fresh, name}
+use Rattle.checkpoint.specs.Format.{HasMoved, IsBegunBody, IsBoth, IsFormatted, IsFormattedSmall, IsMovedBody, SpellsLarge, SpellsMoved, SpellsSlot, fresh, name}
 use Rattle.checkpoint.proofs.Splices.{splice_of}
 
 abbrev pub blank : List ℕ → List ℕ → List ℕ
@@ -105,17 +105,72 @@ built moved both b1 b2 b3 size large e1 e2 e3 =
     ∙ ap (λ (l : List ℕ). front ++ l) (append-nil both)
     ∙ ap (λ (l : List ℕ). name ++ (1 ∷ 165 ∷ l)) (append_assoc moved zeros both)
 
+-- # The file of the older form
+
+abbrev pub blank_small : List ℕ → List ℕ
+blank_small begun = name ++ (1 ∷ 165 ∷ (begun ++ replicate 64 0))
+
+module _ (begun : List ℕ) (job : ℕ) (small : IsBegunBody begun job) where
+  abbrev small_file : List ℕ
+  small_file = blank_small begun
+
+  small_whole : length small_file ≡ 136
+  small_whole =
+      let all = length-append begun (replicate 64 0) in
+      let zeros = length-replicate {A = ℕ} 64 0 in
+      let a = small.size in
+      omega (arith, all, zeros, a)
+
+  small_first : slot 8 63 false small_file ≡ 165 ∷ begun
+  small_first = ap (λ (l : List ℕ). 165 ∷ l) (take_at begun (replicate 64 0) 63 small.size)
+
+  small_second : slot 8 63 true small_file ≡ replicate 64 0
+  small_second = ap (λ (l : List ℕ). take 64 l) (drop_at begun (replicate 64 0) 63 small.size)
+
+  pub blank_small_is : IsFormattedSmall small_file job
+  blank_small_is = record {
+    size = small_whole;
+    store = record {
+      most = (let size = small_whole in omega (arith, size));
+      named = refl;
+      version = refl;
+      current = record {
+        room = (let size = small_whole in omega (arith, size));
+        gate = refl;
+        content = subst (λ (l : List ℕ). SpellsSlot (body l) 0 (fresh job)) (sym small_first)
+            (record { fields = small.fields; unsaved = refl });
+        other = λ opened. let e : 0 ≡ 165 =
+            ap (λ (l : List ℕ). get_or l 0 0) (sym small_second) ∙ opened in absurd (omega (arith, e));
+      };
+    };
+  }
+
+-- its parts put into zeros
+pub built_small : (begun b1 b2 : List ℕ) → length begun ≡ 63 → b1 ≡ splice (replicate 136 0) 0 7 name
+    → b2 ≡ splice (set (set b1 7 1) 8 165) 9 (9 + length begun) begun → b2 ≡ blank_small begun
+built_small begun b1 b2 size e1 e2 =
+    e2 ∙ ap (λ n. splice (set (set b1 7 1) 8 165) 9 (9 + n) begun) size
+    ∙ ap (λ (l : List ℕ). splice (set (set l 7 1) 8 165) 9 72 begun) e1
+
 -- a write over nothing
 over_nothing : (file : List ℕ) → splice [] 0 (0 + length file) file ≡ file
 over_nothing file = ap (λ (l : List ℕ). file ++ l) (drop_all (0 + length file) [] (omega arith)) ∙ append-nil file
 
 -- what a crash leaves of it
-pub formatted_left : (d new : Device) (plan : ℕ → Option (List ℕ)) (file : List ℕ) (job : ℕ) → IsFormatted file job
-    → Passed (formatting file) plan d new → (c : List ℕ) → CrashLeaves new.file c → IsFormatted c job
+made_left : (d new : Device) (plan : ℕ → Option (List ℕ)) (file : List ℕ) → Passed (formatting file) plan d new
+    → (c : List ℕ) → CrashLeaves new.file c → c ≡ file
 unfolding after
-formatted_left d new plan file job is passed c left =
+made_left d new plan file passed c left =
     let cells = written_file (take 0 d.file) 0 file in
     let stays : CrashLeaves (synced cells) c = subst (λ (x : Device). CrashLeaves x.file c) passed.made left in
-    let reads : c ≡ file = synced-only cells c stays ∙ bytes_of-synced cells ∙ bytes_of-written (take 0 d.file) 0 file
-    ∙ over_nothing file in
-    subst (λ (l : List ℕ). IsFormatted l job) (sym reads) is
+    synced-only cells c stays ∙ bytes_of-synced cells ∙ bytes_of-written (take 0 d.file) 0 file ∙ over_nothing file
+
+pub formatted_left : (d new : Device) (plan : ℕ → Option (List ℕ)) (file : List ℕ) (job : ℕ) → IsFormatted file job
+    → Passed (formatting file) plan d new → (c : List ℕ) → CrashLeaves new.file c → IsFormatted c job
+formatted_left d new plan file job is passed c left =
+    subst (λ (l : List ℕ). IsFormatted l job) (sym (made_left d new plan file passed c left)) is
+
+pub small_left : (d new : Device) (plan : ℕ → Option (List ℕ)) (file : List ℕ) (job : ℕ) → IsFormattedSmall file job
+    → Passed (formatting file) plan d new → (c : List ℕ) → CrashLeaves new.file c → IsFormattedSmall c job
+small_left d new plan file job is passed c left =
+    subst (λ (l : List ℕ). IsFormattedSmall l job) (sym (made_left d new plan file passed c left)) is

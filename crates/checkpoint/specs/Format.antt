@@ -84,6 +84,11 @@ pub record IsMovedBody (bytes : List ℕ) (sequence job epoch : ℕ) : Type 0 wh
   pub fields : HasFields bytes sequence 25 job epoch 3 (pos 0)
   pub zeros : drop 35 bytes ≡ replicate 28 0
 
+-- and where a job has just begun
+pub record IsBegunBody (bytes : List ℕ) (job : ℕ) : Type 0 where
+  pub size : length bytes ≡ 63
+  pub fields : HasFields bytes 0 25 job 0 0 (pos 0)
+
 -- CNOWCKP
 abbrev pub name : List ℕ
 name = 67 ∷ 78 ∷ 79 ∷ 87 ∷ 67 ∷ 75 ∷ 80 ∷ []
@@ -134,3 +139,8 @@ pub record IsFormatted (file : List ℕ) (job : ℕ) : Type 0 where
   pub moved : IsMovedBody (take 63 (drop 9 file)) 0 job 0
   pub small : take 64 (drop 72 file) ≡ replicate 64 0
   pub behind : IsBoth (drop 136 file) (fresh job)
+
+-- the file of such a job, of the older form
+pub record IsFormattedSmall (file : List ℕ) (job : ℕ) : Type 0 where
+  pub size : length file ≡ 136
+  pub store : IsOld file false 0 (fresh job)

@@ -3,10 +3,10 @@ ghost use Rattle.std.specs.List.{splice};
 ghost use Rattle.disk.specs.File.{CrashLeaves};
 ghost use Rattle.checkpoint.specs.Calls.{Passed, Stopped};
 ghost use Rattle.checkpoint.specs.Commit.{formatting};
-ghost use Rattle.checkpoint.specs.Format.{IsBoth, IsFormatted};
+ghost use Rattle.checkpoint.specs.Format.{IsBoth, IsFormatted, IsFormattedSmall};
 
-use crate::body::{LARGE_BODY, spell, spell_moved};
-use crate::look::{LARGE, NAME, OPEN, SIZE, SMALL, VERSION};
+use crate::body::{LARGE_BODY, spell, spell_begun, spell_moved};
+use crate::look::{LARGE, NAME, OLD_SIZE, OPEN, SIZE, SMALL, VERSION};
 use crate::{LastEpoch, StoreError};
 use disk::Disk;
 use ids::Outcome;
@@ -50,6 +50,34 @@ fn blank(job: u64) -> [u8; SIZE]
     file
 }
 
+// The file of such a job, of the older form.
+fn blank_small(job: u64) -> [u8; OLD_SIZE]
+    ensures { IsFormattedSmall result job }
+{
+    let begun = spell_begun(job);
+    let mut file = [0; OLD_SIZE];
+    put_bytes(&mut file, 0, &NAME);
+    file[7] = VERSION;
+    file[SMALL] = OPEN;
+    put_bytes(&mut file, SMALL + 1, &begun);
+    file
+}
+
+// Makes these bytes the content of a disk, by three device calls.
+fn make<D: Disk>(disk: &mut D, file: &[u8]) -> Result<(), StoreError>
+    ensures calls { OnOk result (Passed (formatting file.now) (D.planned disk.old) (D.device disk.old)
+        (D.device disk.new)) }
+    ensures plan { OnOk result ((i : ℕ) → D.planned disk.new i ≡ D.planned disk.old (i + 3)) }
+    ensures refused { OnErr result (IsErrOf result StoreError.Device) }
+    ensures stopped { OnErr result (Stopped (formatting file.now) (D.planned disk.old) (D.device disk.old)
+        (D.device disk.new)) }
+{
+    disk.cut(0)?;
+    disk.write_at(0, file)?;
+    disk.sync()?;
+    Ok(())
+}
+
 /// Makes the store of a job that has just begun, by three device calls. Refused by the device
 /// alone, it has to be done again.
 pub fn format<D: Disk>(disk: &mut D, job: u64) -> Result<(), StoreError>
@@ -62,8 +90,22 @@ pub fn format<D: Disk>(disk: &mut D, job: u64) -> Result<(), StoreError>
         × Stopped (formatting file) (D.planned disk.old) (D.device disk.old) (D.device disk.new)) }
 {
     let file = blank(job);
-    disk.cut(0)?;
-    disk.write_at(0, &file)?;
-    disk.sync()?;
-    Ok(())
+    make(disk, &file)
+}
+
+/// Makes the store of a job that has just begun as one of the older form, by three device calls;
+/// opening makes it one of the newer form. Its 136 bytes lie in one page of memory and in one
+/// sector of a disk: a system that writes these whole leaves no part of a store where the process
+/// is killed or the power fails. Refused by the device alone, it has to be done again.
+pub fn format_small<D: Disk>(disk: &mut D, job: u64) -> Result<(), StoreError>
+    ensures calls { OnOk result ((file : List ℕ) × IsFormattedSmall file job
+        × Passed (formatting file) (D.planned disk.old) (D.device disk.old) (D.device disk.new)) }
+    ensures left { OnOk result ((c : List ℕ) → CrashLeaves (D.device disk.new).file c → IsFormattedSmall c job) }
+    ensures plan { OnOk result ((i : ℕ) → D.planned disk.new i ≡ D.planned disk.old (i + 3)) }
+    ensures refused { OnErr result (IsErrOf result StoreError.Device) }
+    ensures stopped { OnErr result ((file : List ℕ) × IsFormattedSmall file job
+        × Stopped (formatting file) (D.planned disk.old) (D.device disk.old) (D.device disk.new)) }
+{
+    let file = blank_small(job);
+    make(disk, &file)
 }

@@ -2,7 +2,7 @@
 ghost use Rattle.std.specs.Prelude.{◌≡◌, ◌+◌, ◌≤◌, ◌<◌, ℕ, ℤ, Option, Some, None, IfSome, IfNone, drop, length, replicate};
 ghost use Rattle.std.specs.List.{splice};
 ghost use Rattle.byteorder.specs.Endian.{big_bytes, big_from};
-ghost use Rattle.checkpoint.specs.Format.{HasFields, IsBody, IsMovedBody, SpellsLarge, SpellsSmall, tag_of, value_of};
+ghost use Rattle.checkpoint.specs.Format.{HasFields, IsBegunBody, IsBody, IsMovedBody, SpellsLarge, SpellsSmall, tag_of, value_of};
 ghost use Rattle.checkpoint.specs.declared.record.CheckpointRecord.{CheckpointRecord as StoredRecord};
 ghost use Rattle.checkpoint.specs.declared.record.Entry.{Entry as SmallEntry};
 ghost use Rattle.ids.specs.declared.outcome.Outcome.{Outcome as StoredOutcome};
@@ -93,6 +93,13 @@ pub fn spell_moved(sequence: u64, job: u64, epoch: LastEpoch) -> [u8; SMALL_BODY
     ensures { IsMovedBody result sequence job epoch }
 {
     spell_fields(sequence, SMALL_LENGTH, job, epoch, MOVED, 0)
+}
+
+/// The body of a small slot that says that a job has just begun.
+pub fn spell_begun(job: u64) -> [u8; SMALL_BODY]
+    ensures { IsBegunBody result job }
+{
+    spell_fields(0, SMALL_LENGTH, job, LastEpoch::none(), tag(&None), 0)
 }
 
 /// The body of a large slot that says this. Behind its fields, and behind what is saved, stand

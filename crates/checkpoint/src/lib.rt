@@ -22,7 +22,7 @@ mod record;
 mod reopen;
 mod store;
 
-pub use blank::format;
+pub use blank::{format, format_small};
 pub use info::{Info, inspect};
 pub use laws::{a_commit_at_any_moment, an_opening_at_any_moment};
 pub use record::{CheckpointRecord, LastEpoch, StoreError};

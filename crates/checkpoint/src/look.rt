@@ -14,7 +14,7 @@ use crate::{CheckpointRecord, StoreError};
 /// The bytes of a store, and those of one of the older form as it was made.
 pub const SIZE: usize = 4360;
 
-const OLD_SIZE: usize = 136;
+pub const OLD_SIZE: usize = 136;
 
 /// Where the small slots and the large ones begin.
 pub const SMALL: usize = 8;

@@ -3,7 +3,7 @@
 use crate::command::CommandFault;
 use crate::failure::Failure;
 use crate::whose::{is_ours, is_said, write_beside};
-use checkpoint::{Info, StoreError, inspect};
+use checkpoint::{Info, StoreError, format_small, inspect};
 use command_line::{Place, beside_of, folder_of};
 use disk::{Disk, FileDisk};
 use job_line::line_of;
@@ -38,6 +38,7 @@ pub fn found_in<'a, R: Files<File = File> + AllocGlobal, E: Write>(
     let mut disk = own_disk(rt, path)?;
     if is_empty(alloc, &mut disk)? {
         make_beside(rt, path, beside.as_str(), line.as_slice())?;
+        format_small(&mut disk, job.number()).map_err(refused)?;
         return found(alloc, disk, job);
     }
     // (an opening may write, so what is refused is refused before it)
