@@ -65,10 +65,26 @@ impl KeptValues {
         requires { AreWholesOf self.old values.items }
         ensures { self.new ≡ self.old }
     {
+        self.make_room();
+        let _ = self.values.append(&mut values);
+    }
+
+    /// A value is kept, if there is memory.
+    pub fn keep(&mut self, value: Whole)
+        requires { value.program ≡ self.old }
+        ensures { self.new ≡ self.old }
+    {
+        self.make_room();
+        let _ = self.values.push(value);
+    }
+
+    /// None is kept any more where there were as many as are kept.
+    fn make_room(&mut self)
+        ensures { self.new ≡ self.old }
+    {
         if self.values.len() >= MOST_KEPT {
             self.clear();
         }
-        let _ = self.values.append(&mut values);
     }
 
     /// None is kept any more.

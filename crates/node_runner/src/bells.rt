@@ -74,30 +74,25 @@ pub(crate) struct Bells {
     /// How many tickets the node took back.
     taken_back: AtomicU64,
     /// The number of the node's place.
-    place: AtomicU64,
+    place: u64,
 }
 
 impl Bells {
-    /// Those of a node with so many body workers, to which no ticket was offered.
-    pub(crate) fn new(workers: usize) -> Bells {
+    /// Those of the node of a place with so many body workers, to which no ticket was offered.
+    pub(crate) fn new(place: u64, workers: usize) -> Bells {
         Bells {
             workers: workers as u64,
             offered: CachePadded::new(Bell::new()),
             taken: CachePadded::new(AtomicU64::new(0)),
             returned: CachePadded::new(AtomicU64::new(0)),
             taken_back: AtomicU64::new(0),
-            place: AtomicU64::new(0),
+            place,
         }
-    }
-
-    /// They are those of the node of a place.
-    pub(crate) fn set_place(&self, place: usize) {
-        self.place.store(place as u64, SeqCst);
     }
 
     /// The number of the node's place.
     pub(crate) fn place(&self) -> usize {
-        self.place.load(SeqCst) as usize
+        self.place as usize
     }
 
     /// A ticket was offered. A body worker is woken where fewer look for tickets than wait.

@@ -100,15 +100,16 @@ fn node_of<R: Wait, D: SteadyDisk + Drop>(
     let Some(pen) = pens.pop() else {
         return Ok(None);
     };
-    let desk = desk_of(rt, alloc, job, bodies, grain, workers)?;
+    let desk = desk_of(rt, alloc, job, seat.actor() - 1, bodies, grain, workers)?;
     Ok(Some(NodeContext { pen, desk }))
 }
 
-/// A node's desk. The contexts of its body workers go behind the others.
+/// The desk of the node of a place. The contexts of its body workers go behind the others.
 fn desk_of<R: Wait>(
     rt: &R,
     alloc: Global,
     job: &Job,
+    place: u64,
     bodies: u8,
     grain: Grain,
     workers: &mut Vec<WorkerContext>,
@@ -125,7 +126,7 @@ fn desk_of<R: Wait>(
     let Some(pass) = passes.pop() else {
         unreachable!()
     };
-    let bells = Arc::new(alloc, Bells::new(bodies))?;
+    let bells = Arc::new(alloc, Bells::new(place, bodies))?;
     hire(job, &queue, &bells, thieves, passes, workers)?;
     let home = Home {
         line: Line { queue, pass },

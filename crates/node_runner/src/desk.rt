@@ -191,6 +191,16 @@ impl Desk {
         Some(whole)
     }
 
+    /// The value of a task whose frame isn't there is kept: the frame may come back.
+    pub(crate) fn keep(&mut self, checked: &Checked, whole: Whole)
+        requires home { IsHomeOf checked.now self.old.home }
+        requires own { whole.program ≡ checked.now }
+        ensures { IsHomeOf checked.now self.new.home }
+    {
+        let _ = checked;
+        self.home.kept.keep(whole);
+    }
+
     /// Whether a ready frame's task is small by those of its thread before it.
     pub(crate) fn is_small(&self, work: &Work) -> bool {
         self.few_turns(work.thread) > 0

@@ -7,7 +7,7 @@ ghost use Rattle.node_runner.specs.Turns.{IsFoundOf};
 use crate::bells::RunBells;
 use crate::config::RunConfig;
 use crate::counts::{Counts, End, Turns};
-use crate::desk::Desk;
+use crate::desk::{Desk, Returned};
 use crate::fates::Fates;
 use crate::gate::Gate;
 use crate::inbox::{Delivered, Inbox};
@@ -146,7 +146,6 @@ pub(crate) fn run_node<'a, R: Wait + Clock, G: Gate + Sync, D: SteadyDisk + Drop
         desk.bells().end();
         return seat;
     };
-    desk.bells().set_place(usize::from(place.index()));
     let mut note = shared.board.note();
     let mut run = NodeRun {
         alloc,
@@ -310,15 +309,20 @@ impl<'r, 's, 'a, G: Gate + Sync, D: SteadyDisk + Drop> NodeRun<'r, 's, 'a, G, D>
     }
 
     /// A frame is carried out of which is known what it comes to: by what came back of it, or as
-    /// `settle_next` does. Whether there was one; none where there was no memory.
+    /// `settle_next` does. A value whose frame was granted to a thief meanwhile is kept: granted
+    /// from node to node and back, a large task is evaluated by none of them twice. Whether
+    /// something was known; none where there was no memory.
     fn carry_out_known<R: Wait>(&mut self, rt: &R) -> Option<bool>
         ensures { self.new ≡ self.old }
     {
         let Some(returned) = self.desk.take(rt, self.shared.chronicle.job().checked()) else {
             return self.settle_next(rt);
         };
-        if !self.carry_out(rt, returned.frame, &returned.found) {
-            return None;
+        let Returned { frame, found } = returned;
+        let told = self.carry_out(rt, frame, &found)?;
+        if let (EventAnswer::Refused(_), Found::Whole(whole)) = (told, found) {
+            self.shared.counts.waste(whole.turns());
+            self.desk.keep(self.shared.chronicle.job().checked(), whole);
         }
         Some(true)
     }
@@ -490,9 +494,7 @@ impl<'r, 's, 'a, G: Gate + Sync, D: SteadyDisk + Drop> NodeRun<'r, 's, 'a, G, D>
         }
         if let Some(whole) = self.desk.value_of(checked, &work) {
             let turns = whole.turns();
-            if !self.carry_out(rt, frame_of(&work), &Found::Whole(whole)) {
-                return None;
-            }
+            self.carry_out(rt, frame_of(&work), &Found::Whole(whole))?;
             self.shared.counts.use_kept(turns);
             return Some(true);
         }
@@ -574,9 +576,7 @@ impl<'r, 's, 'a, G: Gate + Sync, D: SteadyDisk + Drop> NodeRun<'r, 's, 'a, G, D>
             self.shared.counts.end_by(End::Memory);
             return None;
         };
-        if !self.carry_out(rt, frame, &Found::Turn(turn)) {
-            return None;
-        }
+        self.carry_out(rt, frame, &Found::Turn(turn))?;
         Some(true)
     }
 
@@ -599,9 +599,7 @@ impl<'r, 's, 'a, G: Gate + Sync, D: SteadyDisk + Drop> NodeRun<'r, 's, 'a, G, D>
         {
             Ok(whole) => {
                 self.shared.counts.give_back(most - whole.turns());
-                if !self.carry_out(rt, frame, &Found::Whole(whole)) {
-                    return None;
-                }
+                self.carry_out(rt, frame, &Found::Whole(whole))?;
             }
             Err(work) => {
                 self.shared.counts.waste(most);
@@ -612,13 +610,13 @@ impl<'r, 's, 'a, G: Gate + Sync, D: SteadyDisk + Drop> NodeRun<'r, 's, 'a, G, D>
     }
 
     /// A frame of the node is carried out by what was found for it: its turn, or what its task
-    /// gives. Whether there was memory.
-    fn carry_out<R: Wait>(&mut self, rt: &R, frame: FrameOf, found: &Found) -> bool
+    /// gives. What was told of that; none where there was no memory.
+    fn carry_out<R: Wait>(&mut self, rt: &R, frame: FrameOf, found: &Found) -> Option<EventAnswer>
         requires { IsFoundOf self.old.job.program found.now }
         ensures { self.new ≡ self.old }
     {
         let sent = self.shared.chronicle.sent();
-        let Some(continued) = commit_found(
+        let continued = commit_found(
             rt,
             self.alloc,
             self.shared.chronicle,
@@ -628,12 +626,11 @@ impl<'r, 's, 'a, G: Gate + Sync, D: SteadyDisk + Drop> NodeRun<'r, 's, 'a, G, D>
             frame,
             found,
             self.desk.frames(),
-        ) else {
-            return false;
-        };
+        )?;
+        let told = continued.committed.told;
         self.shared.wake_receivers(sent);
         follow_up(&mut self.node, continued);
-        true
+        Some(told)
     }
 
     /// The node asks for work, where somebody is listed. Whether it did; none where there was no

@@ -132,10 +132,9 @@ fn enter_found<'a, R: Wait, D: SteadyDisk + Drop>(
     requires own { IsFoundOf chronicle.now.job.program found.now }
     ensures { IsSeatIn chronicle.entry.now seat.new }
 {
-    match found {
-        Found::Turn(turn) => chronicle.commit_turn(rt, alloc, seat, event, turn, place, besides),
-        Found::Whole(whole) => {
-            chronicle.commit_whole(rt, alloc, seat, event, whole, place, besides)
-        }
-    }
+    let (turn, whole) = match found {
+        Found::Turn(turn) => (Some(turn), None),
+        Found::Whole(whole) => (None, Some(whole)),
+    };
+    chronicle.commit_evaluated(rt, alloc, seat, event, turn, whole, place, besides)
 }
