@@ -183,23 +183,26 @@ impl<'a, D: SteadyDisk + Drop> Chronicle<'a, D> {
         Ok(continued.committed)
     }
 
-    /// As `commit`, with a turn of the job's program that was evaluated before. An Exec uses it
-    /// where it is the ready frame's own, of its thread on its numbers; else it is put aside, and
-    /// the frame's body is evaluated in the step. Right behind it, in the same turn of the lock, a
-    /// ready frame is looked for as by `ready`.
-    pub fn commit_turn<R: Wait>(
+    /// As `commit`, with what was evaluated of the job's program before, if anything was. An Exec
+    /// uses a turn that is the ready frame's own, of its thread on its numbers; and a Whole a task
+    /// that was evaluated whole, of its thread on its numbers, in the room below its place and in
+    /// no more turns. Else it is put aside, and evaluated in the step. Right behind it, in the same
+    /// turn of the lock, a ready frame is looked for as by `ready`.
+    pub fn commit_evaluated<R: Wait>(
         &self,
         rt: &R,
         alloc: Global,
         seat: &mut ActorSeat<'a, D>,
         event: Event,
-        turn: &Done,
+        turn: Option<&Done>,
+        whole: Option<&Whole>,
         place: NodePlace,
         besides: &[FrameOf],
     ) -> Result<Continued, NoMemory>
         requires seat { IsSeatIn self.now seat.old }
         requires owns { actor_number event ≡ seat.old.actor }
-        requires turn { turn.now.program ≡ self.now.job.program }
+        requires turn { IsOfJob self.now.job (option_copied turn) }
+        requires whole { IsWholeOfJob self.now.job (option_copied whole) }
         ensures same { IsSeatIn self.now seat.new × (seat.new.actor ≡ seat.old.actor) }
         ensures entry { IfOk result (λ c. seat.new.entries ≡ seat.old.entries ++ entry event c.committed.told ∷ []) }
         ensures step { IfOk result (λ c. (w : WorldOf) × (o : StepResult) × StepOf self.now.job event w o
@@ -214,41 +217,7 @@ impl<'a, D: SteadyDisk + Drop> Chronicle<'a, D> {
             place,
             besides,
         };
-        self.enter(rt, seat, event, Some(turn), None, Some(&wanted))
-    }
-
-    /// As `commit_turn`, with a task of the job's program that was evaluated whole before. A Whole
-    /// uses it where it is the ready frame's own, of its thread on its numbers, in the room below
-    /// its place and in no more turns; else it is put aside, and the frame's task is evaluated in
-    /// the step.
-    pub fn commit_whole<R: Wait>(
-        &self,
-        rt: &R,
-        alloc: Global,
-        seat: &mut ActorSeat<'a, D>,
-        event: Event,
-        whole: &Whole,
-        place: NodePlace,
-        besides: &[FrameOf],
-    ) -> Result<Continued, NoMemory>
-        requires seat { IsSeatIn self.now seat.old }
-        requires owns { actor_number event ≡ seat.old.actor }
-        requires whole { whole.now.program ≡ self.now.job.program }
-        ensures same { IsSeatIn self.now seat.new × (seat.new.actor ≡ seat.old.actor) }
-        ensures entry { IfOk result (λ c. seat.new.entries ≡ seat.old.entries ++ entry event c.committed.told ∷ []) }
-        ensures step { IfOk result (λ c. (w : WorldOf) × (o : StepResult) × StepOf self.now.job event w o
-            × (c.committed.told ≡ told_of o.answer)) }
-        ensures outcome { IfOk result (λ c. StoredAgree self.now.job self.now.first → (o : Outcome)
-            → outcome_told c.committed.told ≡ Some o → o ≡ meaning_of self.now.job) }
-        ensures fits { IfOk result (λ c. IfSome c.next (λ w. Takes self.now.job.program w.thread (length w.numbers))) }
-        ensures err { OnErr result (seat.new ≡ seat.old) }
-    {
-        let wanted = Wanted {
-            alloc,
-            place,
-            besides,
-        };
-        self.enter(rt, seat, event, None, Some(whole), Some(&wanted))
+        self.enter(rt, seat, event, turn, whole, Some(&wanted))
     }
 
     /// The first packet from the one of a number on that is addressed to a receiver comes to the

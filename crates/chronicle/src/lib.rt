@@ -17,27 +17,27 @@
 //! which that run leads; `finish` gives the disk of that world. Once an event found no memory (E9),
 //! each later one does, the history stays, and the world differs at most in that a clearinghouse
 //! that was to answer is stopped. `Kept::enter` adds exactly its event, with the answer of a step
-//! from the world that was kept; by `commit` and `commit_turn` this entry becomes the seat's next
-//! one, or on E9 nothing of the seat changes. The trace of `finish` has of each actor just the
+//! from the world that was kept; by `commit` and `commit_evaluated` this entry becomes the seat's
+//! next one, or on E9 nothing of the seat changes. The trace of `finish` has of each actor just the
 //! entries of its seat, in their order, and no others; it is the history of a run. Where what is
 //! saved on the first disk agrees, as it does on one that was formatted for the job, an outcome
 //! that is told is the job's meaning, and all is promised of this run that `run_laws` promises: no
 //! slot is filled twice, each value is the serial program's, no grant has two live holders, an
 //! outcome stays. The script of a trace is read again as just its events, so that whoever has it
-//! can replay the run. What `ready` and `commit_turn` hand out fits the program, so that its turn
-//! can be evaluated with no further test.
+//! can replay the run. What `ready` and `commit_evaluated` hand out fits the program, so that its
+//! turn can be evaluated with no further test.
 //!
 //! A chronicle may be shared by threads, and a seat may go to another one (`proofs/Crossing`).
 //!
 //! **Shown by runs alone**: that `new` and a commit succeed while there is memory, and that
-//! `ready`, `commit_turn`, `packet_for` and `commit_delivery` find what is there.
+//! `ready`, `commit_evaluated`, `packet_for` and `commit_delivery` find what is there.
 //!
 //! **Not promised**: that a commit ever gets its turn, and in which order actors do, beyond each
-//! actor's own; of `ready`, `packet_for`, `sent` and `sent_to`, and of a frame that `commit_turn`
-//! hands out, which are hints, that they tell what the world has, by the time that somebody acts on
-//! it. That a commit's step is one from the world that it found under the lock is said by
-//! `Kept::enter`, and of the trace as a whole; the clause of `commit` itself can't name what a lock
-//! held.
+//! actor's own; of `ready`, `packet_for`, `sent` and `sent_to`, and of a frame that
+//! `commit_evaluated` hands out, which are hints, that they tell what the world has, by the time
+//! that somebody acts on it. That a commit's step is one from the world that it found under the
+//! lock is said by `Kept::enter`, and of the trace as a whole; the clause of `commit` itself can't
+//! name what a lock held.
 #![tactic(auto)]
 
 mod beginning;

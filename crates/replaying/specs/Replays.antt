@@ -41,11 +41,15 @@ pub record IsNamedReplay (job : JobOf) (text : List ℕ) (r : Replayed) : Type 0
   pub replay : IsReplayOf job text r
   pub named : AreNamed (names_in text) replay.on.world.net
 
+-- all lines of a script are events'
+abbrev pub AreEvents : List ℕ → Type 0
+AreEvents text = (events : List Event) × (script text ≡ Ok events)
+
 -- what a refusal of a script says: its first line that isn't an event's; or all lines are events',
 -- and one or the first world found no memory
 abbrev pub IsScriptRefusal : List ℕ → ReplayFault → Type 0
 IsScriptRefusal text (fault.Line l) = script text ≡ Err l
-IsScriptRefusal text fault.Memory = (events : List Event) × (script text ≡ Ok events)
+IsScriptRefusal text fault.Memory = AreEvents text
 IsScriptRefusal text (fault.Packet number) = ⊥
 IsScriptRefusal text fault.File = ⊥
 IsScriptRefusal text (fault.Job e) = ⊥
@@ -54,7 +58,7 @@ IsScriptRefusal text (fault.Job e) = ⊥
 abbrev pub IsNamedRefusal : List ℕ → ReplayFault → Type 0
 IsNamedRefusal text (fault.Line l) = script text ≡ Err l
 IsNamedRefusal text fault.Memory = Unit {0}
-IsNamedRefusal text (fault.Packet number) = (events : List Event) × (script text ≡ Ok events)
+IsNamedRefusal text (fault.Packet number) = AreEvents text
 IsNamedRefusal text fault.File = ⊥
 IsNamedRefusal text (fault.Job e) = ⊥
 
@@ -62,7 +66,7 @@ IsNamedRefusal text (fault.Job e) = ⊥
 abbrev pub IsToldRefusal : List ℕ → ReplayFault → Type 0
 IsToldRefusal text (fault.Line l) = script text ≡ Err l
 IsToldRefusal text fault.Memory = Unit {0}
-IsToldRefusal text (fault.Packet number) = (events : List Event) × (script text ≡ Ok events)
+IsToldRefusal text (fault.Packet number) = AreEvents text
 IsToldRefusal text fault.File = Unit {0}
 IsToldRefusal text (fault.Job e) = ⊥
 
@@ -87,6 +91,6 @@ pub record IsNamedFiles (input : List ℤ) (number : ℕ) (r : Replayed) : Type 
 abbrev pub IsFilesRefusal : List ℤ → ReplayFault → Type 0
 IsFilesRefusal input (fault.Job e) = (text : List ℕ) × IsRefusal text input e
 IsFilesRefusal input (fault.Line l) = (text : List ℕ) × (script text ≡ Err l)
-IsFilesRefusal input (fault.Packet number) = (text : List ℕ) × (events : List Event) × (script text ≡ Ok events)
+IsFilesRefusal input (fault.Packet number) = (text : List ℕ) × AreEvents text
 IsFilesRefusal input fault.Memory = Unit {0}
 IsFilesRefusal input fault.File = Unit {0}

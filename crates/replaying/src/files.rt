@@ -2,9 +2,8 @@ ghost use Rattle.std.specs.Prelude.{◌≡◌, IfErr, IfOk, true};
 ghost use Rattle.replaying.specs.Replays.{IsFilesRefusal, IsFilesReplay, IsNamedFiles, IsNamedReplay, IsReplayOf, IsToldRefusal};
 
 use crate::fault::ReplayFault;
-use crate::naming::replay_asked;
 use crate::noting::replay_shown;
-use crate::replayed::{Replayed, replay_script};
+use crate::replayed::{Replayed, replay_asked, replay_script};
 use crate::words::ReplayWords;
 use event_words::Narrator;
 use jobs::{bytes_within, job_of, text_bytes};

@@ -1,13 +1,14 @@
 //! Replays whose packets are compared with the names that a script tells.
-ghost use Rattle.std.specs.Prelude.{◌≡◌, IfErr, IfOk, None, true};
-ghost use Rattle.replaying.specs.Replays.{AreNamed, IsNamedAt, IsNamedRefusal, IsNamedReplay, IsReplayOf};
+ghost use Rattle.std.specs.Prelude.{◌≡◌, IfErr, IfOk, IsOk, None, OnOk, false, true};
+ghost use Rattle.traces.specs.Names.{names_in};
+ghost use Rattle.replaying.specs.Replays.{AreEvents, AreNamed, IsNamedAt, IsNamedRefusal, IsNamedReplay};
 
 use crate::fault::ReplayFault;
-use crate::replayed::{Replayed, replay_script};
+use crate::replayed::{Replayed, replay_asked};
 use serial_meaning::Job;
 use std::alloc::Global;
 use traces::{PacketName, names_in};
-use world::{RunEnd, Watch, World, replay_watched};
+use world::{Watch, World};
 
 /// Replays a script on a job as `replay_script` does, and compares the names of the packets that
 /// are sent with those that the script tells in its comments: they are the same, all of them and in
@@ -21,46 +22,30 @@ pub fn replay_named<W: Watch>(
     ensures run { IfOk result (λ r. IsNamedReplay job.now script.now r) }
     ensures refused { IfErr result (IsNamedRefusal script.now) }
 {
-    let RunEnd {
-        world,
-        done,
-        stopped,
-    } = replay_watched(alloc, job, script, watch)?;
-    if stopped.is_some() {
-        return Err(ReplayFault::Memory);
-    }
-    let Ok(names) = names_in(alloc, script) else {
-        return Err(ReplayFault::Memory);
-    };
-    if let Some(number) = misnamed(&world, names.as_slice()) {
-        return Err(ReplayFault::Packet(number));
-    }
-    Ok(Replayed {
-        events: done,
-        packets: world.packets(),
-        fills: world.fills(),
-        outcome: world.outcome(),
-        counts: *world.counts(),
-    })
+    replay_asked(alloc, job, script, true, watch)
 }
 
-/// Replays a script on a job as `replay_script` does, or as `replay_named` does where names are to
-/// be compared.
-pub(crate) fn replay_asked<W: Watch>(
+/// Compares the names of a world's packets with those that a script of events tells, if they are to
+/// be compared. Refused by the first packet that has another name, or none, and by want of memory.
+pub(crate) fn compare_names(
     alloc: Global,
-    job: &Job,
+    world: &World<'_>,
     script: &[u8],
     names: bool,
-    watch: &mut W,
-) -> Result<Replayed, ReplayFault>
-    ensures run { IfOk result (IsReplayOf job.now script.now) }
-    ensures named { names ≡ true → IfOk result (IsNamedReplay job.now script.now) }
-    ensures refused { IfErr result (IsNamedRefusal script.now) }
+) -> Result<(), ReplayFault>
+    ensures named { names ≡ true → OnOk result (AreNamed (names_in script.now) world.now.world.net) }
+    ensures refused { AreEvents script.now → IfErr result (IsNamedRefusal script.now) }
+    ensures unnamed { names ≡ false → IsOk result }
 {
-    if names {
-        replay_named(alloc, job, script, watch)
-    } else {
-        replay_script(alloc, job, script, watch)
+    if !names {
+        return Ok(());
+    }
+    let Ok(told) = names_in(alloc, script) else {
+        return Err(ReplayFault::Memory);
+    };
+    match misnamed(world, told.as_slice()) {
+        Some(number) => Err(ReplayFault::Packet(number)),
+        None => Ok(()),
     }
 }
 

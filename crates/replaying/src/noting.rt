@@ -3,8 +3,7 @@ ghost use Rattle.std.specs.Prelude.{◌≡◌, IfErr, IfOk, true};
 ghost use Rattle.replaying.specs.Replays.{IsNamedRefusal, IsNamedReplay, IsReplayOf};
 
 use crate::fault::ReplayFault;
-use crate::naming::replay_asked;
-use crate::replayed::Replayed;
+use crate::replayed::{Replayed, replay_asked};
 use event_script::Event;
 use progress::{RunProgress, tell};
 use serial_meaning::Job;

@@ -1,7 +1,8 @@
-ghost use Rattle.std.specs.Prelude.{IfErr, IfOk};
-ghost use Rattle.replaying.specs.Replays.{IsReplayOf, IsScriptRefusal};
+ghost use Rattle.std.specs.Prelude.{◌≡◌, false, true, IfErr, IfOk};
+ghost use Rattle.replaying.specs.Replays.{IsNamedRefusal, IsNamedReplay, IsReplayOf, IsScriptRefusal};
 
 use crate::fault::ReplayFault;
+use crate::naming::compare_names;
 use serial_meaning::{Job, Outcome};
 use std::alloc::Global;
 use std::io::{self, Write};
@@ -31,6 +32,23 @@ pub fn replay_script<W: Watch>(
     ensures run { IfOk result (λ r. IsReplayOf job.now script.now r) }
     ensures refused { IfErr result (IsScriptRefusal script.now) }
 {
+    replay_asked(alloc, job, script, false, watch)
+}
+
+/// Replays a script on a job as `replay_script` does, or as `replay_named` does where names are to
+/// be compared.
+pub(crate) fn replay_asked<W: Watch>(
+    alloc: Global,
+    job: &Job,
+    script: &[u8],
+    names: bool,
+    watch: &mut W,
+) -> Result<Replayed, ReplayFault>
+    ensures run { IfOk result (IsReplayOf job.now script.now) }
+    ensures named { names ≡ true → IfOk result (IsNamedReplay job.now script.now) }
+    ensures refused { IfErr result (IsNamedRefusal script.now) }
+    ensures unnamed { names ≡ false → IfErr result (IsScriptRefusal script.now) }
+{
     let RunEnd {
         world,
         done,
@@ -38,6 +56,9 @@ pub fn replay_script<W: Watch>(
     } = replay_watched(alloc, job, script, watch)?;
     if stopped.is_some() {
         return Err(ReplayFault::Memory);
+    }
+    if let Err(fault) = compare_names(alloc, &world, script, names) {
+        return Err(fault);
     }
     Ok(Replayed {
         events: done,

@@ -1,6 +1,8 @@
 use Rattle.std.proofs.Common.{◌≡◌, false, is_some, rules}
+use Rattle.replaying.specs.Replays.{IsReplayOf}
+use Rattle.replaying.specs.declared.replayed.Replayed.{Replayed}
 use Rattle.replaying.proofs.Whole.{none_is, whole}
-use Rattle.replaying.proofs.replayed.replay_script.Goals as goal
+use Rattle.replaying.proofs.replayed.replay_asked.Goals as goal
 
 pub returns-clause-run : goal.returns-clause-run
 returns-clause-run g c =
@@ -16,3 +18,10 @@ returns-clause-run g c =
       fills = search rules;
       outcome = search rules;
     }
+
+pub returns-clause-named : goal.returns-clause-named
+unfolding returns-clause-run
+returns-clause-named g c = λ is. record {
+  replay = returns-clause-run g c;
+  named = c.in_default.ensures.named is;
+}
