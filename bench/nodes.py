@@ -63,8 +63,8 @@ def tree(operations):
 
 
 def idle(folder):
-    """How many processors are busy while one frame is ready at a time."""
-    print("\n| one frame is ready at a time | each second body | microseconds a turn | processors busy |\n|---|---|---|---|")
+    """How many processors are busy while one frame is ready at a time, turn by turn and where tasks are evaluated whole."""
+    print("\n| one frame is ready at a time | each second body | microseconds a turn | processors busy | the same, tasks whole | |\n|---|---|---|---|---|---|")
     for operations, depth in (0, 15), (2_000, 13), (12_000, 11):
         text = f"{folder}/chain"
         with open(text, "w", encoding="utf-8") as out:
@@ -72,9 +72,10 @@ def idle(folder):
         turns = turns_of(depth)
         few, many = (timed(PROGRAM, "serial", text, str(it)) for it in (0, depth))
         body = 2 * (many[1] - few[1]) / turns
-        for name, words in (("8 nodes", ["--nodes", "8"]), ("8 body workers of one node", ["--bodies", "8"]), ("one node", [])):
-            took = timed(PROGRAM, "run", text, *words, "--trace", os.devnull, str(depth))
-            print(f"| {name} | {body * 1e6:.1f} us | {took[0] / turns * 1e6:.1f} | {took[1] / took[0]:.2f} |")
+        for name, words in (("8 nodes", ["--nodes", "8"]), ("8 body workers of one node", ["--bodies", "8"]), ("one node", ["--nodes", "1"])):
+            took = [timed(PROGRAM, "run", text, *words, *grain, str(depth)) for grain in (("--grain", "0"), ())]
+            told = " | ".join(f"{it[0] / turns * 1e6:.1f} | {it[1] / it[0]:.2f}" for it in took)
+            print(f"| {name} | {body * 1e6:.1f} us | {told} |")
 
 
 def shared(folder):

@@ -120,7 +120,7 @@ def openmp(folder):
         first = None
         for threads in 1, 2, 3, 4:
             took = timed(program, "36", cut, env={**os.environ, "OMP_NUM_THREADS": str(threads)})
-            first = first or took[0]
+            first = first or took
             print(f"| {name} | {threads} | {took * 1e3:.0f} | {first / took:.2f} |", flush=True)
 
 

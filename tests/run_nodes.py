@@ -407,6 +407,23 @@ def kept_values(folder):
             tell(is_whole or int(told.get("values kept and used", 0)) > 0, f"kept, {name}: no value that was kept is used")
 
 
+def asked_for(folder):
+    """Nodes that ask for tasks while these are evaluated: few turns are evaluated more than once."""
+    lets = "let a0=n;" + "".join(f"let a{it + 1}=a{it}" + "+3*n-5" * 20 + ";" for it in range(20))
+    file = f"{folder}/chain.ck"
+    with open(file, "w") as out:
+        out.write(f"thread main(k,n){{{lets}if n<1{{send_argument(k,0*a20);}}else{{spawn_next second(k,n-1,?x);spawn main(x,n-1);}}}}"
+                  "thread second(k,n,x){spawn_next done(k,?y);spawn main(y,n+0*x);}thread done(k,y){send_argument(k,y);}")
+    for name, program, most, word, value in ("a chain of heavy bodies", file, 1.5, "10", 0), ("fib", FIB, 2, "23", 28657):
+        _, _, err = called(PROGRAM, "serial", program, "--stats", word)
+        needed = int(re.search(r"^turns (\d+)$", err, re.M).group(1))
+        for _ in range(5):
+            status, out, err = called(PROGRAM, "run", program, "--nodes", "4", "--turns", TURNS, "--stats", word)
+            told = dict(line.rsplit(" ", 1) for line in err.splitlines())
+            taken = sum(int(told.get(it, 0)) for it in ("turns", "turns in them", "turns evaluated in vain"))
+            tell((status, out) == (0, f"value {value}\n") and taken <= most * needed, f"asked for, {name}: {status} {out}, {taken} turns for {needed}")
+
+
 def deep(folder):
     """Tasks nearly as deep as may be, and deeper, are evaluated whole where each thread has 512 KiB of stack."""
     file = f"{folder}/deep.ck"
@@ -545,6 +562,7 @@ with tempfile.TemporaryDirectory() as folder:
     shares(folder)
     wholes(folder)
     kept_values(folder)
+    asked_for(folder)
     deep(folder)
     fates(folder)
     few_threads(folder)

@@ -129,6 +129,11 @@ impl Desk {
         self.tickets.len() >= self.workers
     }
 
+    /// Whether each worker has something to do, and no ticket waits for one.
+    pub(crate) fn has_begun_all(&self) -> bool {
+        self.tickets.len() == self.workers
+    }
+
     /// Whether no more tickets may be out.
     pub(crate) fn is_full(&self) -> bool {
         self.tickets.len() >= self.most_tickets

@@ -235,6 +235,9 @@ impl<'r, 's, 'a, G: Gate + Sync, D: SteadyDisk + Drop> NodeRun<'r, 's, 'a, G, D>
             return Some(true);
         }
         self.node.known = 0;
+        if self.keeps_packets_waiting() {
+            return Some(false);
+        }
         if self.take_next(rt)? {
             return Some(true);
         }
@@ -255,6 +258,17 @@ impl<'r, 's, 'a, G: Gate + Sync, D: SteadyDisk + Drop> NodeRun<'r, 's, 'a, G, D>
             return Some(true);
         }
         self.ask(rt)
+    }
+
+    /// Whether packets wait until a body worker is done: in a run of several nodes each ready frame
+    /// is with a worker, which evaluates its task whole, and a thief that asks for one would do the
+    /// same once more.
+    fn keeps_packets_waiting(&self) -> bool {
+        self.shared.config.grain() > 0
+            && self.shared.config.nodes() > 1
+            && self.desk.has_begun_all()
+            && !self.node.may_be_ready
+            && self.node.next.is_none()
     }
 
     /// The next packet comes to the node, if there is one. Whether one did; none where there was no
