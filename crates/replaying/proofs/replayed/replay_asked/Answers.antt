@@ -1,6 +1,4 @@
 use Rattle.std.proofs.Common.{◌≡◌, false, is_some, rules}
-use Rattle.replaying.specs.Replays.{IsReplayOf}
-use Rattle.replaying.specs.declared.replayed.Replayed.{Replayed}
 use Rattle.replaying.proofs.Whole.{none_is, whole}
 use Rattle.replaying.proofs.replayed.replay_asked.Goals as goal
 
