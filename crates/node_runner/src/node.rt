@@ -224,8 +224,8 @@ impl<'r, 's, 'a, G: Gate + Sync, D: SteadyDisk + Drop> NodeRun<'r, 's, 'a, G, D>
     /// The next packet comes, or else a frame is carried out of which is known what it comes to, or
     /// a ready one is offered to the body workers, or the node asks. Where tasks are evaluated
     /// whole what is known goes before the packets, some times in a row at most, so that no thief
-    /// is granted what is evaluated already. Whether one of these was done; none where there was no
-    /// memory.
+    /// is granted what is evaluated already; and packets wait while all that is ready is evaluated.
+    /// Whether one of these was done; none where there was no memory.
     fn go_on<R: Wait + Clock>(&mut self, rt: &R) -> Option<bool>
         ensures { self.new ≡ self.old }
     {
@@ -323,9 +323,9 @@ impl<'r, 's, 'a, G: Gate + Sync, D: SteadyDisk + Drop> NodeRun<'r, 's, 'a, G, D>
     }
 
     /// A frame is carried out of which is known what it comes to: by what came back of it, or as
-    /// `settle_next` does. A value whose frame was granted to a thief meanwhile is kept: granted
-    /// from node to node and back, a large task is evaluated by none of them twice. Whether
-    /// something was known; none where there was no memory.
+    /// `settle_next` does. A value whose frame was granted to a thief meanwhile is kept, as others
+    /// are, for the case that the frame comes back. Whether something was known; none where there
+    /// was no memory.
     fn carry_out_known<R: Wait>(&mut self, rt: &R) -> Option<bool>
         ensures { self.new ≡ self.old }
     {
