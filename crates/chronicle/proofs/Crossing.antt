@@ -52,7 +52,7 @@ use Rattle.world_steps.proofs.parts.Word.TheSendSync as word
 use Rattle.ids.proofs.listed.Listed.TheSendSync as listed
 use Rattle.serial_meaning.specs.contracts.instr.Instr as Instr
 use Rattle.serial_meaning.specs.contracts.instr.Source as Source
-use Rattle.serial_meaning.specs.contracts.whole.Flat as Flat
+use Rattle.serial_meaning.specs.contracts.flat.Flat as Flat
 use Rattle.serial_meaning.proofs.Crossing.{job}
 
 -- a node, and a world

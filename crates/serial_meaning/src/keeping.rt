@@ -33,29 +33,6 @@ pub fn double(stack: &mut Vec<i64>, start: usize) -> Result<usize, AllocError>
     Ok(end)
 }
 
-/// A kid gave a number: it is kept, and its numbers go.
-pub fn kid_done(
-    keeper: &mut Keeper,
-    checked: &Checked,
-    mark: Mark,
-    thread: u8,
-    room: u16,
-    stack: &mut Vec<i64>,
-    start: usize,
-    turns: u64,
-    value: i64,
-)
-    requires same { keeper.old ≡ checked.now }
-    requires inside { start ≤ vec_len stack.old }
-    requires gives { serial checked.now room thread (drop start stack.old.items) ≡ Some value }
-    requires takes { serial_turns checked.now room thread (drop start stack.old.items) ≡ turns }
-    ensures program { keeper.new ≡ checked.now }
-    ensures stack { stack.new.items ≡ take start stack.old.items }
-{
-    keeper.keeps(checked, mark, thread, room, &stack[start..], turns, value);
-    stack.truncate(start);
-}
-
 /// How many turns a task takes at least that is kept.
 pub const LEAST_KEPT: u64 = 128;
 

@@ -3,6 +3,7 @@
 
 mod compile;
 mod counting;
+mod flat;
 mod instr;
 mod job;
 mod keeping;
@@ -14,6 +15,7 @@ mod sources;
 mod whole;
 
 pub use counting::{CountsTurns, TurnCounts, Uncounted};
+pub use flat::Flat;
 pub use ids::Outcome;
 pub use job::{Job, JobError};
 pub use keeping::{ALL_LEVELS, Keeper, UnderWay};
@@ -23,4 +25,4 @@ pub use laws::{
     too_deep_anywhere_is_too_deep,
 };
 pub use meaning::{SerialError, serial, serial_counted};
-pub use whole::{Flat, Unfinished, Whole};
+pub use whole::{Unfinished, Whole};
