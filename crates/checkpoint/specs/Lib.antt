@@ -1,5 +1,6 @@
 pub mod Calls
 pub mod Commit
+pub mod Committing
 pub mod Errors
 pub mod Format
 pub mod Found

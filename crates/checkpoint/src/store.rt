@@ -1,10 +1,10 @@
-ghost use Rattle.std.specs.Prelude.{◌≡◌, ◌≢◌, ◌⊎◌, ◌↔◌, ◌+◌, ◌++◌, true, false, if◌then◌else◌, List, ℕ, length, IsTrue, IsErrOf, OnOk, OnErr, IfOk, IfErr};
+ghost use Rattle.std.specs.Prelude.{◌≡◌, ◌≢◌, ◌⊎◌, ◌+◌, ◌++◌, false, if◌then◌else◌, List, ℕ, length, IsTrue, IfOk, IfErr};
 ghost use Rattle.disk.specs.Device.{armed};
 ghost use Rattle.disk.specs.File.{bytes_of};
 ghost use Rattle.checkpoint.specs.Calls.{DeviceCall, Passed, Stopped};
-ghost use Rattle.checkpoint.specs.Commit.{IsCommit, IsOpening, next_of, opening, with_saved};
-ghost use Rattle.checkpoint.specs.Moments.{KeepsOldOr};
-ghost use Rattle.checkpoint.specs.Store.{IsRefused, IsSpent, KeepsContent, KeepsItself, KeepsRecord, ReadsAsStore};
+ghost use Rattle.checkpoint.specs.Commit.{IsOpening, next_of, opening, with_saved};
+ghost use Rattle.checkpoint.specs.Committing.{Commits, Opens};
+ghost use Rattle.checkpoint.specs.Store.{IsRefused, KeepsContent, KeepsItself, KeepsRecord, ReadsAsStore};
 ghost use Rattle.checkpoint.specs.declared.record.CheckpointRecord.{CheckpointRecord as StoredRecord};
 
 use crate::body::spell;
@@ -209,30 +209,7 @@ impl<D: Disk> Store<D> {
     /// version; E71 for one that is no store; E70 for another job; E62 where the sequence of one of
     /// the older form is spent; E72.
     pub fn open(alloc: Global, disk: D, job: u64) -> Result<Store<D>, (StoreError, D)>
-        ensures opened { IfOk result (λ s. (s.ended ≡ false)
-            × ReadsAsStore (bytes_of (D.device s.disk).file) s.sequence s.record × (s.record.job ≡ job)) }
-        ensures calls { IfOk result (λ s. (n : ℕ) × (calls : List DeviceCall)
-            × IsOpening (bytes_of (D.device disk).file) n s.record s.sequence calls
-            × Passed calls (D.planned disk) (D.device disk) (D.device s.disk)
-            × ((i : ℕ) → D.planned s.disk i ≡ D.planned disk (i + length calls))) }
-
-        // Where whatever a crash leaves has one current record, that is the store's, and it stays
-        // so.
-        ensures kept { IfOk result (λ s. (n : ℕ) (r : StoredRecord) → KeepsRecord (D.device disk).file n r
-            → KeepsItself D.device s × (s.record ≡ r)) }
-        ensures kept_back { IfErr result (λ e. (n : ℕ) (r : StoredRecord) → KeepsRecord (D.device disk).file n r
-            → KeepsContent (D.device e.1).file r) }
-        ensures alone { IfErr result (λ e. (n : ℕ) (r : StoredRecord)
-            → ReadsAsStore (bytes_of (D.device disk).file) n r → r.job ≡ job
-            → (e.0 ≡ StoreError.Device) ⊎ (e.0 ≡ StoreError.Spent)) }
-        ensures refused { IfErr result (λ e. e.0 ≢ StoreError.Device
-            → IsRefused e.0 (bytes_of (D.device disk).file) job
-            × Passed opening (D.planned disk) (D.device disk) (D.device e.1)) }
-        ensures stopped { IfErr result (λ e. e.0 ≡ StoreError.Device
-            → Stopped opening (D.planned disk) (D.device disk) (D.device e.1)
-            ⊎ ((n m : ℕ) × (r : StoredRecord) × (calls : List DeviceCall)
-            × IsOpening (bytes_of (D.device disk).file) n r m calls
-            × Stopped calls (D.planned disk) (D.device disk) (D.device e.1))) }
+        ensures { Opens D.device D.planned job disk result }
     {
         match Store::look(alloc, disk, job) {
             Ok(looked) => looked.open(),
@@ -244,36 +221,7 @@ impl<D: Disk> Store<D> {
     /// one of them fails, which ends the store, and in a store that has ended; E62 where the
     /// sequence is spent.
     pub fn commit(&mut self, epoch: LastEpoch, outcome: Option<Outcome>) -> Result<(), StoreError>
-        ensures ok { OnOk result (let next = next_of self.old.record epoch outcome in
-            self.new ≡ record {
-              disk = self.new.disk;
-              «record» = next;
-              sequence = self.old.sequence + 1;
-              ended = false;
-            }) }
-        ensures calls { OnOk result (let next = next_of self.old.record epoch outcome in (calls : List DeviceCall)
-            × IsCommit (bytes_of (D.device self.old.disk).file) self.old.sequence self.old.record next calls
-            × Passed calls (D.planned self.old.disk) (D.device self.old.disk) (D.device self.new.disk)) }
-        ensures plan { OnOk result ((i : ℕ) → D.planned self.new.disk i ≡ D.planned self.old.disk (i + 6)) }
-        ensures refused { OnErr result (IsErrOf result StoreError.Spent ⊎ IsErrOf result StoreError.Device) }
-        ensures spent { IsErrOf result StoreError.Spent ↔ IsSpent self.old }
-        ensures unchanged { IsErrOf result StoreError.Spent → self.new ≡ self.old }
-        ensures ended { self.old.ended ≡ true → IsErrOf result StoreError.Device × (self.new ≡ self.old) }
-        ensures ends { IsErrOf result StoreError.Device → self.new ≡ record self.old {
-          disk = self.new.disk;
-          ended = true;
-        } }
-        ensures can_cut { (D.device self.new.disk).can_cut ≡ (D.device self.old.disk).can_cut }
-        ensures stopped { IsErrOf result StoreError.Device → self.old.ended ≡ false
-            → (let next = next_of self.old.record epoch outcome in (calls : List DeviceCall)
-            × IsCommit (bytes_of (D.device self.old.disk).file) self.old.sequence self.old.record next calls
-            × Stopped calls (D.planned self.old.disk) (D.device self.old.disk) (D.device self.new.disk)) }
-
-        // Where whatever a crash leaves has the current record: then it has the new one, or at any
-        // moment that one or the new one.
-        ensures kept { KeepsItself D.device self.old → OnOk result (KeepsItself D.device self.new) }
-        ensures either { KeepsItself D.device self.old
-            → KeepsOldOr D.device (next_of self.old.record epoch outcome) self.old self.new }
+        ensures { Commits D.device D.planned (next_of self.old.record epoch outcome) result self.old self.new }
     {
         let saved = self.current.saved.copied();
         self.put(epoch, outcome, saved)
@@ -281,36 +229,7 @@ impl<D: Disk> Store<D> {
 
     /// Commits other values that are saved; the epoch and the outcome stay. Refused as `commit` is.
     pub fn save(&mut self, saved: SavedTable) -> Result<(), StoreError>
-        ensures ok { OnOk result (let next = with_saved self.old.record saved in
-            self.new ≡ record {
-              disk = self.new.disk;
-              «record» = next;
-              sequence = self.old.sequence + 1;
-              ended = false;
-            }) }
-        ensures calls { OnOk result (let next = with_saved self.old.record saved in (calls : List DeviceCall)
-            × IsCommit (bytes_of (D.device self.old.disk).file) self.old.sequence self.old.record next calls
-            × Passed calls (D.planned self.old.disk) (D.device self.old.disk) (D.device self.new.disk)) }
-        ensures plan { OnOk result ((i : ℕ) → D.planned self.new.disk i ≡ D.planned self.old.disk (i + 6)) }
-        ensures refused { OnErr result (IsErrOf result StoreError.Spent ⊎ IsErrOf result StoreError.Device) }
-        ensures spent { IsErrOf result StoreError.Spent ↔ IsSpent self.old }
-        ensures unchanged { IsErrOf result StoreError.Spent → self.new ≡ self.old }
-        ensures ended { self.old.ended ≡ true → IsErrOf result StoreError.Device × (self.new ≡ self.old) }
-        ensures ends { IsErrOf result StoreError.Device → self.new ≡ record self.old {
-          disk = self.new.disk;
-          ended = true;
-        } }
-        ensures can_cut { (D.device self.new.disk).can_cut ≡ (D.device self.old.disk).can_cut }
-        ensures stopped { IsErrOf result StoreError.Device → self.old.ended ≡ false
-            → (let next = with_saved self.old.record saved in (calls : List DeviceCall)
-            × IsCommit (bytes_of (D.device self.old.disk).file) self.old.sequence self.old.record next calls
-            × Stopped calls (D.planned self.old.disk) (D.device self.old.disk) (D.device self.new.disk)) }
-
-        // Where whatever a crash leaves has the current record: then it has the new one, or at any
-        // moment that one or the new one.
-        ensures kept { KeepsItself D.device self.old → OnOk result (KeepsItself D.device self.new) }
-        ensures either { KeepsItself D.device self.old
-            → KeepsOldOr D.device (with_saved self.old.record saved) self.old self.new }
+        ensures { Commits D.device D.planned (with_saved self.old.record saved) result self.old self.new }
     {
         let (epoch, outcome) = (self.current.epoch, self.current.outcome);
         self.put(epoch, outcome, saved)
@@ -323,36 +242,8 @@ impl<D: Disk> Store<D> {
         outcome: Option<Outcome>,
         saved: SavedTable,
     ) -> Result<(), StoreError>
-        ensures ok { OnOk result (let next = with_saved (next_of self.old.record epoch outcome) saved in
-            self.new ≡ record {
-              disk = self.new.disk;
-              «record» = next;
-              sequence = self.old.sequence + 1;
-              ended = false;
-            }) }
-        ensures calls { OnOk result (let next = with_saved (next_of self.old.record epoch outcome) saved in (calls : List DeviceCall)
-            × IsCommit (bytes_of (D.device self.old.disk).file) self.old.sequence self.old.record next calls
-            × Passed calls (D.planned self.old.disk) (D.device self.old.disk) (D.device self.new.disk)) }
-        ensures plan { OnOk result ((i : ℕ) → D.planned self.new.disk i ≡ D.planned self.old.disk (i + 6)) }
-        ensures refused { OnErr result (IsErrOf result StoreError.Spent ⊎ IsErrOf result StoreError.Device) }
-        ensures spent { IsErrOf result StoreError.Spent ↔ IsSpent self.old }
-        ensures unchanged { IsErrOf result StoreError.Spent → self.new ≡ self.old }
-        ensures ended { self.old.ended ≡ true → IsErrOf result StoreError.Device × (self.new ≡ self.old) }
-        ensures ends { IsErrOf result StoreError.Device → self.new ≡ record self.old {
-          disk = self.new.disk;
-          ended = true;
-        } }
-        ensures can_cut { (D.device self.new.disk).can_cut ≡ (D.device self.old.disk).can_cut }
-        ensures stopped { IsErrOf result StoreError.Device → self.old.ended ≡ false
-            → (let next = with_saved (next_of self.old.record epoch outcome) saved in (calls : List DeviceCall)
-            × IsCommit (bytes_of (D.device self.old.disk).file) self.old.sequence self.old.record next calls
-            × Stopped calls (D.planned self.old.disk) (D.device self.old.disk) (D.device self.new.disk)) }
-
-        // Where whatever a crash leaves has the current record: then it has the new one, or at any
-        // moment that one or the new one.
-        ensures kept { KeepsItself D.device self.old → OnOk result (KeepsItself D.device self.new) }
-        ensures either { KeepsItself D.device self.old
-            → KeepsOldOr D.device (with_saved (next_of self.old.record epoch outcome) saved) self.old self.new }
+        ensures { Commits D.device D.planned (with_saved (next_of self.old.record epoch outcome) saved)
+            result self.old self.new }
     {
         if self.ended {
             return Err(StoreError::Device);
