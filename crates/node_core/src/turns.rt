@@ -17,6 +17,32 @@ use node_state::State;
 use std::alloc::Global;
 use sub_rules::{is_stale, law_turn_is_few};
 
+/// The work of a ready frame of a grant's subcomputation, as a call of a node begins that evaluates
+/// it. Where there is none that call is refused: by E60 where the node isn't joined or has ended,
+/// by E40 where the frame isn't ready here, as none is at a leaving node, and by E63 where there is
+/// no memory.
+macro_rules! ready_work {
+    ($node:ident, $alloc:ident, $grant:ident, $frame:ident) => {{
+        match $node.parts.state() {
+            State::Member(_) => {}
+            State::Leaving(_, _) => return Err(NodeError::Stale),
+            State::Joining | State::Ended => return Err(NodeError::NotJoined),
+        }
+        let Some(sub) = $node.parts.sub($grant) else {
+            return Err(NodeError::Stale);
+        };
+        if !sub.is_ready($frame) {
+            return Err(NodeError::Stale);
+        }
+        let Some(work) = work_in($alloc, $grant, sub, $frame)? else {
+            return Err(NodeError::Stale);
+        };
+        work
+    }};
+}
+
+pub(crate) use ready_work;
+
 impl<'a> Node<'a> {
     /// Carries out a ready frame of a grant's subcomputation by the end to which that thread comes
     /// on these numbers, whoever found it. E60 where the node isn't joined or has ended; E40 where
@@ -97,22 +123,9 @@ impl<'a> Node<'a> {
         ensures out_of_memory { IsErrOf result Memory → MayLackMemory
             (calls.exec_ready self.old.job grant frame self.old.node) }
     {
-        match self.parts.state() {
-            State::Member(_) => {}
-            State::Leaving(_, _) => return Err(NodeError::Stale),
-            State::Joining | State::Ended => return Err(NodeError::NotJoined),
-        }
-        let Some(sub) = self.parts.sub(grant) else {
-            return Err(NodeError::Stale);
-        };
-        if !sub.is_ready(frame) {
-            return Err(NodeError::Stale);
-        }
         let checked = self.job.checked();
         let _program = checked.program();
-        let Some(work) = work_in(alloc, grant, sub, frame)? else {
-            return Err(NodeError::Stale);
-        };
+        let work = ready_work!(self, alloc, grant, frame);
         let done = Done::on(alloc, checked, work.thread, work.numbers)?;
         self.exec(alloc, grant, frame, &done)
     }

@@ -9,6 +9,7 @@ ghost use Rattle.node_core.specs.declared.error.NodeError.TheVariants.{Memory};
 use crate::error::NodeError;
 use crate::node::Node;
 use crate::parts::Step;
+use crate::turns::ready_work;
 use crate::views::{room_of, work_in};
 use body_eval::Turn;
 use frames::Frames;
@@ -39,22 +40,9 @@ impl<'a> Node<'a> {
         ensures out_of_memory { IsErrOf result Memory → MayLackMemory
             (calls.whole_ready self.old.job most_turns grant frame self.old.node) }
     {
-        match self.parts.state() {
-            State::Member(_) => {}
-            State::Leaving(_, _) => return Err(NodeError::Stale),
-            State::Joining | State::Ended => return Err(NodeError::NotJoined),
-        }
-        let Some(sub) = self.parts.sub(grant) else {
-            return Err(NodeError::Stale);
-        };
-        if !sub.is_ready(frame) {
-            return Err(NodeError::Stale);
-        }
         let checked = self.job.checked();
         let _program = checked.program();
-        let Some(work) = work_in(alloc, grant, sub, frame)? else {
-            return Err(NodeError::Stale);
-        };
+        let work = ready_work!(self, alloc, grant, frame);
         let mut keeper = Keeper::new(alloc, checked, 0);
         match Whole::of(
             alloc,
