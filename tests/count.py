@@ -27,6 +27,13 @@ named:
     tests           functions that are tests
     wide-proofs     lines of proofs of more than 120 columns, but for imports, which the formatter lays out
     wide-comments   lines of comments of more than 100 columns
+    long-bodies     functions whose bodies have more than 40 lines
+    long-clauses    functions whose clauses have more than 16 lines
+    brought         lines that bring definitions to clauses (`ghost use`)
+    equal-places    pairs of places in src/ that have eleven lines or more alike, to the letter; in all crates
+    error-tables    functions `number` that spell an error's number, where `ids` has them all
+    words           words of all pages
+    wall            minutes of wall that all proofs take on four processors, by those of docs/times.tsv (tests/plan.py)
     crates          crates
     transcripts     files of transcripts/
     scripts         scripts of examples/scripts
@@ -51,6 +58,8 @@ import re
 import sys
 
 import contracts
+import lengths
+import plan
 import wrong_bodies
 from common import CRATES, TOP, Tally, crates, files_in, in_tree, read, write
 
@@ -81,6 +90,15 @@ def tests_of(crate):
     return sum(len(re.findall(r"(?m)^ *#\[test\]", read(it))) for it in files_in(f"{CRATES}/{crate}/src", ".rt"))
 
 
+def sources(crate):
+    """The files of a crate's src/."""
+    return files_in(f"{CRATES}/{crate}/src", ".rt")
+
+
+def source_lines(crate):
+    return (line for path in sources(crate) for line in read(path).split("\n"))
+
+
 def wide(crate, folders, most, is_one):
     """How many lines of a crate's files in some folders, of one kind, have more columns than that."""
     places = [f"{CRATES}/{crate}/{folder}" for folder in folders]
@@ -105,6 +123,10 @@ OF_CRATE = {
     "wrong-bodies": lambda it: edits_of(it, "wrong-bodies"),
     "edits": lambda it: edits_of(it, "must-fail") + edits_of(it, "wrong-bodies"),
     "tests": tests_of,
+    "long-bodies": lengths.long_bodies,
+    "long-clauses": lengths.long_clauses,
+    "brought": lambda it: sum(line.lstrip().startswith("ghost use ") for line in source_lines(it)),
+    "error-tables": lengths.spelled_numbers,
     "crates": lambda it: 1,
     **{what: functools.partial(lambda how, it: wide(it, *how), how) for what, how in WIDE.items()},
 }
@@ -122,8 +144,19 @@ def sums():
     return 2 * sum(paths(it) for it in known if os.path.isfile(f"{CRATES}/{it}/src/lib.rt"))
 
 
+def wall(processors=4):
+    """The minutes of wall that all proofs take, by those that each took."""
+    took, known = times(), crates()
+    minutes = {name: [float(took.get(name, {}).get(it) or 0) for it in SORTS[:2]] for name in known}
+    lines = {name: sum(OF_CRATE[it](name) for it in ("code", "definitions", "proofs")) for name in known}
+    return round(plan.wall(minutes, lines, processors))
+
+
 # What is counted of the whole.
 OF_ALL = {
+    "wall": wall,
+    "equal-places": lambda: lengths.equal_places([path for it in crates() for path in sources(it)]),
+    "words": lambda: sum(map(words_of, pages())),
     "scripts": lambda: len(files_in(f"{TOP}/examples/scripts", ".script")),
     "wrong-protocols": lambda: len(files_in(f"{TOP}/wrong-protocols", ".edit")),
     "named": lambda: len(contracts.definitions()),
