@@ -2,16 +2,18 @@
 use Rattle.std.specs.Prelude.{◌≡◌, ℕ, ◌+◌, List, [], ◌∷◌, map, Option, None, Some}
 use Rattle.ids.specs.declared.outcome.Outcome.{Outcome}
 use Rattle.disk.specs.Device.{Device}
-use Rattle.serial_meaning.specs.Job.{JobOf}
+use Rattle.serial_meaning.specs.Job.{JobOf, meaning_of}
 use Rattle.event_script.specs.declared.event.Event.{Event}
 use Rattle.event_script.specs.declared.event.Event.TheVariants.{Start, AtNode, Crash, AtHouse, HouseCrash, Cut}
 use Rattle.world_steps.specs.declared.parts.EventAnswer.{EventAnswer}
 use Rattle.world_steps.specs.declared.parts.EventAnswer.TheVariants as told
 use Rattle.world_steps.specs.Agrees.{StoredAgree}
+use Rattle.world_steps.specs.Answers.{StepResult}
 use Rattle.world_steps.specs.Calls.{told_of}
 use Rattle.world_steps.specs.First.{IsFirst}
 use Rattle.world_steps.specs.Runs.{Runs, last_of}
 use Rattle.world_steps.specs.Runs.{Entry as RunEntry}
+use Rattle.world_steps.specs.Steps.{Step}
 use Rattle.world_steps.specs.World.{WorldOf, first_over}
 use Rattle.run_laws.specs.Promises.{AllSafe}
 use Rattle.chronicle.specs.declared.kept.Entry.{Entry}
@@ -48,6 +50,15 @@ or_later (Some o) later = Some o
 abbrev pub first_outcome : List Entry → Option Outcome
 first_outcome [] = None
 first_outcome (e ∷ es) = or_later (outcome_told e.told) (first_outcome es)
+
+-- an outcome that is told is the job's meaning, where what is saved on the disk agrees with which
+-- the history begins
+abbrev pub TellsMeaning : JobOf → Device → EventAnswer → Type 0
+TellsMeaning job disk told = StoredAgree job disk → (o : Outcome) → outcome_told told ≡ Some o → o ≡ meaning_of job
+
+-- what is told is told of a step of some world by an event
+abbrev pub TellsStep : JobOf → Event → EventAnswer → Type 0
+TellsStep job event told = (w : WorldOf) × (o : StepResult) × Step job event w o × (told ≡ told_of o.answer)
 
 -- an event of a run, with what is told of its answer
 abbrev pub told_entry : RunEntry → Entry

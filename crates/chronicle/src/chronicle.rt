@@ -1,19 +1,13 @@
-ghost use Rattle.std.specs.Prelude.{◌≡◌, ℕ, Ok, Err, true, ◌++◌, ◌+◌, ◌<◌, ◌≤◌, [], ◌∷◌, All, IfOk, IfSome, IfNone, OnErr, Some, length, map, vec_len, option_copied};
+ghost use Rattle.std.specs.Prelude.{◌≡◌, ℕ, Ok, Err, ◌++◌, ◌+◌, ◌<◌, ◌≤◌, [], ◌∷◌, All, IfOk, IfSome, IfNone, OnErr, Some, length, map, vec_len, option_copied};
 ghost use Rattle.std.specs.List.{range_with_len};
-ghost use Rattle.ids.specs.declared.outcome.Outcome.{Outcome};
 ghost use Rattle.kind_check.specs.Total.{Takes};
-ghost use Rattle.serial_meaning.specs.Job.{meaning_of};
-ghost use Rattle.world_steps.specs.Agrees.{StoredAgree};
-ghost use Rattle.world_steps.specs.Answers.{StepResult};
-ghost use Rattle.world_steps.specs.Calls.{IsOfJob, IsWholeOfJob, told_of};
-ghost use Rattle.world_steps.specs.Steps.{Step as StepOf};
-ghost use Rattle.world_steps.specs.World.{WorldOf};
+ghost use Rattle.world_steps.specs.Calls.{IsOfJob, IsWholeOfJob};
 ghost use Rattle.turn_lock.specs.Histories.{own};
 ghost use Rattle.chronicle.specs.Deliveries.{delivery, entered, told_in};
 ghost use Rattle.chronicle.specs.declared.chronicle.Arrived.{Arrived as ArrivedOf};
 ghost use Rattle.chronicle.specs.declared.chronicle.Delivery.TheVariants.{Came, Looked};
 ghost use Rattle.chronicle.specs.declared.kept.Committed.{Committed as CommittedOf};
-ghost use Rattle.chronicle.specs.History.{IsSafeHistory, actor_of, entry, actor_number, outcome_told};
+ghost use Rattle.chronicle.specs.History.{IsSafeHistory, TellsMeaning, TellsStep, actor_of, entry, actor_number};
 ghost use Rattle.chronicle.specs.Kept.{IsLeftBy};
 ghost use Rattle.chronicle.specs.Seats.{IsBlankSeatIn, IsSeatIn, TellsOf, first_last, seat_of};
 
@@ -99,10 +93,10 @@ pub struct Finished<D: Drop> {
 
 /// Where a ready frame is looked for: at the node of a place, besides these frames.
 #[derive(Clone, Copy)]
-struct Wanted<'f> {
-    alloc: Global,
-    place: NodePlace,
-    besides: &'f [FrameOf],
+pub struct Wanted<'f> {
+    pub alloc: Global,
+    pub place: NodePlace,
+    pub besides: &'f [FrameOf],
 }
 
 /// A world under a lock, with the history that led to it. Threads share it by reference, each with
@@ -173,13 +167,11 @@ impl<'a, D: SteadyDisk + Drop> Chronicle<'a, D> {
         requires owns { actor_number event ≡ seat.old.actor }
         ensures same { IsSeatIn self.now seat.new × (seat.new.actor ≡ seat.old.actor) }
         ensures entry { IfOk result (λ c. seat.new.entries ≡ seat.old.entries ++ entry event c.told ∷ []) }
-        ensures step { IfOk result (λ c. (w : WorldOf) × (o : StepResult) × StepOf self.now.job event w o
-            × (c.told ≡ told_of o.answer)) }
-        ensures outcome { IfOk result (λ c. StoredAgree self.now.job self.now.first → (o : Outcome)
-            → outcome_told c.told ≡ Some o → o ≡ meaning_of self.now.job) }
+        ensures step { IfOk result (λ c. TellsStep self.now.job event c.told) }
+        ensures outcome { IfOk result (λ c. TellsMeaning self.now.job self.now.first c.told) }
         ensures err { OnErr result (seat.new ≡ seat.old) }
     {
-        let continued = self.enter(rt, seat, event, None, None, None)?;
+        let continued = self.commit_evaluated(rt, seat, event, None, None, None)?;
         Ok(continued.committed)
     }
 
@@ -187,17 +179,15 @@ impl<'a, D: SteadyDisk + Drop> Chronicle<'a, D> {
     /// uses a turn that is the ready frame's own, of its thread on its numbers; and a Whole a task
     /// that was evaluated whole, of its thread on its numbers, in the room below its place and in
     /// no more turns. Else it is put aside, and evaluated in the step. Right behind it, in the same
-    /// turn of the lock, a ready frame is looked for as by `ready`.
+    /// turn of the lock, a ready frame is looked for as by `ready`, if one is wanted.
     pub fn commit_evaluated<R: Wait>(
         &self,
         rt: &R,
-        alloc: Global,
         seat: &mut ActorSeat<'a, D>,
         event: Event,
         turn: Option<&Done>,
         whole: Option<&Whole>,
-        place: NodePlace,
-        besides: &[FrameOf],
+        wanted: Option<&Wanted<'_>>,
     ) -> Result<Continued, NoMemory>
         requires seat { IsSeatIn self.now seat.old }
         requires owns { actor_number event ≡ seat.old.actor }
@@ -205,19 +195,21 @@ impl<'a, D: SteadyDisk + Drop> Chronicle<'a, D> {
         requires whole { IsWholeOfJob self.now.job (option_copied whole) }
         ensures same { IsSeatIn self.now seat.new × (seat.new.actor ≡ seat.old.actor) }
         ensures entry { IfOk result (λ c. seat.new.entries ≡ seat.old.entries ++ entry event c.committed.told ∷ []) }
-        ensures step { IfOk result (λ c. (w : WorldOf) × (o : StepResult) × StepOf self.now.job event w o
-            × (c.committed.told ≡ told_of o.answer)) }
-        ensures outcome { IfOk result (λ c. StoredAgree self.now.job self.now.first → (o : Outcome)
-            → outcome_told c.committed.told ≡ Some o → o ≡ meaning_of self.now.job) }
+        ensures step { IfOk result (λ c. TellsStep self.now.job event c.committed.told) }
+        ensures outcome { IfOk result (λ c. TellsMeaning self.now.job self.now.first c.committed.told) }
         ensures fits { IfOk result (λ c. IfSome c.next (λ w. Takes self.now.job.program w.thread (length w.numbers))) }
         ensures err { OnErr result (seat.new ≡ seat.old) }
     {
-        let wanted = Wanted {
-            alloc,
-            place,
-            besides,
+        let mut kept = self.lock.take(rt, &mut seat.seat);
+        let answer = kept.enter(seat, event, turn, whole);
+        let next = match wanted {
+            Some(wanted) => wanted.work_in(self.job, &kept),
+            None => None,
         };
-        self.enter(rt, seat, event, turn, whole, Some(&wanted))
+        self.sent.note(&kept);
+        self.lock.put(&mut seat.seat, kept);
+        let committed = answer?;
+        Ok(Continued { committed, next })
     }
 
     /// The first packet from the one of a number on that is addressed to a receiver comes to the
@@ -238,10 +230,9 @@ impl<'a, D: SteadyDisk + Drop> Chronicle<'a, D> {
         requires owns { actor_number (delivery place 0) ≡ seat.old.actor }
         ensures same { IsSeatIn self.now seat.new × (seat.new.actor ≡ seat.old.actor) }
         ensures entry { IfOk result (λ d. seat.new.entries ≡ seat.old.entries ++ entered place d) }
-        ensures step { IfOk result (λ d. IfSome (told_in place d) (λ e. (w : WorldOf) × (o : StepResult)
-            × StepOf self.now.job e.event w o × (e.told ≡ told_of o.answer))) }
-        ensures outcome { IfOk result (λ d. IfSome (told_in place d) (λ e. StoredAgree self.now.job self.now.first
-            → (o : Outcome) → outcome_told e.told ≡ Some o → o ≡ meaning_of self.now.job)) }
+        ensures step { IfOk result (λ d. IfSome (told_in place d) (λ e. TellsStep self.now.job e.event e.told)) }
+        ensures outcome { IfOk result (λ d. IfSome (told_in place d)
+            (λ e. TellsMeaning self.now.job self.now.first e.told)) }
         ensures err { OnErr result (seat.new ≡ seat.old) }
     {
         let mut kept = self.lock.take(rt, &mut seat.seat);
@@ -250,42 +241,6 @@ impl<'a, D: SteadyDisk + Drop> Chronicle<'a, D> {
         self.sent.note(&kept);
         self.lock.put(&mut seat.seat, kept);
         answer
-    }
-
-    // An event is carried out under the lock, with what was evaluated for it, if that is at hand,
-    // and then a ready frame is looked for, if one is wanted.
-    fn enter<R: Wait>(
-        &self,
-        rt: &R,
-        seat: &mut ActorSeat<'a, D>,
-        event: Event,
-        turn: Option<&Done>,
-        whole: Option<&Whole>,
-        wanted: Option<&Wanted<'_>>,
-    ) -> Result<Continued, NoMemory>
-        requires seat { IsSeatIn self.now seat.old }
-        requires owns { actor_number event ≡ seat.old.actor }
-        requires turn { IsOfJob self.now.job (option_copied turn) }
-        requires whole { IsWholeOfJob self.now.job (option_copied whole) }
-        ensures same { IsSeatIn self.now seat.new × (seat.new.actor ≡ seat.old.actor) }
-        ensures entry { IfOk result (λ c. seat.new.entries ≡ seat.old.entries ++ entry event c.committed.told ∷ []) }
-        ensures step { IfOk result (λ c. (w : WorldOf) × (o : StepResult) × StepOf self.now.job event w o
-            × (c.committed.told ≡ told_of o.answer)) }
-        ensures outcome { IfOk result (λ c. StoredAgree self.now.job self.now.first → (o : Outcome)
-            → outcome_told c.committed.told ≡ Some o → o ≡ meaning_of self.now.job) }
-        ensures fits { IfOk result (λ c. IfSome c.next (λ w. Takes self.now.job.program w.thread (length w.numbers))) }
-        ensures err { OnErr result (seat.new ≡ seat.old) }
-    {
-        let mut kept = self.lock.take(rt, &mut seat.seat);
-        let answer = kept.enter(seat, event, turn, whole);
-        let next = match wanted {
-            Some(wanted) => wanted.work_in(self.job, &kept),
-            None => None,
-        };
-        self.sent.note(&kept);
-        self.lock.put(&mut seat.seat, kept);
-        let committed = answer?;
-        Ok(Continued { committed, next })
     }
 
     /// The first ready frame of the node of a place that isn't among these, from the deepest level
@@ -437,10 +392,9 @@ fn deliver<'a, D: SteadyDisk + Drop>(
     ensures job { kept.new.on.job ≡ kept.old.on.job }
     ensures first { kept.new.first ≡ kept.old.first }
     ensures history { IfOk result (λ d. kept.new.entries ≡ kept.old.entries ++ entered place d) }
-    ensures step { IfOk result (λ d. IfSome (told_in place d) (λ e. (w : WorldOf) × (o : StepResult)
-        × StepOf kept.old.on.job e.event w o × (e.told ≡ told_of o.answer))) }
-    ensures outcome { IfOk result (λ d. IfSome (told_in place d) (λ e. StoredAgree kept.old.on.job kept.old.first
-        → (o : Outcome) → outcome_told e.told ≡ Some o → o ≡ meaning_of kept.old.on.job)) }
+    ensures step { IfOk result (λ d. IfSome (told_in place d) (λ e. TellsStep kept.old.on.job e.event e.told)) }
+    ensures outcome { IfOk result (λ d. IfSome (told_in place d)
+        (λ e. TellsMeaning kept.old.on.job kept.old.first e.told)) }
     ensures err { OnErr result (kept.new.entries ≡ kept.old.entries) }
 
     // A packet that was found comes, or there is no memory for it; where none was found nothing

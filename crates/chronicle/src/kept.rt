@@ -1,14 +1,9 @@
 ghost use Rattle.std.specs.Prelude.{◌≡◌, ◌++◌, ◌⊎◌, [], ◌∷◌, true, false, IfOk, IsErr, OnErr, Some, option_copied};
-ghost use Rattle.ids.specs.declared.outcome.Outcome.{Outcome as OutcomeOf};
-ghost use Rattle.serial_meaning.specs.Job.{meaning_of};
 ghost use Rattle.turn_lock.specs.Histories.{own};
-ghost use Rattle.world_steps.specs.Agrees.{StoredAgree};
-ghost use Rattle.world_steps.specs.Answers.{StepResult};
-ghost use Rattle.world_steps.specs.Calls.{IsOfJob, IsOutOfMemory, IsWholeOfJob, told_of};
+ghost use Rattle.world_steps.specs.Calls.{IsOfJob, IsWholeOfJob, RanOutOfMemory, StepsTo};
 ghost use Rattle.world_steps.specs.First.{IsFirst};
-ghost use Rattle.world_steps.specs.Steps.{Step as StepOf};
 ghost use Rattle.world_steps.specs.World.{first_over};
-ghost use Rattle.chronicle.specs.History.{IsSafeHistory, actor_of, entry, actor_number, outcome_told};
+ghost use Rattle.chronicle.specs.History.{IsSafeHistory, TellsMeaning, actor_of, entry, actor_number, outcome_told};
 ghost use Rattle.chronicle.specs.Kept.{IsLeftBy};
 
 use crate::beginning::Beginning;
@@ -152,15 +147,12 @@ impl<'a, D: SteadyDisk + Drop> Kept<'a, D> {
         ensures own { own actor_of seat.old.actor self.old.entries ≡ seat.old.entries }
         ensures job { self.new.on.job ≡ self.old.on.job }
         ensures first { self.new.first ≡ self.old.first }
-        ensures step { IfOk result (λ c. (o : StepResult) × StepOf self.old.on.job event self.old.on.world o
-            × (self.new.on.world ≡ o.world) × (c.told ≡ told_of o.answer)) }
+        ensures step { IfOk result (λ c. StepsTo self.old.on.job event self.old.on.world self.new.on.world c.told) }
         ensures history { IfOk result (λ c. self.new.entries ≡ self.old.entries ++ entry event c.told ∷ []) }
-        ensures outcome { IfOk result (λ c. StoredAgree self.old.on.job self.old.first → (o : OutcomeOf)
-            → outcome_told c.told ≡ Some o → o ≡ meaning_of self.old.on.job) }
+        ensures outcome { IfOk result (λ c. TellsMeaning self.old.on.job self.old.first c.told) }
         ensures out_of_memory { OnErr result ((self.new.entries ≡ self.old.entries) × (self.new.out_of_memory ≡ true)) }
         ensures left { OnErr result ((self.new.on.world ≡ self.old.on.world)
-            ⊎ ((o : StepResult) × IsOutOfMemory event self.old.on self.new.on.is_placed o
-            × (self.new.on.world ≡ o.world))) }
+            ⊎ RanOutOfMemory event self.old.on self.new.on) }
         ensures after { self.old.out_of_memory ≡ true → IsErr result × (self.new ≡ self.old) }
     {
         let _ = seat.actor();

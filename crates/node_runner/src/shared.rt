@@ -14,7 +14,7 @@ use crate::leavers::Leavers;
 use crate::pace::Pace;
 use crate::turn::Found;
 use board::Board;
-use chronicle::{ActorSeat, Chronicle, Committed, Continued, Receiver};
+use chronicle::{ActorSeat, Chronicle, Committed, Continued, Receiver, Wanted};
 use disk::SteadyDisk;
 use event_script::{Event, FrameOf, NodeEvent, NodePlace};
 use start_words::WordTable;
@@ -136,5 +136,10 @@ fn enter_found<'a, R: Wait, D: SteadyDisk + Drop>(
         Found::Turn(turn) => (Some(turn), None),
         Found::Whole(whole) => (None, Some(whole)),
     };
-    chronicle.commit_evaluated(rt, alloc, seat, event, turn, whole, place, besides)
+    let wanted = Wanted {
+        alloc,
+        place,
+        besides,
+    };
+    chronicle.commit_evaluated(rt, seat, event, turn, whole, Some(&wanted))
 }

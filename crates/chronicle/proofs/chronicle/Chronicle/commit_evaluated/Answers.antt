@@ -1,7 +1,7 @@
 use Rattle.std.proofs.Common.{rules, true, ◌≡◌}
 use Rattle.chronicle.proofs.Seats.{free_seat}
 use Rattle.chronicle.proofs.Commits.{grows, gains, first_of}
-use Rattle.chronicle.proofs.chronicle.Chronicle.enter.Goals as goal
+use Rattle.chronicle.proofs.chronicle.Chronicle.commit_evaluated.Goals as goal
 
 pub take-kept-requires : goal.take-kept-requires
 take-kept-requires g c = record {
