@@ -39,7 +39,6 @@ named:
     scripts         scripts of examples/scripts
     named           definitions that public clauses name
     errors          numbers on the page of errors
-    sums            sums of sources that the gate makes, by the lines of crates.txt: at most 300,000 are wanted
     wrong-protocols edits of definitions that laws have to refuse
 
 and for a table
@@ -132,18 +131,6 @@ OF_CRATE = {
 }
 
 
-def sums():
-    """How many sums of a crate's sources the gate makes before it proves libraries: two along each path of lines of
-    crates.txt that leads down from one. (A program has none.)"""
-    known = crates()
-
-    @functools.lru_cache(None)
-    def paths(name):
-        return 1 + sum(paths(it) for it in known[name] if it in known)
-
-    return 2 * sum(paths(it) for it in known if os.path.isfile(f"{CRATES}/{it}/src/lib.rt"))
-
-
 def wall(processors=4):
     """The minutes of wall that all proofs take, by those that each took."""
     took, known = times(), crates()
@@ -160,7 +147,6 @@ OF_ALL = {
     "scripts": lambda: len(files_in(f"{TOP}/examples/scripts", ".script")),
     "wrong-protocols": lambda: len(files_in(f"{TOP}/wrong-protocols", ".edit")),
     "named": lambda: len(contracts.definitions()),
-    "sums": sums,
     "errors": lambda: len({*re.findall(r"(?m)^\| E(\d+)\b", read(f"{TOP}/docs/ERRORS.md"))}),
 }
 
@@ -230,8 +216,6 @@ def tried_table():
     return "\n".join([heads, "|" + "---|" * len(cells), f"| {' | '.join(map(shown, cells))} |"]) + "\n"
 
 
-# Each thousand takes the gate some three seconds, in which other proofs wait.
-MOST_SUMS = 300_000
 # What a reader meets first, and so many words of letters or digits each has at most, and all pages together.
 DOORS = ("README.md", "docs/USE.md", "CONTRIBUTING.md", "docs/TRUST.md")
 MOST_WORDS, MOST_IN_ALL = 600, 35_000
@@ -312,7 +296,6 @@ def main(words):
         tally.tell(number <= MOST_WORDS, f"{page}: {number} words, and at most {MOST_WORDS} are wanted")
     whole = sum(map(words_of, pages()))
     tally.tell(whole <= MOST_IN_ALL, f"all pages: {whole:,} words, and at most {MOST_IN_ALL:,} are wanted")
-    tally.tell(sums() <= MOST_SUMS, f"crates.txt: {sums():,} sums, and at most {MOST_SUMS:,} are wanted")
     for path in pages():
         text = read(path)
         if BEGIN.search(text):
