@@ -1,10 +1,10 @@
 -- A call of a node that is refused changes nothing.
 use Rattle.std.proofs.Common.{◌≡◌, ◌∙◌, ap, sym, subst, Bool, List, Ok, Err, Result}
 use Rattle.codec.specs.Table.{PacketOf}
-use Rattle.node_core.specs.Meeting.{Meets, NodeOn}
-use Rattle.node_core.specs.Steps.{Answer}
-use Rattle.node_core.specs.declared.error.NodeError.{NodeError}
-use Rattle.node_core.specs.declared.error.NodeError.TheVariants as error
+use Rattle.node_steps.specs.Meeting.{Meets, NodeOn}
+use Rattle.node_steps.specs.Steps.{Answer}
+use Rattle.node_steps.specs.declared.error.NodeError.{NodeError}
+use Rattle.node_steps.specs.declared.error.NodeError.TheVariants as error
 use Rattle.actors.specs.Actors.{Did, NodeActorOf, NodeCalled}
 use Rattle.actors.specs.declared.error.NodeCallError.{NodeCallError}
 

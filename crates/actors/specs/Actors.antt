@@ -8,14 +8,14 @@ use Rattle.clearinghouse.specs.Meeting.{HouseOn}
 use Rattle.clearinghouse.specs.declared.error.HouseError.{HouseError}
 use Rattle.clearinghouse.specs.declared.parts.HouseStep.{HouseStep}
 use Rattle.clearinghouse.specs.declared.parts.Stop.{Stop}
-use Rattle.node_core.specs.Calls as calls
-use Rattle.node_core.specs.Meeting.{Meets, NodeOn}
-use Rattle.node_core.specs.Steps.{Answer}
-use Rattle.node_core.specs.declared.error.NodeError.{NodeError}
-use Rattle.node_core.specs.declared.error.NodeError.TheVariants.{Memory}
-use Rattle.node_core.specs.declared.parts.Step.{Step}
-use Rattle.node_core.specs.Views.{work_at}
-use Rattle.node_core.specs.declared.views.Work.{Work}
+use Rattle.node_steps.specs.Calls as calls
+use Rattle.node_steps.specs.Meeting.{Meets, NodeOn}
+use Rattle.node_steps.specs.Steps.{Answer}
+use Rattle.node_steps.specs.declared.error.NodeError.{NodeError}
+use Rattle.node_steps.specs.declared.error.NodeError.TheVariants.{Memory}
+use Rattle.node_steps.specs.declared.parts.Step.{Step}
+use Rattle.node_steps.specs.Ready.{work_at}
+use Rattle.node_steps.specs.declared.work.Work.{Work}
 use Rattle.ids.specs.Names.{Grant}
 use Rattle.node_state.specs.Node.{NodeOf}
 use Rattle.serial_meaning.specs.Job.{JobOf}

@@ -10,14 +10,14 @@ use Rattle.clearinghouse.specs.Errors.{number_of_error as number_of_house}
 use Rattle.clearinghouse.specs.Meeting.{HouseMeets, HouseOn}
 use Rattle.clearinghouse.specs.declared.error.HouseError.{HouseError}
 use Rattle.clearinghouse.specs.declared.parts.HouseStep.{HouseStep}
-use Rattle.node_core.specs.Calls as calls
-use Rattle.node_core.specs.Cases as cases
-use Rattle.node_core.specs.Choosing.{own_candidate}
-use Rattle.node_core.specs.Errors.{number_of_error as number_of_node}
-use Rattle.node_core.specs.Meeting.{LacksMemoryLast, MayLackMemory, Meets, NodeOn}
-use Rattle.node_core.specs.declared.error.NodeError.{NodeError}
-use Rattle.node_core.specs.declared.parts.Step.{Step}
-use Rattle.node_core.specs.declared.parts.Victim.TheVariants as victim
+use Rattle.node_steps.specs.Calls as calls
+use Rattle.node_steps.specs.Cases as cases
+use Rattle.node_steps.specs.Choosing.{own_candidate}
+use Rattle.node_steps.specs.Errors.{number_of_error as number_of_node}
+use Rattle.node_steps.specs.Meeting.{LacksMemoryLast, MayLackMemory, Meets, NodeOn}
+use Rattle.node_steps.specs.declared.error.NodeError.{NodeError}
+use Rattle.node_steps.specs.declared.parts.Step.{Step}
+use Rattle.node_steps.specs.declared.parts.Victim.TheVariants as victim
 use Rattle.actors.specs.Actors.{HouseActorOf, HouseCalled, IsGiven, IsWorked, MeetsStopped, MeetsUnless, NodeActorOf, NodeCalled}
 use Rattle.actors.specs.declared.actor.Actor.{Actor}
 use Rattle.actors.specs.declared.actor.Actor.TheVariants.{Node, House, Over}

@@ -4,7 +4,7 @@ use Rattle.disk.specs.Device.{Device}
 use Rattle.jobs.specs.Jobs.{IsJobOf}
 use Rattle.serial_meaning.specs.Job.{JobOf}
 use Rattle.clearinghouse.specs.Meeting.{IsOpened}
-use Rattle.node_core.specs.Calls as calls
+use Rattle.node_steps.specs.Calls as calls
 use Rattle.actors.specs.Actors.{HouseActorOf, NodeActorOf}
 use Rattle.actors.specs.declared.actor.Actor.{Actor}
 use Rattle.actors.specs.declared.actor.Actor.TheVariants.{Node, House}

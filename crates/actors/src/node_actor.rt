@@ -1,11 +1,11 @@
 //! A node of a host.
 ghost use Rattle.std.specs.Prelude.{◌≡◌, ◌<◌, ◌==◌, [], Err, IfErr, IfOk, IfSome, None, OnOk, Some, length};
-ghost use Rattle.node_core.specs.Calls as calls;
-ghost use Rattle.node_core.specs.Cases as cases;
-ghost use Rattle.node_core.specs.Choosing.{own_candidate};
-ghost use Rattle.node_core.specs.Meeting.{LacksMemoryLast, MayLackMemory, Meets};
-ghost use Rattle.node_core.specs.declared.error.NodeError.TheVariants.{Memory};
-ghost use Rattle.node_core.specs.declared.parts.Victim.TheVariants as victim;
+ghost use Rattle.node_steps.specs.Calls as calls;
+ghost use Rattle.node_steps.specs.Cases as cases;
+ghost use Rattle.node_steps.specs.Choosing.{own_candidate};
+ghost use Rattle.node_steps.specs.Meeting.{LacksMemoryLast, MayLackMemory, Meets};
+ghost use Rattle.node_steps.specs.declared.error.NodeError.TheVariants.{Memory};
+ghost use Rattle.node_steps.specs.declared.parts.Victim.TheVariants as victim;
 ghost use Rattle.actors.specs.Actors.{Did, IsCarried, IsGiven, IsWorked, MeetsUnless, NodeCalled, NodeTells, carried};
 ghost use Rattle.actors.specs.declared.error.NodeCallError.TheVariants.{Unsent};
 

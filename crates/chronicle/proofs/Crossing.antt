@@ -22,6 +22,7 @@ use Rattle.std.specs.contracts.vec.Vec as Vec
 use Rattle.std.specs.contracts.alloc.Global as Heap
 use Rattle.std.below.std_heap.specs.contracts.GlobalAllocator.TheImpl.{ghosts}
 use Rattle.node_core.specs.contracts.node.Node as Node
+use Rattle.node_steps.specs.contracts.node.JobNode as JobNode
 use Rattle.node_state.proofs.node.Parts.TheSendSync as parts
 use Rattle.clearinghouse.specs.contracts.house.House as House
 use Rattle.clearinghouse.specs.contracts.book.Book as Book
@@ -38,8 +39,8 @@ use Rattle.disk.specs.declared.device.Disk.{Ghosts}
 use Rattle.disk.specs.declared.device.SteadyDisk.{Ghosts as SteadyGhosts}
 use Rattle.ids.proofs.sorted_map.SortedMap.TheSendSync as words
 use Rattle.ids.specs.contracts.sorted_map.SortedMap as SortedMap
-use Rattle.node_core.specs.contracts.parts.Fill as Fill
-use Rattle.node_core.proofs.parts.Fill.TheSendSync as fill
+use Rattle.node_steps.specs.contracts.parts.Fill as Fill
+use Rattle.node_steps.proofs.parts.Fill.TheSendSync as fill
 use Rattle.world_steps.specs.contracts.kept.Kept as Kept
 use Rattle.world_steps.proofs.counts.RunCounts.TheSendSync as counts
 use Rattle.world_steps.proofs.kept.Kept.TheSendSync as kept
@@ -57,8 +58,11 @@ use Rattle.serial_meaning.proofs.Crossing.{job}
 
 -- a node, and a world
 
+job_node : (a : NamedLft) → IsSend (JobNode.the_row a)
+job_node a = search (sendable, job, parts.the_send) depth 20
+
 node : (a : NamedLft) → IsSend (Node.the_row a)
-node a = search (sendable, job, parts.the_send) depth 20
+node a = search (sendable, job_node) depth 20
 
 house : (a : NamedLft) (D : RattleType) (g : Ghosts D.Denot) → IsSend D → IsSend (House.the_row a D g)
 house a D g d =

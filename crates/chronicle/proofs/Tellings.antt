@@ -4,9 +4,9 @@ use Rattle.ids.specs.declared.outcome.Outcome.{Outcome}
 use Rattle.codec.specs.Table.{PacketOf}
 use Rattle.serial_meaning.specs.Job.{JobOf}
 use Rattle.node_state.specs.Node.{NodeOf}
-use Rattle.node_core.specs.Calls as call
-use Rattle.node_core.specs.Cases.{Candidate, on_packet}
-use Rattle.node_core.specs.Steps as node
+use Rattle.node_steps.specs.Calls as call
+use Rattle.node_steps.specs.Cases.{Candidate, on_packet}
+use Rattle.node_steps.specs.Steps as node
 use Rattle.clearinghouse.specs.House.{HouseOf, Open, Stopped}
 use Rattle.clearinghouse.specs.Steps as house
 use Rattle.event_script.specs.declared.event.Event.{Event}

@@ -3,7 +3,7 @@ ghost use Rattle.std.specs.Prelude.{◌≡◌, IfSome};
 ghost use Rattle.serial_meaning.specs.Whole.{AreWholesOf};
 
 use kind_check::Checked;
-use node_core::Work;
+use node_steps::Work;
 use serial_meaning::Whole;
 use std::alloc::Global;
 use std::marker::Model;

@@ -1,7 +1,7 @@
 //! Which tasks of a node are known to be large: to take more turns than they may be evaluated in.
 
 use ids::limits::MOST_STEPS;
-use node_core::Work;
+use node_steps::Work;
 use serial_meaning::{UnderWay, Whole};
 use std::alloc::Global;
 

@@ -6,7 +6,7 @@ ghost use Rattle.serial_meaning.specs.Whole.{AreWholesOf};
 use crate::large::large_of;
 use ids::Numbers;
 use kind_check::Checked;
-use node_core::Work;
+use node_steps::Work;
 use serial_meaning::{ALL_LEVELS, Flat, Keeper, UnderWay, Whole};
 use std::alloc::Global;
 

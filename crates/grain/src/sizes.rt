@@ -7,7 +7,7 @@ use crate::large::LargeTasks;
 use crate::left::Left;
 use crate::threads::Threads;
 use kind_check::{BlockCode, Checked, EndCode, Leaf};
-use node_core::Work;
+use node_steps::Work;
 use serial_meaning::{ALL_LEVELS, Whole};
 use std::alloc::{AllocError, Global};
 

@@ -37,11 +37,11 @@ use Rattle.clearinghouse.specs.Steps as house
 use Rattle.clearinghouse.specs.declared.parts.Enlisted.{Enlisted}
 use Rattle.node_state.specs.Node.{NodeOf, by_state, starting}
 use Rattle.node_state.specs.declared.parts.State.TheVariants.{Member}
-use Rattle.node_core.specs.Calls.{ask, asks, exec, join, start, whole_ready}
-use Rattle.node_core.specs.Cases.{Candidate, by_option, by_status, on_body, on_packet, saved_fit}
-use Rattle.node_core.specs.Moves.{changes, steal, takes}
-use Rattle.node_core.specs.Steps.{Does, StepOf, quiet}
-use Rattle.node_core.specs.declared.parts.Victim.TheVariants.{House}
+use Rattle.node_steps.specs.Calls.{ask, asks, exec, join, start, whole_ready}
+use Rattle.node_steps.specs.Cases.{Candidate, by_option, by_status, on_body, on_packet, saved_fit}
+use Rattle.node_steps.specs.Moves.{changes, steal, takes}
+use Rattle.node_steps.specs.Steps.{Does, StepOf, quiet}
+use Rattle.node_steps.specs.declared.parts.Victim.TheVariants.{House}
 use Rattle.kind_check.specs.Turns.{thread_of}
 use Rattle.actor_laws.proofs.actor_agreement.Below.{root_fit}
 use Rattle.actor_laws.specs.actor_agreement.Values.{AreBelowRoot}

@@ -8,8 +8,8 @@ use Rattle.clearinghouse.specs.Cases as house_cases
 use Rattle.clearinghouse.specs.House.{HouseOf, Open, Stopped}
 use Rattle.clearinghouse.specs.Steps as house
 use Rattle.node_state.specs.Node.{NodeOf}
-use Rattle.node_core.specs.Cases.{Candidate}
-use Rattle.node_core.specs.Steps.{StepOf}
+use Rattle.node_steps.specs.Cases.{Candidate}
+use Rattle.node_steps.specs.Steps.{StepOf}
 use Rattle.event_script.specs.declared.event.Event.TheVariants.{AtHouse, AtNode}
 use Rattle.event_script.specs.declared.event.HouseEvent.TheVariants as at_house
 use Rattle.event_script.specs.declared.event.NodeEvent.{NodeEvent}

@@ -11,7 +11,7 @@ use Rattle.node_state.specs.Node.{NodeOf}
 use Rattle.node_state.specs.Parts.{ArePosts, is_post_at, is_same_post, times_posted}
 use Rattle.node_state.specs.Posts.{ReadyFrame, ready_at}
 use Rattle.node_state.proofs.Kept.{same_post}
-use Rattle.node_core.specs.Choosing.{IsCandidate, candidate_of, own_candidate}
+use Rattle.node_steps.specs.Choosing.{IsCandidate, candidate_of, own_candidate}
 
 -- of some posts one is chosen
 none_posted : (posts : List Post) → shallowest posts ≡ None → posts ≡ []

@@ -7,11 +7,9 @@ use Rattle.ids.specs.Naming.{name_of_frame, name_of_member}
 use Rattle.ids.specs.Options.{◌>>=◌}
 use Rattle.ids.specs.declared.member.Member.{Member as Listed}
 use Rattle.ids.specs.declared.work.Frame.{Frame}
-use Rattle.body_eval.specs.Done.{DoneOf}
 use Rattle.codec.specs.declared.body.Roster.{Roster}
 use Rattle.frames.specs.Frames.{AreBelow, frame_in}
 use Rattle.serial_meaning.specs.Job.{JobOf}
-use Rattle.sub_rules.specs.Carrying.{exec_content as carry, executed}
 use Rattle.sub_rules.specs.Content.{ready}
 use Rattle.sub_rules.proofs.Sums.{all_found, found_name}
 use Rattle.subcomputation.specs.Subs.{SubOf, sub_in}
@@ -22,14 +20,14 @@ use Rattle.node_state.specs.Node.{NodeOf, by_state}
 use Rattle.node_state.specs.Posts.{ready_at, ready_of_sub}
 use Rattle.node_state.specs.declared.parts.State.{State}
 use Rattle.node_state.specs.declared.parts.State.TheVariants.{Joining, Member, Leaving, Ended}
-use Rattle.node_core.specs.Calls as calls
-use Rattle.node_core.specs.Cases.{by_option}
-use Rattle.node_core.specs.Meeting.{MayLackMemory, Meets, NodeOn}
-use Rattle.node_core.specs.Moves.{move_to}
-use Rattle.node_core.specs.Steps.{Answer, Refused}
-use Rattle.node_core.specs.declared.error.NodeError.{NodeError}
-use Rattle.node_core.specs.declared.error.NodeError.TheVariants as error
-use Rattle.node_core.specs.declared.parts.Victim.TheVariants.{Worker}
+use Rattle.node_steps.specs.Calls as calls
+use Rattle.node_steps.specs.Cases.{by_option}
+use Rattle.node_steps.specs.Meeting.{MayLackMemory, Meets, NodeOn}
+use Rattle.node_steps.specs.Moves.{move_to}
+use Rattle.node_steps.specs.Steps.{Answer, Refused}
+use Rattle.node_steps.specs.declared.error.NodeError.{NodeError}
+use Rattle.node_steps.specs.declared.error.NodeError.TheVariants as error
+use Rattle.node_steps.specs.declared.parts.Victim.TheVariants.{Worker}
 
 -- a call that is refused as it was to be
 pub meets_refused : (a : Answer) (e : NodeError) (old : NodeOn) → a ≡ Refused e → Meets a (Err e) old old

@@ -12,8 +12,8 @@ use Rattle.node_state.specs.Posts.{live_subs, ready_of_sub}
 use Rattle.node_state.specs.declared.parts.State.{State}
 use Rattle.node_state.specs.declared.parts.State.TheVariants.{Joining, Member, Leaving, Ended}
 use Rattle.node_state.proofs.Kept.{member_holds}
-use Rattle.node_core.specs.declared.views.Work.{Work}
-use Rattle.node_core.specs.Views.{work_at, work_in, work_of}
+use Rattle.node_steps.specs.declared.work.Work.{Work}
+use Rattle.node_steps.specs.Ready.{work_at, work_in, work_of}
 
 -- the work of a frame of a subcomputation that may be there
 abbrev work_in_sub : Post → Option SubOf → Option Work

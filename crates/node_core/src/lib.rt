@@ -1,24 +1,10 @@
-//! A node: what each packet and each call does at it.
+//! A node: what each packet and each call does at it, and what it shows of itself.
 #![tactic(auto)]
 
-mod calls;
-mod changes;
-mod departing;
-mod error;
-mod grants;
 mod named;
 mod node;
-mod offers;
-mod parts;
-mod pieces;
-mod requests;
-mod rosters;
-mod sending;
-mod turns;
 mod views;
-mod wholes;
 
-pub use error::NodeError;
 pub use node::Node;
-pub use parts::{Fill, Step, Victim};
-pub use views::{SubState, SubView, Work};
+pub use node_steps::{Fill, NodeError, Step, Victim, Work};
+pub use views::{SubState, SubView};

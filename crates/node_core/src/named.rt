@@ -9,17 +9,16 @@ ghost use Rattle.frames.specs.Frames.{frame_in};
 ghost use Rattle.subcomputation.specs.Subs.{SubOf, sub_in};
 ghost use Rattle.node_state.specs.Node.{by_state};
 ghost use Rattle.node_state.specs.declared.parts.State.TheVariants as state;
-ghost use Rattle.node_core.specs.Calls as calls;
-ghost use Rattle.node_core.specs.Meeting.{MayLackMemory, Meets, LacksMemoryLast};
-ghost use Rattle.node_core.specs.declared.error.NodeError.TheVariants.{Memory, NotJoined, Stale, Busy, Pending, NoHeir};
-ghost use Rattle.node_core.specs.declared.parts.Victim.TheVariants as victim;
+ghost use Rattle.node_steps.specs.Calls as calls;
+ghost use Rattle.node_steps.specs.Meeting.{MayLackMemory, Meets, LacksMemoryLast};
+ghost use Rattle.node_steps.specs.declared.error.NodeError.TheVariants.{Memory, NotJoined, Stale, Busy, Pending, NoHeir};
+ghost use Rattle.node_steps.specs.declared.parts.Victim.TheVariants as victim;
 
-use crate::error::NodeError;
 use crate::node::Node;
-use crate::parts::{Step, Victim};
 use body_eval::Done;
 use ids::{FrameNo, GrantId, Incarnation, Member, item_of};
 use node_state::State;
+use node_steps::{NodeError, Step, Victim};
 use serial_meaning::{Flat, Whole};
 use std::alloc::Global;
 use subcomputation::Sub;
@@ -125,7 +124,7 @@ impl<'a> Node<'a> {
         ensures none { IfNone result ((s : SubOf) → sub_in (record { minter = minter; number = number })
             self.now.node.subs ≡ Some s → frame_in frame s.content.frames ≡ None) }
     {
-        let sub = self.parts.held().get((minter, number))?;
+        let sub = self.parts().held().get((minter, number))?;
         let frame = frame_named(sub, frame)?;
         Some((sub.grant(), frame))
     }
@@ -136,7 +135,7 @@ impl<'a> Node<'a> {
     fn unnamed(&self) -> NodeError
         ensures { result ≡ by_state self.now.node.state NotJoined (λ _. Stale) (λ _ _. Stale) NotJoined }
     {
-        match self.parts.state() {
+        match self.parts().state() {
             State::Member(_) | State::Leaving(_, _) => NodeError::Stale,
             State::Joining | State::Ended => NodeError::NotJoined,
         }
@@ -179,11 +178,11 @@ impl<'a> Node<'a> {
         ensures { result ≡ by_state self.now.node.state NotJoined (λ _.
             if is_some self.now.node.asker.pending then Pending else NoHeir) (λ _ _. Busy) NotJoined }
     {
-        match self.parts.state() {
+        match self.parts().state() {
             State::Joining | State::Ended => NodeError::NotJoined,
             State::Leaving(_, _) => NodeError::Busy,
             State::Member(_) => {
-                if self.parts.asker().pending().is_some() {
+                if self.parts().asker().pending().is_some() {
                     NodeError::Pending
                 } else {
                     NodeError::NoHeir
@@ -200,7 +199,7 @@ impl<'a> Node<'a> {
             → is_live word r.members ≡ false }
     {
         self.law_roster_rises();
-        match self.parts.state() {
+        match self.parts().state() {
             State::Member(roster) => law_lists_workers(roster.members.as_slice(), word),
             State::Leaving(roster, _) => law_lists_workers(roster.members.as_slice(), word),
             State::Joining | State::Ended => {}

@@ -1,31 +1,18 @@
 //! What a node shows of itself.
 ghost use Rattle.std.specs.Prelude.{◌≡◌, ◌==◌, IfOk, IfErr, map};
 ghost use Rattle.frames.specs.Frames.{missing_in};
-ghost use Rattle.serial_meaning.specs.Places.{room};
 ghost use Rattle.node_core.specs.Views as views;
-ghost use Rattle.node_core.specs.declared.error.NodeError.TheVariants.{Memory};
+ghost use Rattle.node_steps.specs.Ready.{work_at};
+ghost use Rattle.node_steps.specs.declared.error.NodeError.TheVariants.{Memory};
 
-use crate::error::NodeError;
 use crate::node::Node;
 use frames::Frames;
-use ids::limits::MOST_STEPS;
-use ids::{FrameNo, GrantId, Hop, Incarnation, Listed, Numbers, Outcome, Place, Progress};
-use node_state::{Parts, State};
+use ids::{FrameNo, GrantId, Hop, Incarnation, Listed, Outcome, Progress};
+use node_state::State;
+use node_steps::{NodeError, Work, work_in};
 use std::alloc::{AllocError, Global};
-use sub_rules::numbers_in;
 use subcomputation::Sub;
 use victim_records::Records;
-
-/// A ready frame: the grant of its subcomputation, its number there, the thread that is to run, the
-/// numbers that the thread takes, and how many places can be below its own.
-#[derive(Drop)]
-pub struct Work {
-    pub grant: GrantId,
-    pub frame: FrameNo,
-    pub thread: u8,
-    pub numbers: Numbers,
-    pub room: u16,
-}
 
 /// The state of a subcomputation, as it is shown: active; frozen for the heir to which the node
 /// leaves, with how far it was then; or finished, with its outcome.
@@ -52,26 +39,19 @@ impl<'a> Node<'a> {
     /// The work that comes after so many others, from the deepest level on and in a level the
     /// newest first; none where fewer frames are ready. Refused only when out of memory (E63).
     pub fn ready_at(&self, alloc: Global, index: usize) -> Result<Option<Work>, NodeError>
-        ensures work { IfOk result (λ o. o ≡ views.work_at self.now.node self.now.posts index) }
+        ensures work { IfOk result (λ o. o ≡ work_at self.now.node self.now.posts index) }
         ensures memory { IfErr result (λ e. e ≡ Memory) }
     {
-        let State::Member(_) = self.parts.state() else {
+        let State::Member(_) = self.parts().state() else {
             return Ok(None);
         };
-        let Some(post) = self.parts.posts().at(index) else {
+        let Some(post) = self.parts().posts().at(index) else {
             return Ok(None);
         };
-        let Some(sub) = self.parts.sub(post.grant) else {
+        let Some(sub) = self.parts().sub(post.grant) else {
             return Ok(None);
         };
         Ok(work_in(alloc, post.grant, sub, post.frame)?)
-    }
-
-    /// What it holds.
-    pub fn parts(&self) -> &Parts
-        ensures { result.now ≡ record { node = self.now.node; posts = self.now.posts } }
-    {
-        &self.parts
     }
 
     /// The subcomputations that it holds, by rising grant, each with its state: those of a node
@@ -83,7 +63,7 @@ impl<'a> Node<'a> {
     {
         let heir = self.heir();
         let mut shown = Listed::new(alloc);
-        for sub in self.parts.subs() {
+        for sub in self.parts().subs() {
             shown.push(view_of(alloc, heir, sub)?)?;
         }
         Ok(shown)
@@ -93,42 +73,11 @@ impl<'a> Node<'a> {
     fn heir(&self) -> Option<Incarnation>
         ensures { result ≡ views.heir_of self.now.node.state }
     {
-        match self.parts.state() {
+        match self.parts().state() {
             State::Leaving(_, heir) => Some(*heir),
             State::Joining | State::Member(_) | State::Ended => None,
         }
     }
-}
-
-/// The work of a frame, if it is ready.
-pub fn work_in(
-    alloc: Global,
-    grant: GrantId,
-    sub: &Sub,
-    number: FrameNo,
-) -> Result<Option<Work>, AllocError>
-    ensures { IfOk result (λ o. o ≡ views.work_in grant number sub.now.content) }
-{
-    let Some(frame) = sub.content().frames.get(number) else {
-        return Ok(None);
-    };
-    let Some(numbers) = numbers_in(alloc, frame.slots.as_slice())? else {
-        return Ok(None);
-    };
-    Ok(Some(Work {
-        grant,
-        frame: number,
-        thread: frame.thread,
-        numbers,
-        room: room_of(&frame.place),
-    }))
-}
-
-/// How many places can be below a place.
-pub fn room_of(place: &Place) -> u16
-    ensures { result ≡ room place.now }
-{
-    MOST_STEPS - place.len()
 }
 
 /// The state that is shown of a subcomputation: frozen, where it is for an heir.

@@ -11,7 +11,7 @@ use event_script::FrameOf;
 use grain::{Grain, KeptValues, TaskSizes, evaluate};
 use kind_check::Checked;
 use local_pool::Owner;
-use node_core::Work;
+use node_steps::Work;
 use serial_meaning::{Flat, Whole};
 use std::alloc::{AllocError, Global};
 use std::sync::{Arc, Wait};

@@ -23,7 +23,7 @@ use chronicle::{ActorSeat, Continued, Receiver, frame_of};
 use disk::SteadyDisk;
 use event_script::{Event, FrameOf, NodeEvent, NodePlace};
 use grain::takes_its_numbers;
-use node_core::{NodeError, Work};
+use node_steps::{NodeError, Work};
 use serial_meaning::Flat;
 use start_words::Pen;
 use std::alloc::Global;

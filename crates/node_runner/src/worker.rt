@@ -22,7 +22,7 @@ use event_script::FrameOf;
 use grain::{Left, evaluate, takes_its_numbers};
 use ids::Numbers;
 use kind_check::Checked;
-use node_core::Work;
+use node_steps::Work;
 use serial_meaning::Flat;
 use std::alloc::Global;
 use std::marker::Model;

@@ -1,10 +1,10 @@
 -- A node stays at its job.
 use Rattle.std.proofs.Common.{◌≡◌, Result, Ok, Err, ap}
-use Rattle.node_core.specs.Meeting.{Carries, Meets, NodeOn}
-use Rattle.node_core.specs.Steps.{Answer, Ignored, Refused, Does, Forgets}
-use Rattle.node_core.specs.declared.error.NodeError.{NodeError}
-use Rattle.node_core.specs.declared.error.NodeError.TheVariants as error
-use Rattle.node_core.specs.declared.parts.Step.{Step}
+use Rattle.node_steps.specs.Meeting.{Carries, Meets, NodeOn}
+use Rattle.node_steps.specs.Steps.{Answer, Ignored, Refused, Does, Forgets}
+use Rattle.node_steps.specs.declared.error.NodeError.{NodeError}
+use Rattle.node_steps.specs.declared.error.NodeError.TheVariants as error
+use Rattle.node_steps.specs.declared.parts.Step.{Step}
 
 carried : (a : Answer) (step : Step) (before after : NodeOn) → Carries a step before after → after.job ≡ before.job
 carried Ignored step before after is = ap (λ n. n.job) is.1

@@ -6,7 +6,7 @@ use Rattle.serial_meaning.specs.Job.{IsJob, JobOf, meaning_of as job_meaning}
 use Rattle.serial_meaning.specs.Places.{outcome_of}
 use Rattle.content_laws.specs.Shown.{outcome_number}
 use Rattle.node_state.specs.Node.{NodeOf}
-use Rattle.node_core.specs.Calls as call
+use Rattle.node_steps.specs.Calls as call
 use Rattle.table_laws.specs.View.{View}
 use Rattle.table_laws.specs.Facts.{of_worker}
 use Rattle.table_laws.specs.Runs.{at_start}

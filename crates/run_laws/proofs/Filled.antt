@@ -1,7 +1,7 @@
 -- No slot was filled twice in a world that is tied.
 use Rattle.std.proofs.Common.{◌≡◌, suc, zero, List, [], ◌∷◌, inl, inr, refl, sym, ap, ◌∙◌}
 use Rattle.serial_meaning.specs.Job.{JobOf}
-use Rattle.node_core.specs.declared.parts.Fill.{Fill}
+use Rattle.node_steps.specs.declared.parts.Fill.{Fill}
 use Rattle.table_laws.specs.Tables.{◌∈◌}
 use Rattle.table_laws.specs.Content as tables
 use Rattle.table_laws.specs.Fills.{Once, SameSlot}

@@ -19,9 +19,9 @@ use Rattle.subcomputation.specs.Subs.{granted_sub, name_of_sub, sub_in}
 use Rattle.node_state.specs.Node.{NodeOf, by_state, hop_in}
 use Rattle.node_state.specs.declared.parts.State.{State as Stage}
 use Rattle.node_state.specs.declared.parts.State.TheVariants.{Joining, Member, Leaving, Ended}
-use Rattle.node_core.specs.Cases.{Candidate, on_body, on_packet, saved_fit}
-use Rattle.node_core.specs.Moves.{takes}
-use Rattle.node_core.specs.Steps.{Does}
+use Rattle.node_steps.specs.Cases.{Candidate, on_body, on_packet, saved_fit}
+use Rattle.node_steps.specs.Moves.{takes}
+use Rattle.node_steps.specs.Steps.{Does}
 use Rattle.table_laws.specs.Tables.{◌∈◌}
 use Rattle.table_laws.specs.View.{Transfer, Works, View}
 use Rattle.table_laws.specs.View as tables

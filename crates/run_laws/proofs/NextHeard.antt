@@ -27,8 +27,8 @@ use Rattle.node_state.specs.Node.{NodeOf, by_state}
 use Rattle.node_state.specs.Posts.{ReadyFrame}
 use Rattle.node_state.specs.declared.parts.State.{State}
 use Rattle.node_state.specs.declared.parts.State.TheVariants.{Joining, Member, Leaving, Ended}
-use Rattle.node_core.specs.Cases.{Candidate, candidate_in, on_body, on_packet, returned, stolen}
-use Rattle.node_core.specs.Steps as node
+use Rattle.node_steps.specs.Cases.{Candidate, candidate_in, on_body, on_packet, returned, stolen}
+use Rattle.node_steps.specs.Steps as node
 use Rattle.event_script.specs.declared.event.Event.TheVariants.{AtHouse}
 use Rattle.event_script.specs.declared.event.HouseEvent.TheVariants as at_house
 use Rattle.event_script.specs.declared.event.NodeEvent.TheVariants.{Deliver}

@@ -14,7 +14,7 @@ use Rattle.victim_records.specs.Records.{record_in}
 use Rattle.subcomputation.specs.Subs.{SubOf, sub_in}
 use Rattle.node_state.specs.Node.{NodeOf, hop_in}
 use Rattle.node_state.specs.declared.parts.State.TheVariants.{Member, Leaving}
-use Rattle.node_core.specs.Cases.{is_above}
+use Rattle.node_steps.specs.Cases.{is_above}
 use Rattle.table_laws.specs.Tables.{◌∈◌}
 use Rattle.table_laws.specs.View.{Takes, View, Works}
 use Rattle.table_laws.specs.View as tables

@@ -4,8 +4,8 @@ use Rattle.ids.specs.Names.{Grant}
 use Rattle.serial_meaning.specs.Job.{JobOf, IsJob}
 use Rattle.sub_rules.specs.Content.{Ready, ready_in}
 use Rattle.node_state.specs.Node.{NodeOf}
-use Rattle.node_core.specs.Calls.{exec_ready}
-use Rattle.node_core.specs.Steps as node
+use Rattle.node_steps.specs.Calls.{exec_ready}
+use Rattle.node_steps.specs.Steps as node
 use Rattle.event_script.specs.declared.event.NodeEvent.TheVariants.{Exec}
 use Rattle.table_laws.proofs.Among.{found_among}
 use Rattle.table_laws.proofs.Lists.{some_same}

@@ -18,10 +18,10 @@ use Rattle.steal_protocol.specs.declared.asker.Request.{Request}
 use Rattle.subcomputation.specs.Subs.{SubOf, sub_in}
 use Rattle.node_state.specs.Node.{NodeOf, by_state}
 use Rattle.node_state.specs.declared.parts.State.TheVariants.{Member, Leaving}
-use Rattle.node_core.specs.Calls as call
-use Rattle.node_core.specs.Cases.{Candidate}
-use Rattle.node_core.specs.Moves.{awaited, beat, grants_in, leaves, result_by, results, steal}
-use Rattle.node_core.specs.Steps as node
+use Rattle.node_steps.specs.Calls as call
+use Rattle.node_steps.specs.Cases.{Candidate}
+use Rattle.node_steps.specs.Moves.{awaited, beat, grants_in, leaves, result_by, results, steal}
+use Rattle.node_steps.specs.Steps as node
 use Rattle.event_script.specs.declared.event.NodeEvent.TheVariants.{Resend}
 use Rattle.table_laws.specs.Tables.{◌∈◌}
 use Rattle.table_laws.proofs.Among.{found_among}

@@ -12,7 +12,7 @@ use Rattle.serial_meaning.specs.Places.{outcome_at}
 use Rattle.agreement_laws.specs.Agreement.{AllSavedAgree, ContentAgrees, IsReceived}
 use Rattle.checkpoint.proofs.Reading.{one_store}
 use Rattle.checkpoint.specs.declared.record.CheckpointRecord.{CheckpointRecord}
-use Rattle.node_core.specs.declared.parts.Fill.{Fill}
+use Rattle.node_steps.specs.declared.parts.Fill.{Fill}
 use Rattle.table_laws.specs.Tables.{◌∈◌}
 use Rattle.table_laws.specs.Content as tables
 use Rattle.table_laws.specs.View.{Transfer, View}

@@ -17,7 +17,7 @@ use Rattle.agreement_laws.proofs.Finding.{put_or_there}
 use Rattle.victim_records.specs.Records.{record_in}
 use Rattle.subcomputation.specs.Subs.{SubOf, name_of_sub, put_sub, sub_in}
 use Rattle.node_state.specs.Node.{NodeOf}
-use Rattle.node_core.specs.Cases.{its_offer, said_by}
+use Rattle.node_steps.specs.Cases.{its_offer, said_by}
 use Rattle.table_laws.specs.Content.{Content}
 use Rattle.table_laws.specs.Tables.{◌∈◌}
 use Rattle.table_laws.specs.View.{Works, View}

@@ -8,8 +8,8 @@ use Rattle.subcomputation.specs.Subs.{name_of_sub}
 use Rattle.node_state.specs.Node.{NodeOf, ended, starting}
 use Rattle.node_state.specs.declared.parts.State.{State as Stage}
 use Rattle.node_state.specs.declared.parts.State.TheVariants.{Joining, Member, Leaving, Ended}
-use Rattle.node_core.specs.Calls as call
-use Rattle.node_core.specs.Steps.{quiet}
+use Rattle.node_steps.specs.Calls as call
+use Rattle.node_steps.specs.Steps.{quiet}
 use Rattle.table_laws.specs.Tables.{◌∈◌}
 use Rattle.table_laws.specs.View.{Transfer, House, Works, View}
 use Rattle.table_laws.specs.View as tables

@@ -5,7 +5,7 @@ use Rattle.serial_meaning.specs.Job.{JobOf}
 use Rattle.node_state.specs.Node.{NodeOf}
 use Rattle.node_state.specs.declared.parts.State.{State as Stage}
 use Rattle.node_state.specs.declared.parts.State.TheVariants.{Joining, Member, Leaving, Ended}
-use Rattle.node_core.specs.Steps as node
+use Rattle.node_steps.specs.Steps as node
 use Rattle.clearinghouse.specs.House.{HouseOf, Open, Stopped, name_of}
 use Rattle.table_laws.specs.View.{House, View}
 use Rattle.table_laws.specs.Facts.{of_worker}

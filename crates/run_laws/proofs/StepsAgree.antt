@@ -15,9 +15,9 @@ use Rattle.clearinghouse.specs.declared.parts.Stop.TheVariants as by
 use Rattle.node_state.specs.Node.{NodeOf, by_state}
 use Rattle.node_state.specs.declared.parts.State.{State as Stage}
 use Rattle.node_state.specs.declared.parts.State.TheVariants.{Joining, Member, Leaving, Ended}
-use Rattle.node_core.specs.Calls as call
-use Rattle.node_core.specs.Cases.{Candidate, on_body, on_packet}
-use Rattle.node_core.specs.Steps as node
+use Rattle.node_steps.specs.Calls as call
+use Rattle.node_steps.specs.Cases.{Candidate, on_body, on_packet}
+use Rattle.node_steps.specs.Steps as node
 use Rattle.event_script.specs.declared.event.Cut.{Cut as CutOf}
 use Rattle.event_script.specs.declared.event.HouseEvent.{HouseEvent}
 use Rattle.event_script.specs.declared.event.HouseEvent.TheVariants as at_house

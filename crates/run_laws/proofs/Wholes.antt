@@ -7,10 +7,10 @@ use Rattle.codec.specs.Table.{PacketOf}
 use Rattle.checkpoint.specs.Commit.{opening}
 use Rattle.serial_meaning.specs.Job.{JobOf, IsJob}
 use Rattle.node_state.specs.Node.{NodeOf, starting}
-use Rattle.node_core.specs.Calls as call
-use Rattle.node_core.specs.Cases.{Candidate}
-use Rattle.node_core.specs.Cases as cases
-use Rattle.node_core.specs.Steps as node
+use Rattle.node_steps.specs.Calls as call
+use Rattle.node_steps.specs.Cases.{Candidate}
+use Rattle.node_steps.specs.Cases as cases
+use Rattle.node_steps.specs.Steps as node
 use Rattle.clearinghouse.specs.Calls.{passes}
 use Rattle.clearinghouse.specs.Cases.{on_packet}
 use Rattle.clearinghouse.specs.House.{HouseOf, Open, Stopped}

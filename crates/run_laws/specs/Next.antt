@@ -23,9 +23,9 @@ use Rattle.subcomputation.specs.Subs.{SubOf, sub_in}
 use Rattle.node_state.specs.Node.{NodeOf, hop_in}
 use Rattle.node_state.specs.declared.parts.State.{State}
 use Rattle.node_state.specs.declared.parts.State.TheVariants.{Joining, Member, Leaving, Ended}
-use Rattle.node_core.specs.Cases.{is_above}
-use Rattle.node_core.specs.Moves.{steal}
-use Rattle.node_core.specs.declared.error.NodeError.TheVariants as error
+use Rattle.node_steps.specs.Cases.{is_above}
+use Rattle.node_steps.specs.Moves.{steal}
+use Rattle.node_steps.specs.declared.error.NodeError.TheVariants as error
 use Rattle.clearinghouse.specs.House.{HouseOf, members_of, name_of, name_of_enlisted}
 use Rattle.clearinghouse.specs.declared.parts.Enlisted.{Enlisted}
 use Rattle.clearinghouse.specs.declared.parts.RootGrant.{RootGrant}

@@ -4,7 +4,7 @@ use Rattle.serial_meaning.specs.Job.{JobOf}
 use Rattle.agreement_laws.specs.Agreement.{IsReceived}
 use Rattle.clearinghouse.specs.House.{State, Open, Stopped}
 use Rattle.node_state.specs.Node.{NodeOf}
-use Rattle.node_core.specs.declared.parts.Fill.{Fill}
+use Rattle.node_steps.specs.declared.parts.Fill.{Fill}
 use Rattle.table_laws.specs.Tables.{◌∈◌}
 use Rattle.actor_laws.specs.actor_agreement.Values as actor
 use Rattle.actor_laws.specs.actor_agreement.Values.{AllRight, NodeIsRight}

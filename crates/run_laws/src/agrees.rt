@@ -1,7 +1,7 @@
 ghost use Rattle.std.specs.Prelude.{◌≡◌, ℕ, Some, slice_get};
 ghost use Rattle.serial_meaning.specs.Job.{JobOf};
 ghost use Rattle.agreement_laws.specs.Agreement.{IsReceived};
-ghost use Rattle.node_core.specs.declared.parts.Fill.{Fill};
+ghost use Rattle.node_steps.specs.declared.parts.Fill.{Fill};
 ghost use Rattle.world_steps.specs.Agrees.{Agrees};
 ghost use Rattle.world_steps.specs.Safe.{filling_of};
 ghost use Rattle.world_steps.specs.World.{WorldOf};

@@ -1,9 +1,9 @@
 //! The world, and its steps.
 ghost use Rattle.std.specs.Prelude.{◌≡◌, ◌++◌, ◌&&◌, true, false, if◌then◌else◌, is_some, length, IfOk, Option, OnErr, OnOk, Some, None, option_copied, replicate, slice_get};
 ghost use Rattle.disk.specs.Device.{Device};
-ghost use Rattle.node_core.specs.Cases.{Candidate};
-ghost use Rattle.node_core.specs.Choosing.{IsCandidate};
-ghost use Rattle.node_core.specs.declared.error.NodeError.TheVariants.{Memory};
+ghost use Rattle.node_steps.specs.Cases.{Candidate};
+ghost use Rattle.node_steps.specs.Choosing.{IsCandidate};
+ghost use Rattle.node_steps.specs.declared.error.NodeError.TheVariants.{Memory};
 ghost use Rattle.node_state.specs.Node.{NodeOf};
 ghost use Rattle.world_steps.specs.Calls.{Came, IsOfJob, IsWholeOfJob, RanOutOfMemory, StepsTo, delivered_in, is_there};
 ghost use Rattle.world_steps.specs.Nodes.{can_start};

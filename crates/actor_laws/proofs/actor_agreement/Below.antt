@@ -8,7 +8,7 @@ use Rattle.ids.specs.declared.work.Task.{Task}
 use Rattle.saved_values.specs.Places.{is_saved_place, is_under, place_cmp}
 use Rattle.saved_values.specs.Saved.{place_of, put_saved, saved_under}
 use Rattle.saved_values.specs.declared.value.SavedValue.{SavedValue}
-use Rattle.node_core.specs.Cases.{saved_fit}
+use Rattle.node_steps.specs.Cases.{saved_fit}
 use Rattle.actor_laws.specs.actor_agreement.Values.{AreBelowRoot}
 
 -- those that a node hands on with a task

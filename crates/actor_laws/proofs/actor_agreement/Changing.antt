@@ -29,12 +29,12 @@ use Rattle.sub_rules.specs.declared.content.Content.{Content}
 use Rattle.subcomputation.specs.Subs.{SubOf, host_in, sub_in, with_content}
 use Rattle.node_state.specs.Node.{NodeOf}
 use Rattle.node_state.specs.Posts.{ReadyFrame, ready_at}
-use Rattle.node_core.specs.Calls as calls
-use Rattle.node_core.specs.Cases.{by_option, returned}
-use Rattle.node_core.specs.Moves.{aborts, changes, closes, closes_by, packet, result_ack, results, save_of}
-use Rattle.node_core.specs.Steps.{Refused, fill_of, fills_of, for_some, sends}
-use Rattle.node_core.specs.declared.error.NodeError.TheVariants as error
-use Rattle.node_core.specs.declared.parts.Fill.{Fill}
+use Rattle.node_steps.specs.Calls as calls
+use Rattle.node_steps.specs.Cases.{by_option, returned}
+use Rattle.node_steps.specs.Moves.{aborts, changes, closes, closes_by, packet, result_ack, results, save_of}
+use Rattle.node_steps.specs.Steps.{Refused, fill_of, fills_of, for_some, sends}
+use Rattle.node_steps.specs.declared.error.NodeError.TheVariants as error
+use Rattle.node_steps.specs.declared.parts.Fill.{Fill}
 use Rattle.table_laws.specs.Tables.{◌∈◌}
 use Rattle.table_laws.proofs.Among.{found_among}
 use Rattle.agreement_laws.specs.Agreement.{FillAgrees, IsReceived}
@@ -46,8 +46,8 @@ use Rattle.node_state.specs.Node.{by_state}
 use Rattle.node_state.specs.Posts.{ready_of_sub}
 use Rattle.node_state.specs.declared.parts.State.{State}
 use Rattle.node_state.specs.declared.parts.State.TheVariants.{Joining, Member, Leaving, Ended}
-use Rattle.node_core.specs.Calls.{own_whole, sends_it, whole_ready, whole_value}
-use Rattle.node_core.proofs.WholeValues.{ReadyThere, given_within, one_frame, one_sub, ready_there}
+use Rattle.node_steps.specs.Calls.{own_whole, sends_it, whole_ready, whole_value}
+use Rattle.node_steps.proofs.WholeValues.{ReadyThere, given_within, one_frame, one_sub, ready_there}
 use Rattle.actor_laws.specs.actor_agreement.Values.{AllRight, AnswerIsRight, BodyIsRight, IsOutcomeAt, IsRight, NodeIsRight, StepIsRight, filling_of}
 use Rattle.actor_laws.proofs.actor_agreement.Contents.{ChangeIsRight, closed_right, executed_right}
 use Rattle.actor_laws.proofs.actor_agreement.Sent.{aborts_right, both_sent, results_right}

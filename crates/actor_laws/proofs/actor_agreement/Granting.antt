@@ -19,9 +19,9 @@ use Rattle.node_state.specs.Node.{NodeOf, by_state}
 use Rattle.node_state.specs.Posts.{ReadyFrame, live_subs, ready_at, ready_of_sub}
 use Rattle.node_state.specs.declared.parts.State.{State}
 use Rattle.node_state.specs.declared.parts.State.TheVariants.{Joining, Member, Leaving, Ended}
-use Rattle.node_core.specs.Cases.{Candidate, candidate_in, served, stolen}
-use Rattle.node_core.specs.Moves.{answers, grants, packet}
-use Rattle.node_core.specs.Steps.{Does, Ignored, sends}
+use Rattle.node_steps.specs.Cases.{Candidate, candidate_in, served, stolen}
+use Rattle.node_steps.specs.Moves.{answers, grants, packet}
+use Rattle.node_steps.specs.Steps.{Does, Ignored, sends}
 use Rattle.table_laws.specs.Tables.{◌∈◌}
 use Rattle.table_laws.proofs.Among.{found_among}
 use Rattle.agreement_laws.proofs.Granting.{granted_task}

@@ -14,10 +14,10 @@ use Rattle.steal_protocol.specs.declared.replies.Reply.{Reply}
 use Rattle.subcomputation.specs.Subs.{sub_in, without_sub}
 use Rattle.node_state.specs.Node.{NodeOf, put_confirmed}
 use Rattle.node_state.specs.declared.parts.State.TheVariants.{Leaving}
-use Rattle.node_core.specs.Calls as calls
-use Rattle.node_core.specs.Cases.{confirms, is_released, left_behind, taken}
-use Rattle.node_core.specs.Moves.{Given, all_given, awaited, beat, given, given_by, grants_in, is_done, leave, leaves, move_to, name_of_given, results, steal, with_given}
-use Rattle.node_core.specs.Steps.{StepOf}
+use Rattle.node_steps.specs.Calls as calls
+use Rattle.node_steps.specs.Cases.{confirms, is_released, left_behind, taken}
+use Rattle.node_steps.specs.Moves.{Given, all_given, awaited, beat, given, given_by, grants_in, is_done, leave, leaves, move_to, name_of_given, results, steal, with_given}
+use Rattle.node_steps.specs.Steps.{StepOf}
 use Rattle.table_laws.specs.Tables.{◌∈◌}
 use Rattle.table_laws.proofs.Lists.{either}
 use Rattle.table_laws.proofs.Among.{filtered, mapped, put_among}

@@ -10,7 +10,7 @@ use Rattle.sub_rules.specs.Changes.{redone, with_parent, with_thief}
 use Rattle.subcomputation.specs.Recovering.{Recovery, for_each, for_some, record_settled, recovered, settle_record, settle_sub, sub_settled, their_records}
 use Rattle.subcomputation.specs.Subs.{SubOf, host_in, sub_in, with_content}
 use Rattle.node_state.specs.Node.{NodeOf}
-use Rattle.node_core.specs.Moves.{recovers}
+use Rattle.node_steps.specs.Moves.{recovers}
 use Rattle.table_laws.specs.Tables.{◌∈◌}
 use Rattle.table_laws.proofs.Among.{found_among}
 use Rattle.content_laws.proofs.Apart.{own_grant}

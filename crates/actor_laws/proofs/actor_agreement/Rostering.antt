@@ -9,9 +9,9 @@ use Rattle.node_state.specs.Assemblies.{of_living}
 use Rattle.node_state.specs.Node.{NodeOf, ended}
 use Rattle.node_state.specs.declared.parts.State.{State}
 use Rattle.node_state.specs.declared.parts.State.TheVariants.{Member, Leaving}
-use Rattle.node_core.specs.Cases.{by_roster, joins, leaving_roster, member_roster, recovers_by}
-use Rattle.node_core.specs.Moves.{is_empty, recovers, settle_request}
-use Rattle.node_core.specs.Steps.{Answer, StepOf, quiet}
+use Rattle.node_steps.specs.Cases.{by_roster, joins, leaving_roster, member_roster, recovers_by}
+use Rattle.node_steps.specs.Moves.{is_empty, recovers, settle_request}
+use Rattle.node_steps.specs.Steps.{Answer, StepOf, quiet}
 use Rattle.actor_laws.specs.actor_agreement.Values.{AnswerIsRight, NodeIsRight, StepIsRight}
 use Rattle.actor_laws.proofs.actor_agreement.Recovering.{recovers_right}
 use Rattle.actor_laws.proofs.actor_agreement.Steps.{by_listed, by_test, ended_right, in_order, quiet_right, then_right}

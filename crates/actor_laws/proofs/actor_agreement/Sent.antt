@@ -10,7 +10,7 @@ use Rattle.departure.specs.Offers.{offer}
 use Rattle.steal_protocol.specs.Replies.{name_of_reply, put_reply}
 use Rattle.steal_protocol.specs.declared.replies.Reply.{Reply}
 use Rattle.subcomputation.specs.Subs.{SubOf}
-use Rattle.node_core.specs.Moves.{aborts, result_by, results}
+use Rattle.node_steps.specs.Moves.{aborts, result_by, results}
 use Rattle.table_laws.specs.Tables.{◌∈◌}
 use Rattle.table_laws.proofs.Lists.{either}
 use Rattle.table_laws.proofs.Among.{put_among}

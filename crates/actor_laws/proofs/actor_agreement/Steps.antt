@@ -12,8 +12,8 @@ use Rattle.subcomputation.specs.Subs.{SubOf, name_of_sub, put_sub, without_sub}
 use Rattle.node_state.specs.Node.{NodeOf, by_state, ended}
 use Rattle.node_state.specs.declared.parts.State.{State}
 use Rattle.node_state.specs.declared.parts.State.TheVariants.{Joining, Member, Leaving, Ended}
-use Rattle.node_core.specs.Cases.{by_option, by_status}
-use Rattle.node_core.specs.Steps.{Answer, StepOf, quiet, sends, ◌then◌}
+use Rattle.node_steps.specs.Cases.{by_option, by_status}
+use Rattle.node_steps.specs.Steps.{Answer, StepOf, quiet, sends, ◌then◌}
 use Rattle.table_laws.specs.Tables.{◌∈◌}
 use Rattle.table_laws.proofs.Lists.{either}
 use Rattle.table_laws.proofs.Among.{filtered, put_among}

@@ -6,10 +6,10 @@ use Rattle.codec.specs.declared.body.Body.TheVariants as body
 use Rattle.serial_meaning.specs.Job.{JobOf}
 use Rattle.steal_protocol.specs.Requests.{next_request}
 use Rattle.node_state.specs.Node.{NodeOf, starting}
-use Rattle.node_core.specs.Calls as calls
-use Rattle.node_core.specs.Cases.{Candidate, candidate_in, on_body, on_packet}
-use Rattle.node_core.specs.Moves.{steal}
-use Rattle.node_core.specs.declared.parts.Victim.{Victim}
+use Rattle.node_steps.specs.Calls as calls
+use Rattle.node_steps.specs.Cases.{Candidate, candidate_in, on_body, on_packet}
+use Rattle.node_steps.specs.Moves.{steal}
+use Rattle.node_steps.specs.declared.parts.Victim.{Victim}
 use Rattle.actor_laws.specs.actor_agreement.Values.{AnswerIsRight, NextGrantIsFresh, BodyMayCome, NodeIsRight, StepIsRight}
 use Rattle.actor_laws.proofs.actor_agreement.Changing.{returned_right}
 use Rattle.actor_laws.proofs.actor_agreement.Granting.{chosen_is, stolen_right}

@@ -12,8 +12,8 @@ use Rattle.steal_protocol.specs.Requests.{is_answered_by, is_pending, without_re
 use Rattle.subcomputation.specs.Fitting.{content_fits, task_fits}
 use Rattle.subcomputation.specs.Subs.{granted_sub, sub_in}
 use Rattle.node_state.specs.Node.{NodeOf, hop_in}
-use Rattle.node_core.specs.Cases.{aborted, acknowledged, acknowledged_again, granted, is_above, is_finished, leaving_offered, member_offered, refused, saved_fit}
-use Rattle.node_core.specs.Moves.{accepts, acknowledges, offer_ack, recovers, takes}
+use Rattle.node_steps.specs.Cases.{aborted, acknowledged, acknowledged_again, granted, is_above, is_finished, leaving_offered, member_offered, refused, saved_fit}
+use Rattle.node_steps.specs.Moves.{accepts, acknowledges, offer_ack, recovers, takes}
 use Rattle.actor_laws.specs.actor_agreement.Values.{AnswerIsRight, BodyIsRight, IsRight, NodeIsRight, StepIsRight}
 use Rattle.actor_laws.proofs.actor_agreement.Contents.{begun_right}
 use Rattle.actor_laws.proofs.actor_agreement.Recovering.{recovers_right}

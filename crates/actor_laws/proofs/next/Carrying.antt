@@ -39,9 +39,9 @@ use Rattle.node_state.specs.Node.{NodeOf, by_state}
 use Rattle.node_state.specs.Posts.{ready_at}
 use Rattle.node_state.specs.declared.parts.State.{State}
 use Rattle.node_state.specs.declared.parts.State.TheVariants.{Member}
-use Rattle.node_core.specs.Calls.{changed, exec, exec_ready, own_turn}
-use Rattle.node_core.specs.Cases.{by_option}
-use Rattle.node_core.specs.Steps.{Answer}
+use Rattle.node_steps.specs.Calls.{changed, exec, exec_ready, own_turn}
+use Rattle.node_steps.specs.Cases.{by_option}
+use Rattle.node_steps.specs.Steps.{Answer}
 use Rattle.content_laws.proofs.Granting.{ready_found}
 use Rattle.actor_laws.proofs.node_moves.Members.{own_sub}
 use Rattle.actor_laws.specs.actor_agreement.Values.{IsRight}

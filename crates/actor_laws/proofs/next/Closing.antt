@@ -20,9 +20,9 @@ use Rattle.sub_rules.specs.declared.content.Content.{Content}
 use Rattle.subcomputation.specs.Subs.{SubOf, has_record, host_in, name_of_sub, sub_in, with_content}
 use Rattle.subcomputation.proofs.Others.{found_by}
 use Rattle.node_state.specs.Node.{NodeOf}
-use Rattle.node_core.specs.Cases.{returned}
-use Rattle.node_core.specs.Moves.{closes, closes_by}
-use Rattle.node_core.specs.Steps.{for_some}
+use Rattle.node_steps.specs.Cases.{returned}
+use Rattle.node_steps.specs.Moves.{closes, closes_by}
+use Rattle.node_steps.specs.Steps.{for_some}
 use Rattle.table_laws.proofs.Among.{found_among}
 use Rattle.content_laws.proofs.Apart.{own_grant}
 use Rattle.actor_laws.proofs.node_moves.Hearing.{passes_test, unfound}

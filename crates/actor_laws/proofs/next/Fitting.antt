@@ -25,7 +25,7 @@ use Rattle.subcomputation.specs.Fitting.{content_fits, frame_fits, is_arity, is_
 use Rattle.subcomputation.specs.Subs.{SubOf, has_record, host_in, name_of_sub, sub_in}
 use Rattle.subcomputation.proofs.Others.{found_by}
 use Rattle.node_state.specs.Node.{NodeOf, hop_in}
-use Rattle.node_core.specs.Cases.{is_above}
+use Rattle.node_steps.specs.Cases.{is_above}
 use Rattle.table_laws.specs.Tables.{◌∈◌}
 use Rattle.table_laws.proofs.Among.{of_each}
 use Rattle.actor_laws.proofs.node_moves.Hearing.{passes_test}

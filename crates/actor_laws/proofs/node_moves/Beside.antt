@@ -2,7 +2,7 @@
 use Rattle.std.proofs.Common.{◌≡◌, ℕ, inl, inr, ⊎_elim, Option, refl, sym, ◌∙◌}
 use Rattle.node_state.specs.Node.{NodeOf}
 use Rattle.node_state.specs.declared.parts.State.{State}
-use Rattle.node_core.specs.Steps.{StepOf, quiet, ◌then◌}
+use Rattle.node_steps.specs.Steps.{StepOf, quiet, ◌then◌}
 use Rattle.table_laws.specs.View.{Transfer, View}
 use Rattle.table_laws.specs.View as tables
 use Rattle.table_laws.specs.Meaning.{Meaning}

@@ -26,11 +26,11 @@ use Rattle.node_state.specs.Node.{NodeOf, by_state}
 use Rattle.node_state.specs.Posts.{ReadyFrame, ready_at}
 use Rattle.node_state.specs.declared.parts.State.{State}
 use Rattle.node_state.specs.declared.parts.State.TheVariants.{Joining, Member, Leaving, Ended}
-use Rattle.node_core.specs.Calls as calls
-use Rattle.node_core.specs.Cases.{by_option}
-use Rattle.node_core.specs.Moves.{aborts, changes, result_by, results}
-use Rattle.node_core.specs.Steps.{Refused, fills_of, sends, ◌then◌}
-use Rattle.node_core.specs.declared.error.NodeError.TheVariants as error
+use Rattle.node_steps.specs.Calls as calls
+use Rattle.node_steps.specs.Cases.{by_option}
+use Rattle.node_steps.specs.Moves.{aborts, changes, result_by, results}
+use Rattle.node_steps.specs.Steps.{Refused, fills_of, sends, ◌then◌}
+use Rattle.node_steps.specs.declared.error.NodeError.TheVariants as error
 use Rattle.table_laws.specs.Tables.{◌∈◌}
 use Rattle.table_laws.specs.Content as tables
 use Rattle.table_laws.specs.Content.{filled}
@@ -52,8 +52,8 @@ use Rattle.ids.specs.declared.work.Frame.{Frame}
 use Rattle.frames.specs.Frames.{frame_in}
 use Rattle.sub_rules.specs.Content.{ready}
 use Rattle.node_state.specs.Posts.{ready_of_sub}
-use Rattle.node_core.specs.Calls.{own_whole, sends_it, whole_ready, whole_value}
-use Rattle.node_core.proofs.WholeValues.{ReadyThere, given_within, one_frame, one_sub, ready_there}
+use Rattle.node_steps.specs.Calls.{own_whole, sends_it, whole_ready, whole_value}
+use Rattle.node_steps.proofs.WholeValues.{ReadyThere, given_within, one_frame, one_sub, ready_there}
 use Rattle.actor_laws.specs.node_moves.Shows.{IsShown, PartsShown, NodeShown}
 use Rattle.actor_laws.specs.node_moves.Steps.{AllShown, StepShown, AnswerShown, shown_fills}
 use Rattle.actor_laws.proofs.node_moves.Held.{HeldAt, held_at, shows_put}

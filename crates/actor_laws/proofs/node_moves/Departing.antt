@@ -10,8 +10,8 @@ use Rattle.recovery.proofs.Orders.{all_there}
 use Rattle.subcomputation.specs.Subs.{SubOf, name_of_sub, sub_in}
 use Rattle.node_state.specs.Node.{NodeOf}
 use Rattle.node_state.specs.declared.parts.State.TheVariants.{Leaving, Member}
-use Rattle.node_core.specs.Calls as calls
-use Rattle.node_core.specs.Steps.{sends}
+use Rattle.node_steps.specs.Calls as calls
+use Rattle.node_steps.specs.Steps.{sends}
 use Rattle.table_laws.specs.Tables.{◌∈◌}
 use Rattle.table_laws.specs.View.{Transfer, Sub, Works, View}
 use Rattle.table_laws.specs.View as tables

@@ -19,10 +19,10 @@ use Rattle.subcomputation.specs.Subs.{SubOf, name_of_sub, sub_in, with_content}
 use Rattle.node_state.specs.Node.{NodeOf}
 use Rattle.node_state.specs.Posts.{ReadyFrame, ready_at}
 use Rattle.node_state.specs.declared.parts.State.TheVariants.{Member}
-use Rattle.node_core.specs.Cases.{Candidate, candidate_in, served, stolen}
-use Rattle.node_core.specs.Moves.{packet, refuses, grants}
-use Rattle.node_core.specs.Steps.{Refused, Does, Ignored, sends}
-use Rattle.node_core.specs.declared.error.NodeError.TheVariants as error
+use Rattle.node_steps.specs.Cases.{Candidate, candidate_in, served, stolen}
+use Rattle.node_steps.specs.Moves.{packet, refuses, grants}
+use Rattle.node_steps.specs.Steps.{Refused, Does, Ignored, sends}
+use Rattle.node_steps.specs.declared.error.NodeError.TheVariants as error
 use Rattle.agreement_laws.proofs.Finding.{put_or_there}
 use Rattle.table_laws.specs.Tables.{◌∈◌}
 use Rattle.table_laws.specs.Content.{regrant}

@@ -20,9 +20,9 @@ use Rattle.subcomputation.specs.Subs.{SubOf, has_record, host_in, name_of_sub, s
 use Rattle.subcomputation.proofs.Others.{found_by}
 use Rattle.node_state.specs.Node.{NodeOf}
 use Rattle.node_state.specs.declared.parts.State.TheVariants.{Member}
-use Rattle.node_core.specs.Cases.{aborted, acknowledged, by_option, is_finished, refused}
-use Rattle.node_core.specs.Moves.{aborts, changes, closes, closes_by, drops, packet, result_ack, save_of}
-use Rattle.node_core.specs.Steps.{Does, Ignored, StepOf, for_some, quiet, sends, ◌then◌}
+use Rattle.node_steps.specs.Cases.{aborted, acknowledged, by_option, is_finished, refused}
+use Rattle.node_steps.specs.Moves.{aborts, changes, closes, closes_by, drops, packet, result_ack, save_of}
+use Rattle.node_steps.specs.Steps.{Does, Ignored, StepOf, for_some, quiet, sends, ◌then◌}
 use Rattle.table_laws.specs.Tables.{◌∈◌}
 use Rattle.table_laws.specs.View.{Sub, View}
 use Rattle.table_laws.specs.Facts.{Live, RecordOf, result_to, steal_of}

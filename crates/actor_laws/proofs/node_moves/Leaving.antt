@@ -15,8 +15,8 @@ use Rattle.steal_protocol.specs.declared.replies.Reply.{Reply}
 use Rattle.node_state.specs.Node.{NodeOf, is_confirmed}
 use Rattle.node_state.specs.declared.parts.Confirmed.{Confirmed}
 use Rattle.node_state.specs.declared.parts.State.TheVariants.{Leaving}
-use Rattle.node_core.specs.Moves.{awaited, given_by, is_awaited, is_empty, lacks, leave, leaves}
-use Rattle.node_core.specs.Steps.{sends}
+use Rattle.node_steps.specs.Moves.{awaited, given_by, is_awaited, is_empty, lacks, leave, leaves}
+use Rattle.node_steps.specs.Steps.{sends}
 use Rattle.table_laws.specs.Tables.{◌∈◌}
 use Rattle.table_laws.specs.View.{Transfer, Sub, House, Works, View}
 use Rattle.table_laws.specs.View as tables

@@ -21,9 +21,9 @@ use Rattle.subcomputation.specs.Subs.{SubOf, name_of_sub, sub_in, without_sub}
 use Rattle.node_state.specs.Node.{NodeOf, ended, is_confirmed, is_grant_of, name_of_confirmed, put_confirmed}
 use Rattle.node_state.specs.declared.parts.State.TheVariants.{Leaving}
 use Rattle.node_state.proofs.Posting.{same_names}
-use Rattle.node_core.specs.Cases.{by_status, confirms, is_released, leaving_roster, stolen, taken}
-use Rattle.node_core.specs.Moves.{awaited, is_empty, leaves}
-use Rattle.node_core.specs.Steps.{Does, Ignored, quiet, sends}
+use Rattle.node_steps.specs.Cases.{by_status, confirms, is_released, leaving_roster, stolen, taken}
+use Rattle.node_steps.specs.Moves.{awaited, is_empty, leaves}
+use Rattle.node_steps.specs.Steps.{Does, Ignored, quiet, sends}
 use Rattle.table_laws.specs.Tables.{◌∈◌}
 use Rattle.table_laws.specs.View.{Works, View}
 use Rattle.table_laws.specs.View as tables

@@ -13,9 +13,9 @@ use Rattle.subcomputation.specs.Fitting.{content_fits}
 use Rattle.subcomputation.specs.Subs.{name_of_sub, sub_in}
 use Rattle.node_state.specs.Node.{NodeOf, hop_in, ended}
 use Rattle.node_state.specs.declared.parts.State.TheVariants.{Joining, Member}
-use Rattle.node_core.specs.Cases.{by_status, is_above, joins, leaving_offered, member_offered}
-use Rattle.node_core.specs.Moves.{accepts, acknowledges, recovers}
-use Rattle.node_core.specs.Steps.{Does, Ignored, quiet, sends, ◌then◌}
+use Rattle.node_steps.specs.Cases.{by_status, is_above, joins, leaving_offered, member_offered}
+use Rattle.node_steps.specs.Moves.{accepts, acknowledges, recovers}
+use Rattle.node_steps.specs.Steps.{Does, Ignored, quiet, sends, ◌then◌}
 use Rattle.table_laws.specs.Tables.{◌∈◌}
 use Rattle.table_laws.specs.View.{Transfer, Sub, Works, View}
 use Rattle.table_laws.specs.View as tables

@@ -16,8 +16,8 @@ use Rattle.subcomputation.specs.Subs.{SubOf, has_record, host_in, name_of_sub, p
 use Rattle.subcomputation.proofs.Others.{found_by}
 use Rattle.node_state.specs.Node.{NodeOf}
 use Rattle.node_state.specs.declared.parts.State.TheVariants.{Member}
-use Rattle.node_core.specs.Moves.{aborts, packet, recovers}
-use Rattle.node_core.specs.Steps.{StepOf}
+use Rattle.node_steps.specs.Moves.{aborts, packet, recovers}
+use Rattle.node_steps.specs.Steps.{StepOf}
 use Rattle.table_laws.specs.Tables.{◌∈◌}
 use Rattle.table_laws.specs.Content.{rehost}
 use Rattle.table_laws.specs.View.{Sub, Works, View}

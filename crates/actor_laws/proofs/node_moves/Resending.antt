@@ -14,10 +14,10 @@ use Rattle.subcomputation.specs.Subs.{SubOf, name_of_sub, sub_in}
 use Rattle.node_state.specs.Node.{NodeOf, by_state}
 use Rattle.node_state.specs.declared.parts.State.{State}
 use Rattle.node_state.specs.declared.parts.State.TheVariants.{Joining, Leaving, Member, Ended}
-use Rattle.node_core.specs.Calls as calls
-use Rattle.node_core.specs.Moves.{Given, all_given, awaited, beat, given, given_by, grants_in, leaves, name_of_given, results, with_given}
-use Rattle.node_core.specs.Steps.{Does, Refused, sends}
-use Rattle.node_core.specs.declared.error.NodeError.TheVariants as error
+use Rattle.node_steps.specs.Calls as calls
+use Rattle.node_steps.specs.Moves.{Given, all_given, awaited, beat, given, given_by, grants_in, leaves, name_of_given, results, with_given}
+use Rattle.node_steps.specs.Steps.{Does, Refused, sends}
+use Rattle.node_steps.specs.declared.error.NodeError.TheVariants as error
 use Rattle.table_laws.specs.Tables.{◌∈◌, put_grant}
 use Rattle.table_laws.specs.View.{Sub, Works, View}
 use Rattle.table_laws.specs.View as tables

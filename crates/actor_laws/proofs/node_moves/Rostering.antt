@@ -14,9 +14,9 @@ use Rattle.subcomputation.specs.Subs.{grants_of_subs}
 use Rattle.node_state.specs.Assemblies.{of_living}
 use Rattle.node_state.specs.Node.{NodeOf, ended}
 use Rattle.node_state.specs.declared.parts.State.TheVariants.{Member}
-use Rattle.node_core.specs.Cases.{by_status, member_roster, recovers_by}
-use Rattle.node_core.specs.Moves.{recovers, settle_request, status_of as status_of_request}
-use Rattle.node_core.specs.Steps.{Does, Ignored, quiet}
+use Rattle.node_steps.specs.Cases.{by_status, member_roster, recovers_by}
+use Rattle.node_steps.specs.Moves.{recovers, settle_request, status_of as status_of_request}
+use Rattle.node_steps.specs.Steps.{Does, Ignored, quiet}
 use Rattle.table_laws.specs.Tables.{◌∈◌}
 use Rattle.table_laws.specs.View.{Leave, Works, View}
 use Rattle.table_laws.specs.View as tables

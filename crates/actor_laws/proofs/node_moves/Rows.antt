@@ -10,9 +10,9 @@ use Rattle.departure.specs.declared.freezing.FreezeError.TheVariants as freezing
 use Rattle.steal_protocol.specs.declared.asker.Request.{Request}
 use Rattle.node_state.specs.Node.{NodeOf}
 use Rattle.node_state.specs.declared.parts.State.TheVariants.{Leaving, Member}
-use Rattle.node_core.specs.Calls as calls
-use Rattle.node_core.specs.Moves.{leaves, move_to}
-use Rattle.node_core.specs.Steps.{sends}
+use Rattle.node_steps.specs.Calls as calls
+use Rattle.node_steps.specs.Moves.{leaves, move_to}
+use Rattle.node_steps.specs.Steps.{sends}
 use Rattle.table_laws.specs.View.{View}
 use Rattle.table_laws.specs.Meaning.{Meaning}
 use Rattle.table_laws.specs.Runs.{Run}

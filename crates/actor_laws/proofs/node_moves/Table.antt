@@ -12,14 +12,14 @@ use Rattle.steal_protocol.specs.declared.asker.Request.{Request}
 use Rattle.node_state.specs.Node.{NodeOf, by_state}
 use Rattle.node_state.specs.declared.parts.State.{State}
 use Rattle.node_state.specs.declared.parts.State.TheVariants.{Joining, Member, Leaving, Ended}
-use Rattle.node_core.specs.Calls as calls
-use Rattle.node_core.specs.Cases as cases
-use Rattle.node_core.specs.Cases.{Candidate, candidate_in, on_body, on_packet}
-use Rattle.node_core.specs.Moves.{steal}
-use Rattle.node_core.specs.Steps.{Does, Ignored, Refused}
-use Rattle.node_core.specs.declared.error.NodeError.TheVariants as error
-use Rattle.node_core.specs.declared.parts.Victim.{Victim}
-use Rattle.node_core.specs.declared.parts.Victim.TheVariants.{Worker, House}
+use Rattle.node_steps.specs.Calls as calls
+use Rattle.node_steps.specs.Cases as cases
+use Rattle.node_steps.specs.Cases.{Candidate, candidate_in, on_body, on_packet}
+use Rattle.node_steps.specs.Moves.{steal}
+use Rattle.node_steps.specs.Steps.{Does, Ignored, Refused}
+use Rattle.node_steps.specs.declared.error.NodeError.TheVariants as error
+use Rattle.node_steps.specs.declared.parts.Victim.{Victim}
+use Rattle.node_steps.specs.declared.parts.Victim.TheVariants.{Worker, House}
 use Rattle.table_laws.specs.Tables.{◌∈◌}
 use Rattle.table_laws.specs.View.{Works, View}
 use Rattle.table_laws.specs.View as tables

@@ -9,9 +9,9 @@ use Rattle.steal_protocol.specs.declared.asker.Request.{Request}
 use Rattle.subcomputation.specs.Fitting.{task_fits}
 use Rattle.subcomputation.specs.Subs.{SubOf, granted_sub, name_of_sub}
 use Rattle.node_state.specs.Node.{NodeOf, hop_in}
-use Rattle.node_core.specs.Cases.{acknowledged_again, granted, saved_fit}
-use Rattle.node_core.specs.Moves.{offer_ack, takes}
-use Rattle.node_core.specs.Steps.{Does, Ignored, sends}
+use Rattle.node_steps.specs.Cases.{acknowledged_again, granted, saved_fit}
+use Rattle.node_steps.specs.Moves.{offer_ack, takes}
+use Rattle.node_steps.specs.Steps.{Does, Ignored, sends}
 use Rattle.table_laws.specs.View.{Transfer, Sub, Works, View}
 use Rattle.table_laws.specs.View as tables
 use Rattle.table_laws.specs.Facts.{Above, ack_of, request_of}

@@ -3,7 +3,7 @@ use Rattle.std.proofs.Common.{◌≡◌, ℕ, List, [], ◌∷◌, ◌++◌, inl
 use Rattle.codec.specs.Table.{PacketOf}
 use Rattle.codec.specs.declared.body.Body.{Body}
 use Rattle.codec.specs.declared.body.Body.TheVariants as body
-use Rattle.node_core.specs.declared.parts.Fill.{Fill}
+use Rattle.node_steps.specs.declared.parts.Fill.{Fill}
 use Rattle.table_laws.specs.Content as tables
 use Rattle.table_laws.specs.View.{Transfer, View}
 use Rattle.table_laws.proofs.Lists.{early, later, either}

@@ -37,11 +37,11 @@ use Rattle.subcomputation.specs.Fitting.{content_fits, task_fits}
 use Rattle.subcomputation.specs.Subs.{SubOf, host_in, sub_in, without_sub}
 use Rattle.node_state.specs.Posts.{ReadyFrame, ready_at}
 use Rattle.node_state.specs.declared.parts.State.TheVariants.{Joining, Member, Leaving, Ended}
-use Rattle.node_core.specs.Calls as calls
-use Rattle.node_core.specs.Cases.{Candidate, Collecting, Kept, Old, Whole, by_option, by_status, candidate_in, collected, collects, confirms, granted, is_above, is_finished, is_released, joins, leaving_offered, leaving_pieced, leaving_roster, member_offered, member_pieced, member_roster, on_body, on_packet, or_forgets, put_together, said_by, saved_fit, served, stolen, taken}
-use Rattle.node_core.specs.Moves.{awaited, closes, closes_by, is_empty, move_to}
-use Rattle.node_core.specs.Steps.{Answer, Does, Forgets, Ignored, Refused, for_some, sends}
-use Rattle.node_core.specs.declared.parts.Victim.{Victim}
+use Rattle.node_steps.specs.Calls as calls
+use Rattle.node_steps.specs.Cases.{Candidate, Collecting, Kept, Old, Whole, by_option, by_status, candidate_in, collected, collects, confirms, granted, is_above, is_finished, is_released, joins, leaving_offered, leaving_pieced, leaving_roster, member_offered, member_pieced, member_roster, on_body, on_packet, or_forgets, put_together, said_by, saved_fit, served, stolen, taken}
+use Rattle.node_steps.specs.Moves.{awaited, closes, closes_by, is_empty, move_to}
+use Rattle.node_steps.specs.Steps.{Answer, Does, Forgets, Ignored, Refused, for_some, sends}
+use Rattle.node_steps.specs.declared.parts.Victim.{Victim}
 use Rattle.node_state.specs.Assemblies.{assembly_in, without_assembly}
 use Rattle.node_state.specs.Node.{NodeOf, by_state, hop_in}
 use Rattle.node_state.specs.declared.parts.State.{State}

@@ -24,9 +24,9 @@ use Rattle.subcomputation.specs.Subs.{SubOf, name_of_sub, put_sub, sub_in}
 use Rattle.node_state.specs.Assemblies.{assembly_in, without_assembly}
 use Rattle.node_state.specs.Node.{NodeOf, hop_in}
 use Rattle.node_state.specs.declared.parts.State.TheVariants.{Member}
-use Rattle.node_core.specs.Cases.{Collecting, Kept, Old, Whole, collected, collects, is_above, member_offered, member_pieced, member_roster, or_forgets, put_together, recovers_by, said_by}
-use Rattle.node_core.specs.Moves.{status_of}
-use Rattle.node_core.specs.Steps.{Answer, Does, Forgets, Ignored, Refused}
+use Rattle.node_steps.specs.Cases.{Collecting, Kept, Old, Whole, collected, collects, is_above, member_offered, member_pieced, member_roster, or_forgets, put_together, recovers_by, said_by}
+use Rattle.node_steps.specs.Moves.{status_of}
+use Rattle.node_steps.specs.Steps.{Answer, Does, Forgets, Ignored, Refused}
 use Rattle.content_laws.proofs.Apart.{grant_named}
 use Rattle.content_laws.proofs.Orders.{put_order}
 use Rattle.actor_laws.specs.standing.Standing.{AnswerStands, BodyIsApart, ContentStands, HaveOneHost, MemberStands, NodeStands, VictimStands}

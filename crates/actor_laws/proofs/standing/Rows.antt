@@ -40,13 +40,13 @@ use Rattle.subcomputation.proofs.Others.{found_by}
 use Rattle.node_state.specs.Node.{NodeOf, hop_in}
 use Rattle.node_state.specs.Posts.{ReadyFrame, ready_at}
 use Rattle.node_state.specs.declared.parts.State.TheVariants.{Joining, Member, Leaving}
-use Rattle.node_core.specs.Calls as calls
-use Rattle.node_core.specs.Cases.{Candidate, aborted, acknowledged, acknowledged_again, candidate_in, confirms, granted, is_above, is_finished, is_released, joins, leaving_offered, leaving_pieced, leaving_roster, on_body, on_packet, refused, returned, saved_fit, served, stolen, taken}
-use Rattle.node_core.specs.Moves.{awaited, changes, closes, closes_by, is_empty, move_to}
-use Rattle.node_core.specs.Steps.{Does, Ignored, Refused, StepOf, for_some, sends}
-use Rattle.node_core.specs.declared.error.NodeError.TheVariants as error
-use Rattle.node_core.specs.declared.parts.Victim.{Victim}
-use Rattle.node_core.specs.declared.parts.Victim.TheVariants.{House, Worker}
+use Rattle.node_steps.specs.Calls as calls
+use Rattle.node_steps.specs.Cases.{Candidate, aborted, acknowledged, acknowledged_again, candidate_in, confirms, granted, is_above, is_finished, is_released, joins, leaving_offered, leaving_pieced, leaving_roster, on_body, on_packet, refused, returned, saved_fit, served, stolen, taken}
+use Rattle.node_steps.specs.Moves.{awaited, changes, closes, closes_by, is_empty, move_to}
+use Rattle.node_steps.specs.Steps.{Does, Ignored, Refused, StepOf, for_some, sends}
+use Rattle.node_steps.specs.declared.error.NodeError.TheVariants as error
+use Rattle.node_steps.specs.declared.parts.Victim.{Victim}
+use Rattle.node_steps.specs.declared.parts.Victim.TheVariants.{House, Worker}
 use Rattle.content_laws.proofs.Evaluated.{carried}
 use Rattle.actor_laws.proofs.node_moves.Members.{ready_there}
 use Rattle.actor_laws.specs.standing.Standing.{AllStand, AnswerStands, BodyIsApart, ContentStands, IsFresh, MemberStands, NodeStands, Stands, VictimStands}

@@ -28,8 +28,8 @@ use Rattle.subcomputation.specs.Subs.{SubOf, name_of_sub, put_sub, without_sub}
 use Rattle.node_state.specs.Node.{NodeOf, by_state}
 use Rattle.node_state.specs.declared.parts.State.{State}
 use Rattle.node_state.specs.declared.parts.State.TheVariants.{Joining, Member, Leaving, Ended}
-use Rattle.node_core.specs.Cases.{by_option, by_status}
-use Rattle.node_core.specs.Steps.{Answer}
+use Rattle.node_steps.specs.Cases.{by_option, by_status}
+use Rattle.node_steps.specs.Steps.{Answer}
 use Rattle.actor_laws.specs.standing.Standing.{AllStand, AnswerStands, ContentStands, MemberStands, NodeStands, Stands, StandsAt, is_gone}
 
 -- where it stands

@@ -22,11 +22,11 @@ use Rattle.node_state.specs.Node.{NodeOf, by_state}
 use Rattle.node_state.specs.Posts.{ready_at}
 use Rattle.node_state.specs.declared.parts.State.{State}
 use Rattle.node_state.specs.declared.parts.State.TheVariants.{Joining, Member, Leaving, Ended}
-use Rattle.node_core.specs.Calls as calls
-use Rattle.node_core.specs.Moves as moves
-use Rattle.node_core.specs.Steps.{Refused, Does, sends}
-use Rattle.node_core.specs.declared.error.NodeError.TheVariants as error
-use Rattle.node_core.specs.declared.parts.Victim.{Victim}
+use Rattle.node_steps.specs.Calls as calls
+use Rattle.node_steps.specs.Moves as moves
+use Rattle.node_steps.specs.Steps.{Refused, Does, sends}
+use Rattle.node_steps.specs.declared.error.NodeError.TheVariants as error
+use Rattle.node_steps.specs.declared.parts.Victim.{Victim}
 use Rattle.table_laws.specs.Tables.{◌∈◌}
 use Rattle.table_laws.proofs.Lists.{early, either}
 use Rattle.table_laws.proofs.Among.{filtered, mapped, put_among}

@@ -11,7 +11,7 @@ use Rattle.codec.specs.declared.body.Piece.{Piece}
 use Rattle.serial_meaning.specs.Job.{JobOf}
 use Rattle.node_state.specs.Assemblies.{AssemblyOf, assembly_in, begun, name_of_assembly, part_in, part_of, put_part, with_part}
 use Rattle.node_state.specs.Node.{NodeOf}
-use Rattle.node_core.specs.Cases.{Kept, Old, Whole, belongs, by_all, collects}
+use Rattle.node_steps.specs.Cases.{Kept, Old, Whole, belongs, by_all, collects}
 use Rattle.table_laws.specs.Tables.{◌∈◌}
 use Rattle.table_laws.specs.View.{View}
 use Rattle.table_laws.proofs.Among.{found_among, put_among}

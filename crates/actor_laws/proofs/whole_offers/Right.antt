@@ -13,10 +13,10 @@ use Rattle.departure.specs.Offers.{offered}
 use Rattle.serial_meaning.specs.Job.{JobOf}
 use Rattle.node_state.specs.Assemblies.{AssemblyOf, assembly_in, put_assembly, without_assembly}
 use Rattle.node_state.specs.Node.{NodeOf, hop_in}
-use Rattle.node_core.specs.Cases as cases
-use Rattle.node_core.specs.Cases.{Candidate, Collecting, Kept, Old, Whole, collected, collects, is_above, on_body, on_packet, or_forgets, put_together}
-use Rattle.node_core.specs.Moves.{offer_ack}
-use Rattle.node_core.specs.Steps.{Answer, Does, Forgets, Ignored, Refused}
+use Rattle.node_steps.specs.Cases as cases
+use Rattle.node_steps.specs.Cases.{Candidate, Collecting, Kept, Old, Whole, collected, collects, is_above, on_body, on_packet, or_forgets, put_together}
+use Rattle.node_steps.specs.Moves.{offer_ack}
+use Rattle.node_steps.specs.Steps.{Answer, Does, Forgets, Ignored, Refused}
 use Rattle.actor_laws.specs.actor_agreement.Values.{AnswerIsRight, IsRight, NodeIsRight}
 use Rattle.actor_laws.proofs.actor_agreement.Steps.{by_test, in_state, quiet_right, sends_one}
 use Rattle.actor_laws.proofs.actor_agreement.Taking.{member_offered_right}

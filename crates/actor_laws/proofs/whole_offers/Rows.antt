@@ -42,10 +42,10 @@ use Rattle.node_state.specs.Node.{NodeOf, by_state, ended, hop_in, put_confirmed
 use Rattle.node_state.specs.declared.parts.State.{State}
 use Rattle.node_state.specs.declared.parts.State.TheVariants.{Joining, Member, Leaving, Ended}
 use Rattle.node_state.specs.Posts.{ReadyFrame}
-use Rattle.node_core.specs.Cases as cases
-use Rattle.node_core.specs.Cases.{Candidate, Collecting, Kept, Old, Whole, by_option, by_status, candidate_in, collected, collects, is_above, on_body, on_packet, or_forgets, put_together}
-use Rattle.node_core.specs.Moves as moves
-use Rattle.node_core.specs.Steps.{Answer, Ignored, Refused, Does, Forgets, StepOf, for_some, quiet, sends, ◌then◌}
+use Rattle.node_steps.specs.Cases as cases
+use Rattle.node_steps.specs.Cases.{Candidate, Collecting, Kept, Old, Whole, by_option, by_status, candidate_in, collected, collects, is_above, on_body, on_packet, or_forgets, put_together}
+use Rattle.node_steps.specs.Moves as moves
+use Rattle.node_steps.specs.Steps.{Answer, Ignored, Refused, Does, Forgets, StepOf, for_some, quiet, sends, ◌then◌}
 use Rattle.table_laws.specs.Tables.{◌∈◌}
 use Rattle.table_laws.proofs.Lists.{either}
 use Rattle.table_laws.proofs.Among.{filtered, found_among, put_among}

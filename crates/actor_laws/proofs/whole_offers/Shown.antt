@@ -14,10 +14,10 @@ use Rattle.node_state.specs.Assemblies.{AssemblyOf, assembly_in, put_assembly, w
 use Rattle.node_state.specs.Node.{NodeOf, by_state, hop_in}
 use Rattle.node_state.specs.declared.parts.State.{State}
 use Rattle.node_state.specs.declared.parts.State.TheVariants.{Joining, Member, Leaving, Ended}
-use Rattle.node_core.specs.Cases as cases
-use Rattle.node_core.specs.Cases.{Candidate, Collecting, Old, Kept, Whole, collected, collects, is_above, on_body, on_packet, or_forgets, put_together}
-use Rattle.node_core.specs.Moves.{offer_ack}
-use Rattle.node_core.specs.Steps.{Answer, Ignored, Refused, Does, Forgets, sends}
+use Rattle.node_steps.specs.Cases as cases
+use Rattle.node_steps.specs.Cases.{Candidate, Collecting, Old, Kept, Whole, collected, collects, is_above, on_body, on_packet, or_forgets, put_together}
+use Rattle.node_steps.specs.Moves.{offer_ack}
+use Rattle.node_steps.specs.Steps.{Answer, Ignored, Refused, Does, Forgets, sends}
 use Rattle.table_laws.specs.View.{Works, View}
 use Rattle.table_laws.specs.Meaning.{Meaning}
 use Rattle.table_laws.specs.Runs.{Run}

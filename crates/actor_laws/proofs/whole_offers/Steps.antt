@@ -18,10 +18,10 @@ use Rattle.recovery.proofs.Orders.{all_there}
 use Rattle.node_state.specs.Assemblies.{AssemblyOf}
 use Rattle.node_state.specs.Node.{NodeOf, starting}
 use Rattle.node_state.specs.declared.parts.State.TheVariants.{Leaving}
-use Rattle.node_core.specs.Calls as calls
-use Rattle.node_core.specs.Cases.{Candidate, on_packet}
-use Rattle.node_core.specs.Steps.{Answer, Does, Forgets, Ignored, Refused, StepOf}
-use Rattle.node_core.specs.declared.parts.Victim.{Victim}
+use Rattle.node_steps.specs.Calls as calls
+use Rattle.node_steps.specs.Cases.{Candidate, on_packet}
+use Rattle.node_steps.specs.Steps.{Answer, Does, Forgets, Ignored, Refused, StepOf}
+use Rattle.node_steps.specs.declared.parts.Victim.{Victim}
 use Rattle.table_laws.specs.Meaning.{Meaning}
 use Rattle.table_laws.specs.Runs.{Run}
 use Rattle.table_laws.specs.Tables.{◌∈◌}

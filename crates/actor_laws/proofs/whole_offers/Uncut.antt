@@ -12,12 +12,12 @@ use Rattle.node_state.specs.Assemblies.{AssemblyOf}
 use Rattle.node_state.specs.Node.{NodeOf, by_state}
 use Rattle.node_state.specs.declared.parts.State.{State}
 use Rattle.node_state.specs.declared.parts.State.TheVariants.{Joining, Member, Leaving, Ended}
-use Rattle.node_core.specs.Calls as calls
-use Rattle.node_core.specs.Cases.{Candidate, on_packet}
-use Rattle.node_core.specs.Moves as moves
-use Rattle.node_core.specs.Steps.{Answer, Does, Forgets, Ignored, Refused, StepOf, sends}
-use Rattle.node_core.specs.declared.error.NodeError.TheVariants as error
-use Rattle.node_core.specs.declared.parts.Victim.{Victim}
+use Rattle.node_steps.specs.Calls as calls
+use Rattle.node_steps.specs.Cases.{Candidate, on_packet}
+use Rattle.node_steps.specs.Moves as moves
+use Rattle.node_steps.specs.Steps.{Answer, Does, Forgets, Ignored, Refused, StepOf, sends}
+use Rattle.node_steps.specs.declared.error.NodeError.TheVariants as error
+use Rattle.node_steps.specs.declared.parts.Victim.{Victim}
 use Rattle.table_laws.proofs.Among.{filtered}
 use Rattle.actor_laws.specs.whole_offers.Plain.{ArePlain, IsNewBy, IsPlainNode, NoOffers, NoneNew}
 use Rattle.actor_laws.specs.whole_offers.Whole.{cut_answer, cut_step}

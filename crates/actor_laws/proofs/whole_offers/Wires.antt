@@ -6,7 +6,7 @@ use Rattle.codec.specs.declared.body.Body.TheVariants as body
 use Rattle.codec.specs.declared.body.Piece.{Piece}
 use Rattle.serial_meaning.specs.Job.{JobOf}
 use Rattle.node_state.specs.Node.{NodeOf}
-use Rattle.node_core.specs.Cases.{Candidate, on_packet}
+use Rattle.node_steps.specs.Cases.{Candidate, on_packet}
 use Rattle.table_laws.specs.Meaning.{Meaning}
 use Rattle.table_laws.specs.Runs.{Run}
 use Rattle.table_laws.specs.Tables.{◌∈◌}

@@ -19,9 +19,9 @@ use Rattle.saved_values.specs.declared.value.SavedValue.{SavedValue}
 use Rattle.steal_protocol.specs.declared.replies.Reply.{Reply}
 use Rattle.subcomputation.specs.Subs.{SubOf}
 use Rattle.node_state.specs.Node.{NodeOf}
-use Rattle.node_core.specs.Cases.{saved_fit}
-use Rattle.node_core.specs.Steps.{StepOf, Answer, Ignored, Refused, Does, Forgets}
-use Rattle.node_core.specs.declared.parts.Fill.{Fill}
+use Rattle.node_steps.specs.Cases.{saved_fit}
+use Rattle.node_steps.specs.Steps.{StepOf, Answer, Ignored, Refused, Does, Forgets}
+use Rattle.node_steps.specs.declared.parts.Fill.{Fill}
 use Rattle.clearinghouse.specs.House.{HouseOf}
 use Rattle.clearinghouse.specs.Steps as house
 use Rattle.table_laws.specs.Tables.{◌∈◌}

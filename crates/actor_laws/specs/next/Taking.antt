@@ -11,10 +11,10 @@ use Rattle.sub_rules.specs.declared.content.Content.{Content}
 use Rattle.subcomputation.specs.Subs.{SubOf, sub_in}
 use Rattle.node_state.specs.Assemblies.{AssemblyOf}
 use Rattle.node_state.specs.Node.{NodeOf}
-use Rattle.node_core.specs.Cases.{member_offered}
-use Rattle.node_core.specs.declared.error.NodeError.TheVariants as error
-use Rattle.node_core.specs.Moves.{accepts, recovers}
-use Rattle.node_core.specs.Steps.{Answer, Ignored, Refused, Does, Forgets, ◌then◌}
+use Rattle.node_steps.specs.Cases.{member_offered}
+use Rattle.node_steps.specs.declared.error.NodeError.TheVariants as error
+use Rattle.node_steps.specs.Moves.{accepts, recovers}
+use Rattle.node_steps.specs.Steps.{Answer, Ignored, Refused, Does, Forgets, ◌then◌}
 
 -- a member takes an Offer: it holds what was offered and acknowledges it, and recovers that by its
 -- present roster; whatever parts of Offers it keeps

@@ -4,8 +4,8 @@ use Rattle.codec.specs.Table.{PacketOf}
 use Rattle.codec.specs.declared.body.Body.{Body}
 use Rattle.codec.specs.declared.body.Body.TheVariants as body
 use Rattle.node_state.specs.Node.{NodeOf}
-use Rattle.node_core.specs.Steps.{StepOf, Answer, Ignored, Refused, Does, Forgets}
-use Rattle.node_core.specs.declared.parts.Fill.{Fill}
+use Rattle.node_steps.specs.Steps.{StepOf, Answer, Ignored, Refused, Does, Forgets}
+use Rattle.node_steps.specs.declared.parts.Fill.{Fill}
 use Rattle.table_laws.specs.Tables.{◌∈◌}
 use Rattle.table_laws.specs.Content as tables
 use Rattle.table_laws.specs.View.{Transfer, View}

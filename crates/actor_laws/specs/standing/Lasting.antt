@@ -5,8 +5,8 @@ use Rattle.codec.specs.declared.body.Roster.{Roster}
 use Rattle.node_state.specs.Node.{NodeOf}
 use Rattle.node_state.specs.declared.parts.State.{State}
 use Rattle.node_state.specs.declared.parts.State.TheVariants.{Joining, Member, Leaving, Ended}
-use Rattle.node_core.specs.Moves.{is_empty}
-use Rattle.node_core.specs.Steps.{Answer, Ignored, Refused, Does, Forgets}
+use Rattle.node_steps.specs.Moves.{is_empty}
+use Rattle.node_steps.specs.Steps.{Answer, Ignored, Refused, Does, Forgets}
 
 pub record LeaverLasts (n : NodeOf) (r : Roster) (heir : ℕ) : Type 0 where
   pub own : is_live n.incarnation r.members ≡ true

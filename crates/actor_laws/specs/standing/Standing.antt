@@ -20,8 +20,8 @@ use Rattle.node_state.specs.Assemblies.{assembly_in}
 use Rattle.node_state.specs.Node.{NodeOf}
 use Rattle.node_state.specs.declared.parts.State.{State}
 use Rattle.node_state.specs.declared.parts.State.TheVariants.{Joining, Member, Leaving, Ended}
-use Rattle.node_core.specs.Cases.{Whole, collects, said_by}
-use Rattle.node_core.specs.Steps.{Answer, Ignored, Refused, Does, Forgets}
+use Rattle.node_steps.specs.Cases.{Whole, collects, said_by}
+use Rattle.node_steps.specs.Steps.{Answer, Ignored, Refused, Does, Forgets}
 
 -- a worker that is shown dead or left is gone
 abbrev pub is_gone : Option Status → Bool

@@ -11,7 +11,7 @@ use Rattle.departure.specs.Offers.{offered}
 use Rattle.serial_meaning.specs.Job.{JobOf}
 use Rattle.node_state.specs.Assemblies.{AssemblyOf, assembly_in}
 use Rattle.node_state.specs.Node.{NodeOf}
-use Rattle.node_core.specs.Cases.{Whole, collects}
+use Rattle.node_steps.specs.Cases.{Whole, collects}
 use Rattle.table_laws.specs.View.{View}
 use Rattle.table_laws.specs.Tables.{◌∈◌}
 use Rattle.actor_laws.specs.actor_agreement.Values.{IsRight}

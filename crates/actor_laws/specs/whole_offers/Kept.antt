@@ -10,7 +10,7 @@ use Rattle.steal_protocol.specs.declared.replies.Reply.{Reply}
 use Rattle.subcomputation.specs.Subs.{SubOf}
 use Rattle.node_state.specs.Node.{NodeOf}
 use Rattle.node_state.specs.declared.parts.State.TheVariants.{Leaving}
-use Rattle.node_core.specs.Steps.{StepOf, Answer, Ignored, Refused, Does, Forgets}
+use Rattle.node_steps.specs.Steps.{StepOf, Answer, Ignored, Refused, Does, Forgets}
 use Rattle.table_laws.specs.Tables.{◌∈◌}
 use Rattle.actor_laws.specs.whole_offers.Gathered.{AllCameIn}
 use Rattle.actor_laws.specs.whole_offers.Plain.{IsPlain}

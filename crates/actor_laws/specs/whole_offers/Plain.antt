@@ -10,8 +10,8 @@ use Rattle.subcomputation.specs.Subs.{SubOf}
 use Rattle.node_state.specs.Assemblies.{AssemblyOf, assembly_in}
 use Rattle.node_state.specs.Node.{NodeOf}
 use Rattle.node_state.specs.declared.parts.State.TheVariants.{Leaving}
-use Rattle.node_core.specs.Cases.{Kept, collects}
-use Rattle.node_core.specs.Steps.{StepOf, Answer, Ignored, Refused, Does, Forgets}
+use Rattle.node_steps.specs.Cases.{Kept, collects}
+use Rattle.node_steps.specs.Steps.{StepOf, Answer, Ignored, Refused, Does, Forgets}
 use Rattle.table_laws.specs.Tables.{◌∈◌}
 
 abbrev pub IsPlain : PacketOf → Type 0

@@ -6,7 +6,7 @@ use Rattle.codec.specs.declared.body.Piece.{Piece}
 use Rattle.codec.specs.Pieces.{PartOf, cut_all, is_large, packet_of_piece, parts_of, piece_at}
 use Rattle.codec.specs.Table.{PacketOf, packet}
 use Rattle.node_state.specs.Assemblies.{AssemblyOf}
-use Rattle.node_core.specs.Steps.{Answer, Does, Forgets, Ignored, Refused, StepOf}
+use Rattle.node_steps.specs.Steps.{Answer, Does, Forgets, Ignored, Refused, StepOf}
 use Rattle.table_laws.specs.Tables.{◌∈◌}
 
 -- p is a piece of a large offer that is among these packets

@@ -9,9 +9,9 @@ ghost use Rattle.serial_meaning.specs.Job.{JobOf};
 ghost use Rattle.subcomputation.specs.Subs.{SubOf, grants_of_subs, name_of_sub};
 ghost use Rattle.subcomputation.specs.Recovering.{recovered};
 ghost use Rattle.node_state.specs.Node.{NodeOf};
-ghost use Rattle.node_core.specs.Calls as calls;
-ghost use Rattle.node_core.specs.Cases.{Candidate, on_packet};
-ghost use Rattle.node_core.specs.declared.parts.Victim.{Victim};
+ghost use Rattle.node_steps.specs.Calls as calls;
+ghost use Rattle.node_steps.specs.Cases.{Candidate, on_packet};
+ghost use Rattle.node_steps.specs.declared.parts.Victim.{Victim};
 ghost use Rattle.actor_laws.specs.standing.Lasting.{AnswerLasts, NodeLasts};
 ghost use Rattle.actor_laws.specs.standing.Standing.{AllStand, AnswerStands, BodyIsApart, HaveOneHost, NodeStands};
 

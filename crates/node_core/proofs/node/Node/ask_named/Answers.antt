@@ -1,4 +1,4 @@
-use Rattle.node_core.specs.declared.error.NodeError.TheVariants.{NotJoined}
+use Rattle.node_steps.specs.declared.error.NodeError.TheVariants.{NotJoined}
 use Rattle.node_core.proofs.Naming.{ask_unshown, meets_refused}
 use Rattle.node_core.proofs.node.Node.ask_named.Goals as goal
 

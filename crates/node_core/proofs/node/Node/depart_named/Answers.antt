@@ -1,7 +1,7 @@
 use Rattle.std.proofs.Common.{◌≡◌, ◌∙◌, ap, sym}
-use Rattle.node_core.specs.Calls.{depart}
-use Rattle.node_core.specs.Steps.{Refused}
-use Rattle.node_core.specs.declared.error.NodeError.TheVariants.{Memory}
+use Rattle.node_steps.specs.Calls.{depart}
+use Rattle.node_steps.specs.Steps.{Refused}
+use Rattle.node_steps.specs.declared.error.NodeError.TheVariants.{Memory}
 use Rattle.node_core.proofs.Naming.{depart_unshown, meets_refused, lacks_memory_refused}
 use Rattle.node_core.proofs.node.Node.depart_named.Goals as goal
 

@@ -1,8 +1,8 @@
 use Rattle.std.proofs.Common.{◌≡◌, ◌∙◌, ap, sym}
 use Rattle.ids.specs.Names.{Grant}
-use Rattle.node_core.specs.Calls.{exec_ready}
-use Rattle.node_core.specs.Steps.{Refused}
-use Rattle.node_core.specs.declared.error.NodeError.TheVariants.{Memory}
+use Rattle.node_steps.specs.Calls.{exec_ready}
+use Rattle.node_steps.specs.Steps.{Refused}
+use Rattle.node_steps.specs.declared.error.NodeError.TheVariants.{Memory}
 use Rattle.node_core.proofs.Naming.{meets_refused, ready_unnamed, lacks_memory_refused}
 use Rattle.node_core.proofs.node.Node.exec_ready_named.Goals as goal
 

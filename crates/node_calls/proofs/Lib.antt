@@ -1,0 +1,7 @@
+mod Playing
+mod Rows
+mod Moving
+mod Recovering
+mod Finding
+mod Carrying
+mod Evaluating

@@ -1,9 +1,0 @@
-use Rattle.std.proofs.Common.{◌≡◌}
-use Rattle.std.specs.List.{filter, list_any}
-use Rattle.node_core.specs.Cases.{confirms}
-use Rattle.node_core.specs.Moves.{awaited, is_awaited}
-use Rattle.node_core.proofs.node.Node.is_confirmed_by.Given as goal
-
-abbrev pub invariant-loop-reply : goal.invariant-loop-reply
-invariant-loop-reply l = list_any (confirms l.ack) (filter (is_awaited l.roster l.self.node.confirmed) l.reply-iterator)
-    ≡ list_any (confirms l.ack) (awaited l.roster l.self.node)

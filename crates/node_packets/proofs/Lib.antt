@@ -1,0 +1,6 @@
+mod Serving
+mod Returning
+mod Stopping
+mod Arriving
+mod Offering
+mod Assembling

@@ -1,0 +1,4 @@
+pub mod Standing
+pub mod Keeping
+pub mod WholeValues
+pub mod Changing
