@@ -20,7 +20,6 @@ use body_eval::Done;
 use disk::{MemDisk, SteadyDisk};
 use event_script::{Event, FrameOf, HouseEvent, NodeEvent, NodePlace};
 use grain::takes_its_numbers;
-use ids::{FrameNo, GrantId};
 use level_deques::Posts;
 use node_core::Work;
 use serial_meaning::{Job, Whole};
@@ -442,7 +441,7 @@ impl Wanted<'_> {
     fn index_in(&self, posts: &Posts) -> Option<usize> {
         for index in 0..=self.besides.len() {
             let post = posts.at(index)?;
-            if !is_among(self.besides, frame_named(post.grant, post.frame)) {
+            if !is_among(self.besides, FrameOf::of(post.grant, post.frame)) {
                 return Some(index);
             }
         }
@@ -464,20 +463,6 @@ fn own_work(job: &Job, work: Work) -> Option<Work>
 /// Whether a frame is among these.
 fn is_among(frames: &[FrameOf], frame: FrameOf) -> bool {
     frames.iter().any(|other| *other == frame)
-}
-
-/// A ready frame, as an event names it.
-pub fn frame_of(work: &Work) -> FrameOf {
-    frame_named(work.grant, work.frame)
-}
-
-/// A frame of the subcomputation of a grant, as an event names it.
-fn frame_named(grant: GrantId, frame: FrameNo) -> FrameOf {
-    FrameOf {
-        minter: grant.minter().word(),
-        number: grant.number(),
-        frame: u64::from(frame.number()),
-    }
 }
 
 /// The first packet from the one of a number on that is addressed to a receiver, with its bytes if

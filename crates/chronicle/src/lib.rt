@@ -49,7 +49,7 @@ mod trace;
 
 pub use beginning::Beginning;
 pub use chronicle::{
-    Arrived, Chronicle, Continued, Delivery, Finished, Receiver, Wanted, delivery_to, frame_of,
+    Arrived, Chronicle, Continued, Delivery, Finished, Receiver, Wanted, delivery_to,
 };
 pub use kept::{Committed, Entry, Kept};
 pub use seat::ActorSeat;

@@ -33,30 +33,30 @@ use Rattle.ids.proofs.listed.Listed.TheSendSync as listed
 use Rattle.ids.proofs.short_list.ShortList.TheSendSync as short
 use Rattle.local_pool.specs.contracts.owner.Owner as Owner
 use Rattle.local_pool.specs.contracts.worker.BodyWorker as BodyWorker
-use Rattle.node_runner.specs.contracts.desk.Desk as Desk
-use Rattle.node_runner.specs.contracts.desk.Home as Home
+use Rattle.runner_parts.specs.contracts.desk.Desk as Desk
+use Rattle.runner_parts.specs.contracts.desk.Home as Home
 use Rattle.event_script.specs.contracts.event.FrameOf as FrameOf
-use Rattle.node_runner.specs.contracts.desk.Ticket as Ticket
-use Rattle.node_runner.specs.contracts.turn.Evaluated as Evaluated
-use Rattle.node_runner.specs.contracts.turn.Found as Found
+use Rattle.runner_parts.specs.contracts.desk.Ticket as Ticket
+use Rattle.runner_parts.specs.contracts.turn.Evaluated as Evaluated
+use Rattle.runner_parts.specs.contracts.turn.Found as Found
 use Rattle.serial_meaning.specs.contracts.whole.Whole as Whole
 use Rattle.serial_meaning.specs.contracts.keeping.UnderWay as UnderWay
-use Rattle.node_runner.specs.contracts.turn.Finished as Finished
+use Rattle.runner_parts.specs.contracts.turn.Finished as Finished
 use Rattle.grain.specs.contracts.kept.KeptValues as KeptValues
 use Rattle.grain.specs.contracts.large.LargeTasks as LargeTasks
 use Rattle.grain.specs.contracts.left.Left as Left
 use Rattle.grain.specs.contracts.sizes.TaskSizes as TaskSizes
 use Rattle.grain.specs.contracts.threads.Known as Known
 use Rattle.grain.specs.contracts.threads.Threads as Threads
-use Rattle.node_runner.specs.contracts.bells.RunBells as RunBells
-use Rattle.node_runner.specs.contracts.leavers.Leavers as Leavers
-use Rattle.node_runner.specs.contracts.line.Line as Line
-use Rattle.node_runner.specs.contracts.pace.Pace as Pace
+use Rattle.runner_parts.specs.contracts.bells.RunBells as RunBells
+use Rattle.runner_parts.specs.contracts.leavers.Leavers as Leavers
+use Rattle.runner_parts.specs.contracts.line.Line as Line
+use Rattle.runner_parts.specs.contracts.pace.Pace as Pace
 use Rattle.node_runner.specs.contracts.shared.Shared as Shared
-use Rattle.node_runner.proofs.bells.Bells.TheSendSync as bells
+use Rattle.runner_parts.proofs.bells.Bells.TheSendSync as bells
 use Rattle.grain.proofs.budget.Budget.TheSendSync as budget
-use Rattle.node_runner.proofs.counts.Counts.TheSendSync as counts
-use Rattle.node_runner.proofs.config.RunConfig.TheSendSync as config
+use Rattle.runner_parts.proofs.counts.Counts.TheSendSync as counts
+use Rattle.runner_parts.proofs.config.RunConfig.TheSendSync as config
 
 pub board : IsSync Board.the_row
 board = search (sendable, once.the_sync, outcome.the_sync, outcome.the_send, crosses) depth 25

@@ -13,7 +13,7 @@ use Rattle.chronicle.specs.History.{first_outcome}
 use Rattle.chronicle.specs.Kept.{IsLeftBy}
 use Rattle.chronicle.specs.Seats.{ChronicleOf, IsSeatIn}
 use Rattle.start_words.specs.Words.{IsPenOf, TableOf}
-use Rattle.node_runner.specs.Lines.{IsHomeOf, IsLineOf}
+use Rattle.runner_parts.specs.Lines.{IsHomeOf, IsLineOf}
 use Rattle.node_runner.specs.declared.crew.ActorContext.{ActorContext}
 use Rattle.node_runner.specs.declared.crew.NodeContext.{NodeContext}
 use Rattle.node_runner.specs.declared.crew.WorkerContext.{WorkerContext}

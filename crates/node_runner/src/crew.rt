@@ -2,17 +2,14 @@ ghost use Rattle.std.specs.Prelude.{◌≡◌, ◌≤◌, All, IfOk, IfSome, vec
 ghost use Rattle.chronicle.specs.Seats.{ChronicleOf, IsSeatIn};
 ghost use Rattle.start_words.specs.Words.{IsPenOf, TableOf};
 ghost use Rattle.std.specs.Arc.{arc_value};
-ghost use Rattle.node_runner.specs.Lines.{IsHomeOf, IsPassFor};
+ghost use Rattle.runner_parts.specs.Lines.{IsHomeOf, IsPassFor};
 ghost use Rattle.node_runner.specs.Runs.{IsContextIn, IsNodeIn, IsWorkerOf};
 
-use crate::bells::Bells;
-use crate::desk::{Desk, Home, Ticket, most_tickets};
-use crate::line::Line;
-use crate::turn::Finished;
 use chronicle::ActorSeat;
 use disk::SteadyDisk;
 use grain::{Grain, KeptValues};
 use local_pool::{BodyWorker, LocalPool, TurnPass, TurnQueue};
+use runner_parts::{Bells, Desk, Finished, Home, Line, Ticket, most_tickets};
 use serial_meaning::Job;
 use start_words::Pen;
 use std::alloc::{AllocError, Global};

@@ -6,11 +6,7 @@ ghost use Rattle.chronicle.specs.History.{outcome_told};
 ghost use Rattle.chronicle.specs.Seats.{IsSeatIn};
 ghost use Rattle.node_runner.specs.Runs.{TakesOutcomesOf};
 
-use crate::counts::{End, Turns};
-use crate::fates::Fates;
-use crate::gate::Gate;
 use crate::inbox::Inbox;
-use crate::resting::{is_beginning, is_to_sleep, rest_idle, wait};
 use crate::saves::Saves;
 use crate::shared::{Shared, commit};
 use board::Note;
@@ -18,6 +14,7 @@ use chronicle::{ActorSeat, Committed, Receiver};
 use clearinghouse::HouseError;
 use disk::SteadyDisk;
 use event_script::{Event, HouseEvent};
+use runner_parts::{End, Fates, Gate, Turns, is_beginning, is_to_sleep, rest_idle, wait};
 use std::alloc::Global;
 use std::marker::Model;
 use std::sync::Wait;
@@ -36,10 +33,10 @@ const PLACE: u64 = 64;
 /// It rests as a node that is alone in its run.
 const ALONE: u8 = 1;
 
-/// What the clearinghouse's thread has in a run: what the actors share, a seat, what it knows of the
-/// board, the packets and the values that may come to it, how many events were committed when it
-/// ticked last, how often it did, in how many turns in a row it did nothing, and how often its bell
-/// had been rung when this turn began. Contracts see the chronicle.
+/// What the clearinghouse's thread has in a run: what the actors share, a seat, what it knows of
+/// the board, the packets and the values that may come to it, how many events were committed when
+/// it ticked last, how often it did, in how many turns in a row it did nothing, and how often its
+/// bell had been rung when this turn began. Contracts see the chronicle.
 #[derive(Drop)]
 struct HouseRun<'r, 's, 'a, G: Gate + Sync, D: SteadyDisk + Drop> {
     alloc: Global,

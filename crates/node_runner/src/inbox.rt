@@ -6,10 +6,10 @@ ghost use Rattle.chronicle.specs.Deliveries.{delivery};
 ghost use Rattle.chronicle.specs.History.{actor_number, outcome_told};
 ghost use Rattle.chronicle.specs.Seats.{IsSeatIn};
 
-use crate::fates::{Fate, Fates};
 use chronicle::{ActorSeat, Chronicle, Committed, Delivery, Receiver, delivery_to};
 use disk::SteadyDisk;
 use event_script::NodePlace;
+use runner_parts::{Fate, Fates};
 use std::alloc::Global;
 use std::sync::Wait;
 use world_steps::NoMemory;

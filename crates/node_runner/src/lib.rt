@@ -28,9 +28,9 @@
 //! (`evaluate_here`). What came back, and what needs no evaluation, goes before packets then, up to
 //! 16 times in a row, so that no thief is granted what is evaluated already (`go_on`).
 //!
-//! **Sleep.** An actor that finds nothing for some turns sleeps until its bell is rung (`RunBells`),
-//! and some time at most (`resting`): by whom sends it a packet, by a body worker of its own that is
-//! done with a ticket, and once there is an outcome.
+//! **Sleep.** An actor that finds nothing for some turns sleeps until its bell is rung
+//! (`RunBells`), and some time at most (`resting`): by whom sends it a packet, by a body worker of
+//! its own that is done with a ticket, and once there is an outcome.
 //!
 //! **Faults** are drawn from one word, for each place by itself: packets that are lost and that
 //! come twice (`Fates`), and whom a node asks. Crash i comes once 50 i events were committed, on
@@ -54,33 +54,17 @@
 //! and departures come that are asked for.
 #![tactic(auto)]
 
-mod bells;
-mod config;
-mod counts;
 mod crew;
-mod desk;
 mod error;
-mod fates;
-mod gate;
 mod house;
 mod inbox;
-mod leavers;
-mod line;
-mod members;
 mod muster;
 mod node;
-mod pace;
-mod plans;
-mod probe;
-mod resting;
 mod run;
 mod saves;
 mod shared;
-mod turn;
 mod worker;
 
-pub use config::{Faults, RunConfig};
 pub use error::RunError;
-pub use fates::{Fate, Fates};
-pub use gate::{Gate, Open};
 pub use run::{Ran, run_job};
+pub use runner_parts::{Fate, Fates, Faults, Gate, Open, RunConfig};

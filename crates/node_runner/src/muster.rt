@@ -1,11 +1,8 @@
 //! Before the first turn all threads of a run have to be there.
 
-use crate::config::RunConfig;
-use crate::counts::End;
-use crate::gate::Gate;
-use crate::resting::YIELDS;
 use crate::shared::Shared;
 use disk::SteadyDisk;
+use runner_parts::{End, Gate, RunConfig, YIELDS};
 use std::sync::Wait;
 use std::thread::{sleep, yield_now};
 use std::time::{Clock, Duration};

@@ -1,29 +1,21 @@
 ghost use Rattle.std.specs.Prelude.{◌≡◌, length};
 ghost use Rattle.kind_check.specs.Total.{Takes};
 ghost use Rattle.chronicle.specs.Seats.{IsSeatIn};
-ghost use Rattle.node_runner.specs.Lines.{IsHomeOf};
-ghost use Rattle.node_runner.specs.Turns.{IsFoundOf};
+ghost use Rattle.runner_parts.specs.Lines.{IsHomeOf};
+ghost use Rattle.runner_parts.specs.Turns.{IsFoundOf};
 
-use crate::bells::RunBells;
-use crate::config::RunConfig;
-use crate::counts::{Counts, End, Turns};
-use crate::desk::{Desk, Returned};
-use crate::fates::Fates;
-use crate::gate::Gate;
 use crate::inbox::{Delivered, Inbox};
-use crate::members::Members;
-use crate::plans::Plans;
-use crate::resting::{
-    YIELDS, asks_in_vain, is_beginning, is_to_sleep, pause, pauses, rest, rest_idle, wait,
-};
 use crate::shared::{Shared, commit, commit_found};
-use crate::turn::Found;
 use body_eval::Done;
-use chronicle::{ActorSeat, Continued, Receiver, frame_of};
+use chronicle::{ActorSeat, Continued, Receiver};
 use disk::SteadyDisk;
 use event_script::{Event, FrameOf, NodeEvent, NodePlace};
 use grain::takes_its_numbers;
 use node_steps::{NodeError, Work};
+use runner_parts::{
+    Counts, Desk, End, Fates, Found, Gate, Members, Plans, Returned, RunBells, RunConfig, Turns,
+    YIELDS, asks_in_vain, is_beginning, is_to_sleep, pause, pauses, rest, rest_idle, wait,
+};
 use serial_meaning::Flat;
 use start_words::Pen;
 use std::alloc::Global;
@@ -114,7 +106,7 @@ impl<'r, 's, 'a, G: Gate + Sync, D: SteadyDisk + Drop> Model for NodeRun<'r, 's,
     ghost use Rattle.task_tree.specs.contracts.tree.End as end;
     ghost use Rattle.chronicle.specs.Seats.{ChronicleOf, IsSeatIn};
     ghost use Rattle.start_words.specs.Words.{IsPenOf};
-    ghost use Rattle.node_runner.specs.Lines.{IsHomeOf};
+    ghost use Rattle.runner_parts.specs.Lines.{IsHomeOf};
 
     ghost Value = { ChronicleOf };
 
@@ -508,7 +500,11 @@ impl<'r, 's, 'a, G: Gate + Sync, D: SteadyDisk + Drop> NodeRun<'r, 's, 'a, G, D>
         }
         if let Some(whole) = self.desk.value_of(checked, &work) {
             let turns = whole.turns();
-            self.carry_out(rt, frame_of(&work), &Found::Whole(whole))?;
+            self.carry_out(
+                rt,
+                FrameOf::of(work.grant, work.frame),
+                &Found::Whole(whole),
+            )?;
             self.shared.counts.use_kept(turns);
             return Some(true);
         }
@@ -548,7 +544,7 @@ impl<'r, 's, 'a, G: Gate + Sync, D: SteadyDisk + Drop> NodeRun<'r, 's, 'a, G, D>
         if self.desk.is_waiting() {
             return self.desk.is_full();
         }
-        let this = [frame_of(work)];
+        let this = [FrameOf::of(work.grant, work.frame)];
         let other = self
             .shared
             .chronicle
@@ -584,7 +580,7 @@ impl<'r, 's, 'a, G: Gate + Sync, D: SteadyDisk + Drop> NodeRun<'r, 's, 'a, G, D>
         requires { Takes self.old.job.program work.thread (length work.numbers) }
         ensures { self.new ≡ self.old }
     {
-        let frame = frame_of(&work);
+        let frame = FrameOf::of(work.grant, work.frame);
         let checked = self.shared.chronicle.job().checked();
         let Ok(turn) = Done::on(self.alloc, checked, work.thread, work.numbers) else {
             self.shared.counts.end_by(End::Memory);
@@ -601,7 +597,7 @@ impl<'r, 's, 'a, G: Gate + Sync, D: SteadyDisk + Drop> NodeRun<'r, 's, 'a, G, D>
         requires { Takes self.old.job.program work.thread (length work.numbers) }
         ensures { self.new ≡ self.old }
     {
-        let frame = frame_of(&work);
+        let frame = FrameOf::of(work.grant, work.frame);
         let checked = self.shared.chronicle.job().checked();
         let most = self
             .shared
@@ -760,8 +756,8 @@ impl Node {
         bells.sleep_node(rt, self.index(), self.rung, most);
     }
 
-    /// It lets others go on, in a run of so many nodes, until its bell is rung, unless it was in this
-    /// turn: at once where what its body workers have takes long, so that it doesn't take a
+    /// It lets others go on, in a run of so many nodes, until its bell is rung, unless it was in
+    /// this turn: at once where what its body workers have takes long, so that it doesn't take a
     /// processor from them. Where it is left out it sleeps in each turn.
     fn rest<R: Wait + Clock>(
         &mut self,

@@ -4,18 +4,11 @@ ghost use Rattle.chronicle.specs.Kept.{IsLeftBy};
 ghost use Rattle.chronicle.specs.Seats.{IsSeatIn};
 ghost use Rattle.node_runner.specs.Runs.{IsContextIn, IsRanOf, IsWorkerOf, KeepsOutcome, TakesOutcomesOf};
 
-use crate::bells::RunBells;
-use crate::config::RunConfig;
-use crate::counts::{Counts, End};
 use crate::crew::{ActorContext, WorkerContext, contexts};
 use crate::error::RunError;
-use crate::gate::Gate;
 use crate::house::run_house;
-use crate::leavers::Leavers;
 use crate::muster::{MOST_PATIENCE, PATIENCE, await_all, rest_long, threads_of};
 use crate::node::run_node;
-use crate::pace::Pace;
-use crate::probe::can_make;
 use crate::shared::Shared;
 use crate::worker::run_worker;
 use board::Board;
@@ -24,6 +17,7 @@ use chronicle::{ActorSeat, Chronicle, Finished, Trace};
 use disk::SteadyDisk;
 use event_script::NodePlace;
 use ids::Outcome;
+use runner_parts::{Counts, End, Gate, Leavers, Pace, RunBells, RunConfig, can_make};
 use serial_meaning::Job;
 use start_words::WordTable;
 use std::alloc::{AllocError, Global};
@@ -57,9 +51,9 @@ pub struct Ran<D: Drop> {
 /// Where a thread isn't there after half a second all end before anything is committed. Whether the
 /// system makes as many is tried then, with threads that do nothing; and they are made anew and
 /// waited for twice as long, up to two minutes each time: threads that are slow are waited for.
-/// Each loop turn of an actor or a body worker counts as one, and so does each question to the gate.
-/// Where 131,072 turns and more may be taken a thread takes several at once, at most 64, and so
-/// fewer than one in a hundred may be left to threads that don't begin them.
+/// Each loop turn of an actor or a body worker counts as one, and so does each question to the
+/// gate. Where 131,072 turns and more may be taken a thread takes several at once, at most 64, and
+/// so fewer than one in a hundred may be left to threads that don't begin them.
 pub fn run_job<'a, R: Threads + Wait + Clock + Sync, G: Gate + Sync, D: SteadyDisk + Drop + Send>(
     rt: &R,
     alloc: Global,

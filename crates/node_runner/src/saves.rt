@@ -12,9 +12,9 @@ ghost use Rattle.chronicle.specs.Deliveries.{delivery};
 ghost use Rattle.chronicle.specs.History.{actor_number, outcome_told};
 ghost use Rattle.chronicle.specs.Seats.{IsSeatIn};
 
-use crate::fates::{Fate, Fates};
 use chronicle::{ActorSeat, Chronicle, Committed, Receiver, delivery_to};
 use disk::SteadyDisk;
+use runner_parts::{Fate, Fates};
 use std::alloc::Global;
 use std::sync::Wait;
 use std::time::{Clock, Duration};

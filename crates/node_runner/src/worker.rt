@@ -1,28 +1,23 @@
 ghost use Rattle.std.specs.Prelude.{◌≡◌, length, IfSome};
 ghost use Rattle.kind_check.specs.Total.{Takes};
 ghost use Rattle.serial_meaning.specs.Whole.{AreWholesOf};
-ghost use Rattle.node_runner.specs.Lines.{IsLineOf};
-ghost use Rattle.node_runner.specs.Turns.{IsEvaluatedOf};
+ghost use Rattle.runner_parts.specs.Lines.{IsLineOf};
+ghost use Rattle.runner_parts.specs.Turns.{IsEvaluatedOf};
 
-use crate::bells::Bells;
-use crate::counts::{Counts, End, Turns};
 use crate::crew::WorkerContext;
-use crate::desk::Ticket;
-use crate::gate::Gate;
-use crate::line::Line;
 use crate::muster::await_all;
-use crate::resting::{YIELDS, rest};
 use crate::shared::Shared;
-use crate::turn::{Evaluated, Finished, Found};
 use board::Note;
 use body_eval::Done;
-use chronicle::frame_of;
 use disk::SteadyDisk;
 use event_script::FrameOf;
 use grain::{Left, evaluate, takes_its_numbers};
 use ids::Numbers;
 use kind_check::Checked;
 use node_steps::Work;
+use runner_parts::{
+    Bells, Counts, End, Evaluated, Finished, Found, Gate, Line, Ticket, Turns, YIELDS, rest,
+};
 use serial_meaning::Flat;
 use std::alloc::Global;
 use std::marker::Model;
@@ -49,7 +44,7 @@ impl<'r, 's, 'a, G: Gate + Sync, D: SteadyDisk + Drop> Model for WorkerRun<'r, '
     ghost use Rattle.task_tree.specs.contracts.tree.Block as block;
     ghost use Rattle.task_tree.specs.contracts.tree.End as end;
     ghost use Rattle.chronicle.specs.Seats.{ChronicleOf};
-    ghost use Rattle.node_runner.specs.Lines.{IsLineOf};
+    ghost use Rattle.runner_parts.specs.Lines.{IsLineOf};
 
     ghost Value = { ChronicleOf };
 
@@ -210,7 +205,10 @@ fn evaluate_ticket(
     requires takes { Takes checked.now ticket.work.thread (length ticket.work.numbers) }
     ensures { IfSome result (IsEvaluatedOf checked.now) }
 {
-    let (number, frame) = (ticket.number, frame_of(&ticket.work));
+    let (number, frame) = (
+        ticket.number,
+        FrameOf::of(ticket.work.grant, ticket.work.frame),
+    );
     let Work {
         thread,
         numbers,

@@ -2,8 +2,8 @@ use Rattle.std.proofs.Common.{◌≡◌, ◌∙◌, Some, ap, rules, subst, sym}
 use Rattle.std.proofs.lemmas.List.Elements.{All-pop}
 use Rattle.task_tree.specs.declared.tree.Program.{Program}
 use Rattle.local_pool.specs.Turns.{IsBlankPassOf, QueueOf}
-use Rattle.node_runner.specs.Lines.{IsHomeOf}
-use Rattle.node_runner.specs.Turns.{stamp, stamp_of}
+use Rattle.runner_parts.specs.Lines.{IsHomeOf}
+use Rattle.runner_parts.specs.Turns.{stamp, stamp_of}
 use Rattle.node_runner.proofs.crew.desk_of.Goals as goal
 
 pub hire-requires : goal.hire-requires

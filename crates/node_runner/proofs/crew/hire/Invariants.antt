@@ -1,6 +1,6 @@
 use Rattle.std.proofs.Common.{All, vec_len}
 use Rattle.std.specs.Arc.{arc_value}
-use Rattle.node_runner.specs.Lines.{IsPassFor}
+use Rattle.runner_parts.specs.Lines.{IsPassFor}
 use Rattle.node_runner.specs.Runs.{IsWorkerOf}
 use Rattle.node_runner.proofs.crew.hire.Given as goal
 

@@ -1,5 +1,5 @@
-//! Whether the system makes the threads of a run, which is tried where one of them wasn't there, and
-//! before any of them has something to do.
+//! Whether the system makes the threads of a run, which is tried where one of them wasn't there,
+//! and before any of them has something to do.
 
 use std::sync::Wait;
 use std::sync::atomic::AtomicU64;
@@ -8,7 +8,7 @@ use std::thread::{Scope, Threads, scope, scope_env};
 
 /// Whether so many threads can be there beside this one, all at once. They are gone when it
 /// answers.
-pub(crate) fn can_make<R: Threads + Wait + Sync>(rt: &R, threads: u64) -> bool {
+pub fn can_make<R: Threads + Wait + Sync>(rt: &R, threads: u64) -> bool {
     let is_over = AtomicU64::new(0);
     let over = &is_over;
     scope(scope_env(), rt, |all| -> bool {

@@ -13,7 +13,7 @@ const NOBODY: u64 = 0;
 /// So a node leaves to none that leaves or has left, and none leaves while another one leaves to
 /// it. Each word is written by the thread of its place alone.
 #[derive(Drop)]
-pub(crate) struct Leavers {
+pub struct Leavers {
     /// The node of each place that leaves or has left, and to whom it leaves.
     nodes: Vec<CachePadded<AtomicU64>>,
     heirs: Vec<CachePadded<AtomicU64>>,
@@ -21,7 +21,7 @@ pub(crate) struct Leavers {
 
 impl Leavers {
     /// Nobody leaves yet.
-    pub(crate) fn new(alloc: Global, config: &RunConfig) -> Result<Leavers, AllocError> {
+    pub fn new(alloc: Global, config: &RunConfig) -> Result<Leavers, AllocError> {
         let count = config.nodes();
         let mut nodes = Vec::with_capacity(alloc, usize::from(count))?;
         let mut heirs = Vec::with_capacity(alloc, usize::from(count))?;
@@ -35,7 +35,7 @@ impl Leavers {
     /// Whether the node of a place may leave to another one now; it is told then that it does. Of
     /// two nodes that would leave to each other at one time at least one sees what the other tells,
     /// since each tells before it looks.
-    pub(crate) fn begin(&self, place: usize, node: u64, heir: u64) -> bool {
+    pub fn begin(&self, place: usize, node: u64, heir: u64) -> bool {
         self.tell(place, node, heir);
         if self.is_leaver(heir) || self.is_heir(node) {
             self.tell(place, NOBODY, NOBODY);
@@ -45,19 +45,19 @@ impl Leavers {
     }
 
     /// The node of a place doesn't leave after all.
-    pub(crate) fn stay(&self, place: usize) {
+    pub fn stay(&self, place: usize) {
         self.tell(place, NOBODY, NOBODY);
     }
 
     /// The node of a place has ended: it leaves to nobody any more, and is one that has left.
-    pub(crate) fn end(&self, place: usize) {
+    pub fn end(&self, place: usize) {
         if let Some(word) = self.heirs.get(place) {
             word.store(NOBODY, SeqCst);
         }
     }
 
     /// Whether a node leaves, or has left.
-    pub(crate) fn is_leaver(&self, node: u64) -> bool {
+    pub fn is_leaver(&self, node: u64) -> bool {
         for word in self.nodes.iter() {
             if word.load(SeqCst) == node {
                 return true;

@@ -1,12 +1,11 @@
 ghost use Rattle.std.specs.Prelude.{◌≡◌, ◌≤◌, length, IfOk, IfSome};
 ghost use Rattle.kind_check.specs.Total.{Takes};
-ghost use Rattle.node_runner.specs.Lines.{IsHomeOf};
-ghost use Rattle.node_runner.specs.Turns.{IsFoundOf};
+ghost use Rattle.runner_parts.specs.Lines.{IsHomeOf};
+ghost use Rattle.runner_parts.specs.Turns.{IsFoundOf};
 
 use crate::bells::Bells;
 use crate::line::Line;
 use crate::turn::{Evaluated, Found};
-use chronicle::frame_of;
 use event_script::FrameOf;
 use grain::{Grain, KeptValues, TaskSizes, evaluate};
 use kind_check::Checked;
@@ -28,7 +27,7 @@ const TICKETS_ALONE: usize = 8;
 const LONG: u64 = 16_384;
 
 /// How many tickets of a node with so many body workers are out at most.
-pub(crate) fn most_tickets(workers: usize, grain: Grain) -> usize {
+pub fn most_tickets(workers: usize, grain: Grain) -> usize {
     let is_alone = grain.evaluators <= workers as u64;
     let each = if is_alone && grain.most_turns > 0 {
         TICKETS_ALONE
@@ -42,34 +41,34 @@ pub(crate) fn most_tickets(workers: usize, grain: Grain) -> usize {
 /// most how many turns its task is to be evaluated whole; 0 where only its own turn is. On so many
 /// levels below it is kept what was finished and what was under way.
 #[derive(Drop)]
-pub(crate) struct Ticket {
-    pub(crate) number: u64,
-    pub(crate) work: Work,
-    pub(crate) most_turns: u64,
-    pub(crate) levels: u16,
+pub struct Ticket {
+    pub number: u64,
+    pub work: Work,
+    pub most_turns: u64,
+    pub levels: u16,
 }
 
 /// What comes to a node of its job's program: turns that come back, and values that evaluations
 /// kept.
 #[derive(Drop)]
-pub(crate) struct Home {
-    pub(crate) line: Line,
-    pub(crate) kept: KeptValues,
+pub struct Home {
+    pub line: Line,
+    pub kept: KeptValues,
 }
 
 /// What came back, without what the desk keeps of it: the frame, and what was found for it.
 #[derive(Drop)]
-pub(crate) struct Returned {
-    pub(crate) frame: FrameOf,
-    pub(crate) found: Found,
+pub struct Returned {
+    pub frame: FrameOf,
+    pub found: Found,
 }
 
 /// What a node's owner has of its body workers: it offers ready frames to them, and takes what they
 /// evaluated. It knows which of its tickets are out, neither come back nor forgotten.
 #[derive(Drop)]
-pub(crate) struct Desk {
+pub struct Desk {
     owner: Owner<Ticket>,
-    pub(crate) home: Home,
+    pub home: Home,
     bells: Arc<Bells, Global>,
     workers: usize,
     most_tickets: usize,
@@ -84,7 +83,7 @@ pub(crate) struct Desk {
 
 impl Desk {
     /// No ticket is out.
-    pub(crate) fn new(
+    pub fn new(
         alloc: Global,
         owner: Owner<Ticket>,
         home: Home,
@@ -110,47 +109,47 @@ impl Desk {
     }
 
     /// The bells of the node.
-    pub(crate) fn bells(&self) -> &Bells {
+    pub fn bells(&self) -> &Bells {
         &self.bells
     }
 
     /// The frames of the tickets that are out.
-    pub(crate) fn frames(&self) -> &[FrameOf] {
+    pub fn frames(&self) -> &[FrameOf] {
         self.frames.as_slice()
     }
 
     /// Whether a ticket is out.
-    pub(crate) fn is_waiting(&self) -> bool {
+    pub fn is_waiting(&self) -> bool {
         !self.tickets.is_empty()
     }
 
     /// Whether each worker has something to do.
-    pub(crate) fn is_busy(&self) -> bool {
+    pub fn is_busy(&self) -> bool {
         self.tickets.len() >= self.workers
     }
 
     /// Whether each worker has something to do, and no ticket waits for one.
-    pub(crate) fn has_begun_all(&self) -> bool {
+    pub fn has_begun_all(&self) -> bool {
         self.tickets.len() == self.workers
     }
 
     /// Whether no more tickets may be out.
-    pub(crate) fn is_full(&self) -> bool {
+    pub fn is_full(&self) -> bool {
         self.tickets.len() >= self.most_tickets
     }
 
     /// Whether no more tickets may be out, and to wait for one takes long.
-    pub(crate) fn has_long_work(&self) -> bool {
+    pub fn has_long_work(&self) -> bool {
         self.is_full() && self.last >= LONG
     }
 
     /// Offers a ready frame to the workers; whether it is out now. It isn't where there is no
     /// memory, and may be offered again.
-    pub(crate) fn offer(&mut self, work: Work) -> bool
+    pub fn offer(&mut self, work: Work) -> bool
         ensures { self.new.home ≡ self.old.home }
     {
         let number = self.next;
-        if !self.note(number, frame_of(&work)) {
+        if !self.note(number, FrameOf::of(work.grant, work.frame)) {
             return false;
         }
         let ticket = Ticket {
@@ -170,7 +169,7 @@ impl Desk {
 
     /// Whether a ready frame's task takes one turn, as its thread spawns nothing, and tasks are
     /// evaluated whole. No worker is asked then.
-    pub(crate) fn is_short(&self, checked: &Checked, work: &Work) -> bool
+    pub fn is_short(&self, checked: &Checked, work: &Work) -> bool
         requires { Takes checked.now work.now.thread (length work.now.numbers) }
     {
         self.sizes.is_short(checked, work)
@@ -178,14 +177,14 @@ impl Desk {
 
     /// Whether a ready frame's task is known to be large, which it isn't any more then, or isn't
     /// tried, as its thread's tasks are.
-    pub(crate) fn was_large(&mut self, work: &Work) -> bool
+    pub fn was_large(&mut self, work: &Work) -> bool
         ensures { self.new.home ≡ self.old.home }
     {
         self.sizes.was_large(work)
     }
 
     /// The value of a ready frame's task, where an evaluation kept it. It isn't kept any more then.
-    pub(crate) fn value_of(&mut self, checked: &Checked, work: &Work) -> Option<Whole>
+    pub fn value_of(&mut self, checked: &Checked, work: &Work) -> Option<Whole>
         requires { IsHomeOf checked.now self.old.home }
         ensures home { self.new.home ≡ self.old.home }
         ensures own { IfSome result (λ w. w.program ≡ checked.now) }
@@ -197,7 +196,7 @@ impl Desk {
     }
 
     /// The value of a task whose frame isn't there is kept: the frame may come back.
-    pub(crate) fn keep(&mut self, checked: &Checked, whole: Whole)
+    pub fn keep(&mut self, checked: &Checked, whole: Whole)
         requires home { IsHomeOf checked.now self.old.home }
         requires own { whole.program ≡ checked.now }
         ensures { IsHomeOf checked.now self.new.home }
@@ -207,18 +206,18 @@ impl Desk {
     }
 
     /// Whether a ready frame's task is small by those of its thread before it.
-    pub(crate) fn is_small(&self, work: &Work) -> bool {
+    pub fn is_small(&self, work: &Work) -> bool {
         self.few_turns(work.thread) > 0
     }
 
     /// In at most how many turns such a task of a thread is evaluated.
-    pub(crate) fn few_turns(&self, thread: u8) -> u64 {
+    pub fn few_turns(&self, thread: u8) -> u64 {
         self.sizes.few_turns(thread)
     }
 
     /// Evaluates the task of a ready frame that is small whole, in at most so many turns. Where
     /// that isn't done the frame comes back, whose task counts as small no more.
-    pub(crate) fn evaluate_small(
+    pub fn evaluate_small(
         &mut self,
         alloc: Global,
         checked: &Checked,
@@ -272,7 +271,7 @@ impl Desk {
     }
 
     /// What comes back next, if something does. Its ticket isn't out any more.
-    pub(crate) fn take<R: Wait>(&mut self, rt: &R, checked: &Checked) -> Option<Returned>
+    pub fn take<R: Wait>(&mut self, rt: &R, checked: &Checked) -> Option<Returned>
         requires { IsHomeOf checked.now self.old.home }
         ensures home { IsHomeOf checked.now self.new.home }
         ensures own { IfSome result (λ r. IsFoundOf checked.now r.found) }
@@ -298,7 +297,7 @@ impl Desk {
     }
 
     /// Takes those tickets back that no worker has begun, and forgets them.
-    pub(crate) fn take_back(&mut self)
+    pub fn take_back(&mut self)
         ensures { self.new.home ≡ self.old.home }
     {
         for _ in 0..self.tickets.len() {
@@ -311,7 +310,7 @@ impl Desk {
     }
 
     /// Takes tickets back, and forgets all others too.
-    pub(crate) fn forget(&mut self)
+    pub fn forget(&mut self)
         ensures { self.new.home ≡ self.old.home }
     {
         self.take_back();

@@ -1,6 +1,6 @@
 -- How a run is made.
 use Rattle.std.specs.Prelude.{ℕ, ◌≤◌, ◌<◌}
-use Rattle.node_runner.specs.declared.config.Faults.{Faults}
+use Rattle.runner_parts.specs.declared.config.Faults.{Faults}
 
 -- how many nodes, and how many body workers each, the faults, and how many turns may be taken
 pub record ConfigOf : Type 0 where

@@ -11,7 +11,7 @@ const DEPARTURE: u64 = 25;
 /// place i modulo the count of nodes, once 50 i events were committed beyond those that come before
 /// all faults; departure i on the place that many before the last one's end, once 50 i + 25 were.
 #[derive(Clone, Copy)]
-pub(crate) struct Plans {
+pub struct Plans {
     nodes: u64,
     after: u64,
     crashes: u64,
@@ -22,7 +22,7 @@ pub(crate) struct Plans {
 
 impl Plans {
     /// Those of a place.
-    pub(crate) fn new(config: &RunConfig, place: NodePlace) -> Plans {
+    pub fn new(config: &RunConfig, place: NodePlace) -> Plans {
         let faults = config.faults();
         let (nodes, place) = (u64::from(config.nodes()), u64::from(place.index()));
         let departure = nodes.saturating_sub(place);
@@ -46,7 +46,7 @@ impl Plans {
     }
 
     /// Whether the next crash is due, after so many events; it is over then.
-    pub(crate) fn take_crash(&mut self, events: u64) -> bool {
+    pub fn take_crash(&mut self, events: u64) -> bool {
         let due = self.crash.saturating_mul(CRASH).saturating_add(self.after);
         if self.crash > self.crashes || events < due {
             return false;
@@ -57,7 +57,7 @@ impl Plans {
 
     /// Whether the departure is due, after so many events. It is due again after as many more as
     /// there are between the two, should it be refused.
-    pub(crate) fn take_departure(&mut self, events: u64) -> bool {
+    pub fn take_departure(&mut self, events: u64) -> bool {
         match self.departure {
             Some(at) if at <= events => {
                 self.departure = Some(events.saturating_add(DEPARTURE));
@@ -70,7 +70,7 @@ impl Plans {
 
     /// Whether the departure was due. A node that is to leave asks for no more work, since none may
     /// leave while it waits for an answer.
-    pub(crate) fn is_to_leave(&self) -> bool {
+    pub fn is_to_leave(&self) -> bool {
         self.leaves
     }
 }

@@ -1,5 +1,5 @@
 ghost use Rattle.std.specs.Prelude.{◌≡◌, ◌≤◌, ◌<◌, ◌↔◌, IfSome, IsSome, Some};
-ghost use Rattle.node_runner.specs.Configs.{IsConfig};
+ghost use Rattle.runner_parts.specs.Configs.{IsConfig};
 
 use grain::Grain;
 use std::marker::Model;
@@ -50,7 +50,7 @@ pub struct RunConfig {
 }
 
 impl Model for RunConfig {
-    ghost use Rattle.node_runner.specs.Configs.{ConfigOf, IsConfig};
+    ghost use Rattle.runner_parts.specs.Configs.{ConfigOf, IsConfig};
 
     ghost Value = { ConfigOf };
 
@@ -106,7 +106,7 @@ impl RunConfig {
     }
 
     /// How the body workers of all nodes evaluate tasks whole.
-    pub(crate) fn task_grain(&self) -> Grain {
+    pub fn task_grain(&self) -> Grain {
         Grain {
             most_turns: self.grain,
             evaluators: self.evaluators(),
@@ -114,7 +114,7 @@ impl RunConfig {
     }
 
     /// How many threads evaluate tasks at once.
-    pub(crate) fn evaluators(&self) -> u64 {
+    pub fn evaluators(&self) -> u64 {
         u64::from(self.nodes).saturating_mul(u64::from(self.bodies))
     }
 

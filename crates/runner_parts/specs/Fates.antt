@@ -3,8 +3,8 @@ use Rattle.std.specs.Prelude.{ℕ, Bool, false, ◌+◌, ◌%◌, ◌^◌, ◌==
 use Rattle.rand_core.specs.Pcg32Seed.{pcg32_seed}
 use Rattle.rand_pcg.specs.Lcg.{Lcg}
 use Rattle.rand_pcg.specs.Pcg.{pcg32, pcg32_of_seed}
-use Rattle.node_runner.specs.declared.fates.Fate.{Fate}
-use Rattle.node_runner.specs.declared.fates.Fate.TheVariants.{Lost, Once, Twice}
+use Rattle.runner_parts.specs.declared.fates.Fate.{Fate}
+use Rattle.runner_parts.specs.declared.fates.Fate.TheVariants.{Lost, Once, Twice}
 
 -- the generator, and one packet in how many is lost and repeated; 0 for none
 pub record FatesOf : Type 0 where

@@ -1,6 +1,6 @@
 //! What comes back from body workers.
 ghost use Rattle.std.specs.Prelude.{◌≡◌, IfSome};
-ghost use Rattle.node_runner.specs.Turns.{IsEvaluatedOf};
+ghost use Rattle.runner_parts.specs.Turns.{IsEvaluatedOf};
 
 use body_eval::Done;
 use event_script::FrameOf;
@@ -14,7 +14,7 @@ use std::snapshot::Snapshot;
 /// What a body worker found for a ready frame: its turn, or what its task gives with all that comes
 /// of it.
 #[derive(Drop)]
-pub(crate) enum Found {
+pub enum Found {
     Turn(Done),
     Whole(Whole),
 }
@@ -22,17 +22,17 @@ pub(crate) enum Found {
 /// What a body worker evaluated: the number of the ticket, its frame, and what was found; and what
 /// is left where its task wasn't evaluated to its end.
 #[derive(Drop)]
-pub(crate) struct Evaluated {
-    pub(crate) ticket: u64,
-    pub(crate) frame: FrameOf,
-    pub(crate) found: Found,
-    pub(crate) left: Left,
+pub struct Evaluated {
+    pub ticket: u64,
+    pub frame: FrameOf,
+    pub found: Found,
+    pub left: Left,
 }
 
 /// What comes back from body workers, all of one program. The first one has nothing, and stands for
 /// the program. Contracts see both.
 #[derive(Drop)]
-pub(crate) struct Finished {
+pub struct Finished {
     // It has no bytes.
     program: Snapshot<Checked>,
     evaluated: Option<Evaluated>,
@@ -43,7 +43,7 @@ impl Model for Finished {
     ghost use Rattle.task_tree.specs.contracts.tree.Expr as expr;
     ghost use Rattle.task_tree.specs.contracts.tree.Block as block;
     ghost use Rattle.task_tree.specs.contracts.tree.End as end;
-    ghost use Rattle.node_runner.specs.Turns.{FinishedOf, IsFinished};
+    ghost use Rattle.runner_parts.specs.Turns.{FinishedOf, IsFinished};
 
     ghost Value = { FinishedOf };
 
@@ -57,14 +57,14 @@ impl Model for Finished {
 impl Stamped for Finished {
     type Stamp = Snapshot<Checked>;
 
-    ghost use Rattle.node_runner.specs.Turns.{stamp_of};
+    ghost use Rattle.runner_parts.specs.Turns.{stamp_of};
 
     ghost stamp = { stamp_of };
 }
 
 impl Finished {
     /// The first one of a program.
-    pub(crate) fn first(checked: &Checked) -> Finished
+    pub fn first(checked: &Checked) -> Finished
         ensures { result.program ≡ checked.now }
     {
         Finished {
@@ -74,7 +74,7 @@ impl Finished {
     }
 
     /// What was evaluated of a program.
-    pub(crate) fn of(checked: &Checked, evaluated: Evaluated) -> Finished
+    pub fn of(checked: &Checked, evaluated: Evaluated) -> Finished
         requires { IsEvaluatedOf checked.now evaluated }
         ensures { result.program ≡ checked.now }
     {
@@ -85,7 +85,7 @@ impl Finished {
     }
 
     /// What was evaluated, if something was.
-    pub(crate) fn into_evaluated(self) -> Option<Evaluated>
+    pub fn into_evaluated(self) -> Option<Evaluated>
         ensures { IfSome result (IsEvaluatedOf self.program) }
     {
         self.evaluated

@@ -1,5 +1,5 @@
 ghost use Rattle.std.specs.Prelude.{◌≡◌};
-ghost use Rattle.node_runner.specs.Fates.{drawn, first, next_fate};
+ghost use Rattle.runner_parts.specs.Fates.{drawn, first, next_fate};
 
 use rand_core::SeedableRng;
 use rand_core::utils::NextWord;
@@ -24,7 +24,7 @@ pub struct Fates {
 }
 
 impl Model for Fates {
-    ghost use Rattle.node_runner.specs.Fates.{FatesOf};
+    ghost use Rattle.runner_parts.specs.Fates.{FatesOf};
 
     ghost Value = { FatesOf };
 

@@ -2,8 +2,8 @@ use Rattle.std.proofs.Common.{◌≡◌, ◌∙◌, Some, ap, subst, sym}
 use Rattle.std.specs.Prelude.{IfSome}
 use Rattle.std.specs.declared.snapshot.Snapshot.{Snapshot}
 use Rattle.task_tree.specs.declared.tree.Program.{Program}
-use Rattle.node_runner.specs.Turns.{IsEvaluatedOf, stamp}
-use Rattle.node_runner.proofs.line.Line.take.Goals as goal
+use Rattle.runner_parts.specs.Turns.{IsEvaluatedOf, stamp}
+use Rattle.runner_parts.proofs.line.Line.take.Goals as goal
 
 pub returns-clause-own : goal.returns-clause-own
 returns-clause-own g c =

@@ -16,7 +16,7 @@ const SILENT: u64 = 250;
 /// many. So a node that was heard holds while it is behind, or another node is. Each word is
 /// written by one thread and read by all, and lies on cache lines of its own.
 #[derive(Drop)]
-pub(crate) struct Pace {
+pub struct Pace {
     nodes: u8,
     /// How many events were committed when the node of a place sent again last; the greatest number
     /// where none waits for it.
@@ -27,7 +27,7 @@ pub(crate) struct Pace {
 
 impl Pace {
     /// Nothing was done yet.
-    pub(crate) fn new(alloc: Global, config: &RunConfig) -> Result<Pace, AllocError> {
+    pub fn new(alloc: Global, config: &RunConfig) -> Result<Pace, AllocError> {
         let nodes = config.nodes();
         let mut heard = Vec::with_capacity(alloc, usize::from(nodes))?;
         for _ in 0..nodes {
@@ -41,20 +41,20 @@ impl Pace {
     }
 
     /// The node of a place sent again when so many events were committed.
-    pub(crate) fn hear(&self, place: usize, events: u64) {
+    pub fn hear(&self, place: usize, events: u64) {
         if let Some(heard) = self.heard.get(place) {
             heard.store(events, SeqCst);
         }
     }
 
     /// The node of a place has ended, or waits for something else: none waits for it.
-    pub(crate) fn forget(&self, place: usize) {
+    pub fn forget(&self, place: usize) {
         self.hear(place, u64::MAX);
     }
 
     /// The clearinghouse looked at so many packets. The word is written only where they are more
     /// than before.
-    pub(crate) fn see(&self, packets: u64) {
+    pub fn see(&self, packets: u64) {
         if self.seen.load(SeqCst) != packets {
             self.seen.store(packets, SeqCst);
         }
@@ -63,7 +63,7 @@ impl Pace {
     /// Whether, with so many packets sent, the clearinghouse is behind, or another node is behind
     /// one that sent again last when so many events were committed. The node that is last of all
     /// finds none behind it.
-    pub(crate) fn is_behind(&self, packets: u64, events: u64) -> bool {
+    pub fn is_behind(&self, packets: u64, events: u64) -> bool {
         if self.seen.load(SeqCst).saturating_add(UNSEEN) < packets {
             return true;
         }

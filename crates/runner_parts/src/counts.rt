@@ -6,7 +6,7 @@ use std::time::Duration;
 
 /// Why a run ends, as its actors tell each other.
 #[derive(Clone, Copy, Debug, PartialEq, Eq)]
-pub(crate) enum End {
+pub enum End {
     /// All turns were taken.
     Turns,
     /// There is no memory.
@@ -32,7 +32,7 @@ const GIVEN_UP: u64 = 1 << 32;
 /// lie on cache lines of their own: a thread that counts turns or bodies takes no line from one
 /// that counts events.
 #[derive(Drop)]
-pub(crate) struct Counts {
+pub struct Counts {
     limit: u64,
     patience: u64,
     // Of the turns that are left an evaluation takes one in so many at most.
@@ -49,13 +49,13 @@ pub(crate) struct Counts {
 /// The turns that a thread has taken and not begun. It takes some at once, so that threads seldom
 /// wait for each other's count.
 #[derive(Drop)]
-pub(crate) struct Turns {
+pub struct Turns {
     left: u64,
 }
 
 impl Turns {
     /// None is taken.
-    pub(crate) fn new() -> Turns {
+    pub fn new() -> Turns {
         Turns { left: 0 }
     }
 }
@@ -72,7 +72,7 @@ const DISK: u64 = 256;
 impl Counts {
     /// Nothing is counted yet, so many turns may be taken, a thread that waits for others sleeps so
     /// often before the first one, and so many threads evaluate tasks at once.
-    pub(crate) fn new(limit: u64, patience: u64, evaluators: u64) -> Counts {
+    pub fn new(limit: u64, patience: u64, evaluators: u64) -> Counts {
         Counts {
             limit,
             patience,
@@ -88,19 +88,19 @@ impl Counts {
     }
 
     /// How often a thread sleeps at most that waits for others before its first turn.
-    pub(crate) fn patience(&self) -> u64 {
+    pub fn patience(&self) -> u64 {
         self.patience
     }
 
     /// One more thread is there, of so many; the last one wakes those that wait for it.
-    pub(crate) fn appear(&self, all: u64) {
+    pub fn appear(&self, all: u64) {
         if self.threads.fetch_add(1, SeqCst).wrapping_add(1) == all {
             self.threads.wake_all();
         }
     }
 
     /// Sleeps until all of so many threads are there, for at most so many microseconds.
-    pub(crate) fn await_threads<R: Wait>(&self, rt: &R, all: u64, most: u64) {
+    pub fn await_threads<R: Wait>(&self, rt: &R, all: u64, most: u64) {
         let there = self.threads.load(SeqCst);
         if there != all {
             let most = Duration::from_micros(most);
@@ -110,13 +110,13 @@ impl Counts {
     }
 
     /// Whether so many threads, which are all, are there, and none gave up before.
-    pub(crate) fn are_there(&self, all: u64) -> bool {
+    pub fn are_there(&self, all: u64) -> bool {
         self.threads.load(SeqCst) == all
     }
 
     /// A thread gives up waiting for all of so many, unless they are there by now. Whether it did:
     /// then they are never all there.
-    pub(crate) fn give_up(&self, all: u64) -> bool {
+    pub fn give_up(&self, all: u64) -> bool {
         for _ in 0..u64::MAX {
             let there = self.threads.load(SeqCst);
             if there == all {
@@ -139,7 +139,7 @@ impl Counts {
 
     /// A thread takes a turn, of those that it has, or else of those that are left to all. Whether
     /// there was one, and the run hasn't ended.
-    pub(crate) fn take_turn(&self, own: &mut Turns) -> bool {
+    pub fn take_turn(&self, own: &mut Turns) -> bool {
         if own.left == 0 {
             own.left = self.take_batch();
         }
@@ -160,7 +160,7 @@ impl Counts {
 
     /// How many turns of at most so many a thread gets for an evaluation, besides its own. They are
     /// few where few are left, so that all evaluators together leave others half of them.
-    pub(crate) fn take_for(&self, most: u64) -> u64 {
+    pub fn take_for(&self, most: u64) -> u64 {
         let left = self.limit.saturating_sub(self.turns.load(SeqCst));
         let taken = most.min(left.checked_div(self.parts).unwrap_or(0));
         let _ = self.turns.fetch_add(taken, SeqCst);
@@ -168,49 +168,49 @@ impl Counts {
     }
 
     /// Turns that were taken for an evaluation aren't needed.
-    pub(crate) fn give_back(&self, turns: u64) {
+    pub fn give_back(&self, turns: u64) {
         let _ = self.turns.fetch_sub(turns, SeqCst);
     }
 
     /// So many turns were evaluated in vain, but for those of values that were kept, as long as
     /// none of these is used.
-    pub(crate) fn waste(&self, turns: u64) {
+    pub fn waste(&self, turns: u64) {
         let _ = self.vain.fetch_add(turns, SeqCst);
     }
 
     /// A value was used that an evaluation kept: its turns weren't taken in vain.
-    pub(crate) fn use_kept(&self, turns: u64) {
+    pub fn use_kept(&self, turns: u64) {
         let _ = self.used.fetch_add(1, SeqCst);
         let _ = self.vain.fetch_sub(turns, SeqCst);
     }
 
     /// How many values were used that evaluations kept.
-    pub(crate) fn used(&self) -> u64 {
+    pub fn used(&self) -> u64 {
         self.used.load(SeqCst)
     }
 
     /// How many turns were evaluated in vain.
-    pub(crate) fn vain(&self) -> u64 {
+    pub fn vain(&self) -> u64 {
         self.vain.load(SeqCst)
     }
 
     /// An event was committed.
-    pub(crate) fn count_event(&self) {
+    pub fn count_event(&self) {
         let _ = self.events.fetch_add(1, SeqCst);
     }
 
     /// How many events were committed.
-    pub(crate) fn events(&self) -> u64 {
+    pub fn events(&self) -> u64 {
         self.events.load(SeqCst)
     }
 
     /// The number of a body that is about to be evaluated, from 1 on.
-    pub(crate) fn body(&self) -> u64 {
+    pub fn body(&self) -> u64 {
         self.bodies.fetch_add(1, SeqCst).wrapping_add(1)
     }
 
     /// The run ends, if it hasn't yet.
-    pub(crate) fn end_by(&self, end: End) {
+    pub fn end_by(&self, end: End) {
         let word = match end {
             End::Turns => TURNS,
             End::Memory => MEMORY,
@@ -221,7 +221,7 @@ impl Counts {
     }
 
     /// Why the run ended, if it was for one of these reasons.
-    pub(crate) fn end(&self) -> Option<End> {
+    pub fn end(&self) -> Option<End> {
         match self.end.load(SeqCst) {
             0 => None,
             TURNS => Some(End::Turns),

@@ -1,6 +1,6 @@
 ghost use Rattle.std.specs.Prelude.{◌≡◌, IfErr, IfSome};
-ghost use Rattle.node_runner.specs.Lines.{IsLineOf};
-ghost use Rattle.node_runner.specs.Turns.{IsEvaluatedOf};
+ghost use Rattle.runner_parts.specs.Lines.{IsLineOf};
+ghost use Rattle.runner_parts.specs.Turns.{IsEvaluatedOf};
 
 use crate::turn::{Evaluated, Finished};
 use kind_check::Checked;
@@ -10,14 +10,14 @@ use std::sync::{Arc, Wait};
 
 /// An end of the queue by which turns come back to a node, for one thread.
 #[derive(Drop)]
-pub(crate) struct Line {
-    pub(crate) queue: Arc<TurnQueue<Finished>, Global>,
-    pub(crate) pass: TurnPass<Finished>,
+pub struct Line {
+    pub queue: Arc<TurnQueue<Finished>, Global>,
+    pub pass: TurnPass<Finished>,
 }
 
 impl Line {
     /// Puts a turn behind all others. It comes back where there is no room.
-    pub(crate) fn put<R: Wait>(
+    pub fn put<R: Wait>(
         &mut self,
         rt: &R,
         checked: &Checked,
@@ -32,7 +32,7 @@ impl Line {
     }
 
     /// Takes the first turn, if there is one.
-    pub(crate) fn take<R: Wait>(&mut self, rt: &R, checked: &Checked) -> Option<Evaluated>
+    pub fn take<R: Wait>(&mut self, rt: &R, checked: &Checked) -> Option<Evaluated>
         requires { IsLineOf checked.now self.old }
         ensures line { IsLineOf checked.now self.new }
         ensures own { IfSome result (IsEvaluatedOf checked.now) }

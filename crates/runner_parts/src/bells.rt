@@ -62,10 +62,10 @@ impl Bell {
 
 /// The bell that a node rings for each ticket that it offers, and what its body workers count. Who
 /// looks for something reads how often the bell was rung, looks, and sleeps only where it wasn't
-/// rung since. So nobody sleeps beside what it waits for. The bell and the counts lie on cache lines
-/// of their own.
+/// rung since. So nobody sleeps beside what it waits for. The bell and the counts lie on cache
+/// lines of their own.
 #[derive(Drop)]
-pub(crate) struct Bells {
+pub struct Bells {
     workers: u64,
     offered: CachePadded<Bell>,
     /// How many tickets body workers took, and are done with.
@@ -79,7 +79,7 @@ pub(crate) struct Bells {
 
 impl Bells {
     /// Those of the node of a place with so many body workers, to which no ticket was offered.
-    pub(crate) fn new(place: u64, workers: usize) -> Bells {
+    pub fn new(place: u64, workers: usize) -> Bells {
         Bells {
             workers: workers as u64,
             offered: CachePadded::new(Bell::new()),
@@ -91,12 +91,12 @@ impl Bells {
     }
 
     /// The number of the node's place.
-    pub(crate) fn place(&self) -> usize {
+    pub fn place(&self) -> usize {
         self.place as usize
     }
 
     /// A ticket was offered. A body worker is woken where fewer look for tickets than wait.
-    pub(crate) fn announce(&self) {
+    pub fn announce(&self) {
         self.offered.ring();
         if self.offered.asleep() > 0 && self.looking() < self.queued() {
             self.offered.rung.wake_one();
@@ -104,12 +104,12 @@ impl Bells {
     }
 
     /// The node took a ticket back.
-    pub(crate) fn take_back(&self) {
+    pub fn take_back(&self) {
         let _ = self.taken_back.fetch_add(1, SeqCst);
     }
 
     /// A body worker took a ticket.
-    pub(crate) fn take(&self) {
+    pub fn take(&self) {
         let _ = self.taken.fetch_add(1, SeqCst);
     }
 
@@ -132,28 +132,28 @@ impl Bells {
     }
 
     /// The node has ended: all body workers are woken.
-    pub(crate) fn end(&self) {
+    pub fn end(&self) {
         self.offered.ring();
         self.offered.rung.wake_all();
     }
 
     /// How often tickets were offered, as a body worker reads it before it looks for one.
-    pub(crate) fn offered(&self) -> u64 {
+    pub fn offered(&self) -> u64 {
         self.offered.rung()
     }
 
     /// Whether more body workers look for tickets than wait, and more than one does.
-    pub(crate) fn has_enough(&self) -> bool {
+    pub fn has_enough(&self) -> bool {
         self.looking() > self.queued().max(1)
     }
 
     /// A body worker that found no ticket sleeps until one is offered.
-    pub(crate) fn sleep_worker<R: Wait>(&self, rt: &R, offered: u64) {
+    pub fn sleep_worker<R: Wait>(&self, rt: &R, offered: u64) {
         self.offered.sleep(rt, offered, LONG);
     }
 
     /// A body worker is done with a ticket.
-    pub(crate) fn give_back(&self) {
+    pub fn give_back(&self) {
         let _ = self.returned.fetch_add(1, SeqCst);
     }
 }
@@ -166,17 +166,17 @@ struct NodeBell {
 }
 
 /// The bells of a run: one of the clearinghouse, which is rung for packets that are sent to it, and
-/// one of each node, which is rung for these too, for turns that come back, and for an outcome. Each
-/// lies on cache lines of its own.
+/// one of each node, which is rung for these too, for turns that come back, and for an outcome.
+/// Each lies on cache lines of its own.
 #[derive(Drop)]
-pub(crate) struct RunBells {
+pub struct RunBells {
     house: CachePadded<Bell>,
     nodes: Vec<CachePadded<NodeBell>>,
 }
 
 impl RunBells {
     /// Those of a run of so many nodes, of which none was rung.
-    pub(crate) fn new(alloc: Global, nodes: u8) -> Result<RunBells, AllocError> {
+    pub fn new(alloc: Global, nodes: u8) -> Result<RunBells, AllocError> {
         let mut bells = Vec::with_capacity(alloc, usize::from(nodes))?;
         for _ in 0..nodes {
             bells.push(CachePadded::new(NodeBell {
@@ -191,14 +191,14 @@ impl RunBells {
     }
 
     /// A node starts at a place, with this start word.
-    pub(crate) fn set_word(&self, place: usize, word: u64) {
+    pub fn set_word(&self, place: usize, word: u64) {
         if let Some(node) = self.nodes.get(place) {
             node.word.store(word, SeqCst);
         }
     }
 
     /// The start word of the node at a place.
-    pub(crate) fn word(&self, place: usize) -> u64 {
+    pub fn word(&self, place: usize) -> u64 {
         match self.nodes.get(place) {
             Some(node) => node.word.load(SeqCst),
             None => 0,
@@ -206,26 +206,26 @@ impl RunBells {
     }
 
     /// There is something for the node of a place, which is woken, if it sleeps.
-    pub(crate) fn wake_node(&self, place: usize) {
+    pub fn wake_node(&self, place: usize) {
         if let Some(node) = self.nodes.get(place) {
             node.bell.wake();
         }
     }
 
     /// There is an outcome: all nodes are woken.
-    pub(crate) fn wake_nodes(&self) {
+    pub fn wake_nodes(&self) {
         for node in self.nodes.iter() {
             node.bell.wake();
         }
     }
 
     /// There is something for the clearinghouse, which is woken, if it sleeps.
-    pub(crate) fn wake_house(&self) {
+    pub fn wake_house(&self) {
         self.house.wake();
     }
 
     /// How often the bell of a place's node was rung, as it reads it before it looks for something.
-    pub(crate) fn node_rung(&self, place: usize) -> u64 {
+    pub fn node_rung(&self, place: usize) -> u64 {
         match self.nodes.get(place) {
             Some(node) => node.bell.rung(),
             None => 0,
@@ -233,20 +233,20 @@ impl RunBells {
     }
 
     /// The same of the clearinghouse.
-    pub(crate) fn house_rung(&self) -> u64 {
+    pub fn house_rung(&self) -> u64 {
         self.house.rung()
     }
 
     /// The node of a place, which found nothing, sleeps until its bell is rung, for at most so many
     /// microseconds.
-    pub(crate) fn sleep_node<R: Wait>(&self, rt: &R, place: usize, rung: u64, most: u64) {
+    pub fn sleep_node<R: Wait>(&self, rt: &R, place: usize, rung: u64, most: u64) {
         if let Some(node) = self.nodes.get(place) {
             node.bell.sleep(rt, rung, most);
         }
     }
 
     /// The same of the clearinghouse.
-    pub(crate) fn sleep_house<R: Wait>(&self, rt: &R, rung: u64, most: u64) {
+    pub fn sleep_house<R: Wait>(&self, rt: &R, rung: u64, most: u64) {
         self.house.sleep(rt, rung, most);
     }
 }

@@ -4,7 +4,7 @@ use std::time::{Clock, Duration};
 /// In how many turns in a row with nothing done an actor yields that waits for another thread which
 /// has something of it: for some ten microseconds, so that it is awake when the turn of a short
 /// body comes back, or the next ticket.
-pub(crate) const YIELDS: u64 = 32;
+pub const YIELDS: u64 = 32;
 
 /// In how many such turns a node yields that has nothing out.
 const IDLE_YIELDS: u64 = 4;
@@ -39,7 +39,7 @@ const FIRST_YIELDS: u64 = 512;
 
 /// Whether an actor that did nothing in so many turns stays awake, as a run of so many nodes has
 /// just begun.
-pub(crate) fn is_beginning(events: u64, nodes: u8, idle: u64) -> bool {
+pub fn is_beginning(events: u64, nodes: u8, idle: u64) -> bool {
     events < FIRST_EVENTS && u64::from(nodes) <= FEW && idle < FIRST_YIELDS
 }
 
@@ -51,7 +51,7 @@ const LONGEST_SLEEPING: u64 = 8;
 
 /// In how many turns a node that asked so often since it ran a frame pauses before it asks once
 /// more, where it sleeps long or doesn't.
-pub(crate) fn pauses(asked: u64, long: bool) -> u64 {
+pub fn pauses(asked: u64, long: bool) -> u64 {
     if long {
         LONGEST_SLEEPING
     } else {
@@ -60,28 +60,28 @@ pub(crate) fn pauses(asked: u64, long: bool) -> u64 {
 }
 
 /// Whether a node that asked so often since it ran a frame asks in vain.
-pub(crate) fn asks_in_vain(asked: u64) -> bool {
+pub fn asks_in_vain(asked: u64) -> bool {
     asked >= LONGEST
 }
 
 /// How long a node sleeps that pauses in a run of so many, in microseconds; longer where it is to.
-pub(crate) fn pause(nodes: u8, long: bool) -> u64 {
+pub fn pause(nodes: u8, long: bool) -> u64 {
     let least = if long { LONG_SLEEP } else { 0 };
     nap(nodes).max(least)
 }
 
 /// An actor that waits for another one, and did nothing in so many turns, lets others go on.
-pub(crate) fn rest(rt: &impl Clock, nodes: u8, idle: u64) {
+pub fn rest(rt: &impl Clock, nodes: u8, idle: u64) {
     rest_after(rt, nodes, idle, YIELDS);
 }
 
 /// An actor with nothing out, which did nothing in so many turns, lets others go on.
-pub(crate) fn rest_idle(rt: &impl Clock, nodes: u8, idle: u64) {
+pub fn rest_idle(rt: &impl Clock, nodes: u8, idle: u64) {
     rest_after(rt, nodes, idle, IDLE_YIELDS);
 }
 
 /// Whether an actor that did nothing in so many turns sleeps in this one.
-pub(crate) fn is_to_sleep(idle: u64) -> bool {
+pub fn is_to_sleep(idle: u64) -> bool {
     idle % AWAKE == 0
 }
 
@@ -95,7 +95,7 @@ fn rest_after(rt: &impl Clock, nodes: u8, idle: u64, yields: u64) {
 
 /// How long an actor sleeps at most in a run of so many nodes until its bell is rung, in
 /// microseconds; longer where body workers are busy for long.
-pub(crate) fn wait(nodes: u8, long: bool) -> u64 {
+pub fn wait(nodes: u8, long: bool) -> u64 {
     let least = if long { SLEEP_BUSY } else { 0 };
     nap(nodes).max(least)
 }

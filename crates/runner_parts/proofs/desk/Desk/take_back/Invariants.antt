@@ -1,5 +1,5 @@
 use Rattle.std.proofs.Common.{◌≡◌}
-use Rattle.node_runner.proofs.desk.Desk.take_back.Given as goal
+use Rattle.runner_parts.proofs.desk.Desk.take_back.Given as goal
 
 abbrev pub invariant-loop : goal.invariant-loop
 invariant-loop l = l.self.home ≡ l.fn.self.home

@@ -4,9 +4,9 @@ use Rattle.std.specs.Arc.{arc_value}
 use Rattle.std.specs.declared.snapshot.Snapshot.{Snapshot}
 use Rattle.task_tree.specs.declared.tree.Program.{Program}
 use Rattle.local_pool.specs.Turns.{PassOf, QueueOf}
-use Rattle.node_runner.specs.Turns.{FinishedOf, stamp}
-use Rattle.node_runner.specs.declared.desk.Home.{Home}
-use Rattle.node_runner.specs.declared.line.Line.{Line}
+use Rattle.runner_parts.specs.Turns.{FinishedOf, stamp}
+use Rattle.runner_parts.specs.declared.desk.Home.{Home}
+use Rattle.runner_parts.specs.declared.line.Line.{Line}
 
 -- the pass is of this queue, all turns of which are of the program
 abbrev pub IsPassFor : Program → QueueOf → PassOf FinishedOf (Snapshot Program) → Type 0

@@ -13,7 +13,7 @@ const VICTIMS: u64 = 128;
 /// Who is listed, by the last roster that a node took, whom it asked last, and the generator by
 /// which it draws whom it asks.
 #[derive(Drop)]
-pub(crate) struct Members {
+pub struct Members {
     listed: Vec<Member>,
     /// The start word of the worker that was asked last. One request is out at a time, and a node
     /// may leave only where none is: so that worker has answered then, or isn't live.
@@ -23,7 +23,7 @@ pub(crate) struct Members {
 
 impl Members {
     /// Nobody is listed yet, at a place, by a fault word.
-    pub(crate) fn new(alloc: Global, word: u64, place: u64) -> Members {
+    pub fn new(alloc: Global, word: u64, place: u64) -> Members {
         Members {
             listed: Vec::new(alloc),
             asked: None,
@@ -32,7 +32,7 @@ impl Members {
     }
 
     /// Nobody is listed any more.
-    pub(crate) fn forget(&mut self) {
+    pub fn forget(&mut self) {
         self.listed.clear();
         self.asked = None;
     }
@@ -40,7 +40,7 @@ impl Members {
     /// A node took a roster: its members are listed. Bytes that spell none are passed over. Whether
     /// there was memory to read them: a node that has missed a roster may get no other one, and
     /// would ask nobody.
-    pub(crate) fn take(&mut self, alloc: Global, roster: &[u8]) -> bool {
+    pub fn take(&mut self, alloc: Global, roster: &[u8]) -> bool {
         match decode(alloc, roster) {
             Ok(packet) => {
                 if let Body::Roster(roster) = packet.into_body() {
@@ -55,7 +55,7 @@ impl Members {
 
     /// Whom a node of a start word asks next: drawn among the clearinghouse and the other live
     /// members. None where nobody is listed.
-    pub(crate) fn victim(&mut self, word: u64) -> Option<Asked> {
+    pub fn victim(&mut self, word: u64) -> Option<Asked> {
         if self.listed.is_empty() {
             return None;
         }
@@ -73,7 +73,7 @@ impl Members {
     }
 
     /// The node asked somebody for work.
-    pub(crate) fn ask(&mut self, victim: Asked) {
+    pub fn ask(&mut self, victim: Asked) {
         if let Asked::Worker(word) = victim {
             self.asked = Some(word);
         }
@@ -82,7 +82,7 @@ impl Members {
     /// To whom a node of a start word may leave: of the other live members that don't leave
     /// themselves the one that it asked last, as that one was there a while ago; else the one that
     /// started last, as those that crashed started before.
-    pub(crate) fn heir(&self, word: u64, leavers: &Leavers) -> Option<u64> {
+    pub fn heir(&self, word: u64, leavers: &Leavers) -> Option<u64> {
         let mut heir = None;
         for member in &self.listed {
             if is_other(member, word) && !leavers.is_leaver(member.incarnation.word()) {

@@ -3,9 +3,9 @@ use Rattle.std.specs.Prelude.{◌≡◌, Option, IfSome}
 use Rattle.std.specs.declared.snapshot.Snapshot.{Snapshot}
 use Rattle.task_tree.specs.declared.tree.Program.{Program}
 use Rattle.serial_meaning.specs.Whole.{AreWholesOf}
-use Rattle.node_runner.specs.declared.turn.Evaluated.{Evaluated}
-use Rattle.node_runner.specs.declared.turn.Found.{Found}
-use Rattle.node_runner.specs.declared.turn.Found.TheVariants.{Turn, Whole}
+use Rattle.runner_parts.specs.declared.turn.Evaluated.{Evaluated}
+use Rattle.runner_parts.specs.declared.turn.Found.{Found}
+use Rattle.runner_parts.specs.declared.turn.Found.TheVariants.{Turn, Whole}
 
 -- what was found is of a program, and so is what was evaluated, and all values that were kept
 abbrev pub IsFoundOf : Program → Found → Type 0

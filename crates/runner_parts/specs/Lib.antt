@@ -1,0 +1,4 @@
+pub mod Fates
+pub mod Configs
+pub mod Turns
+pub mod Lines
