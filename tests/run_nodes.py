@@ -192,15 +192,21 @@ def traced(folder, name, value, *words):
     return lines
 
 
-def held(folder, nodes, bodies):
-    """A run in which the second body is held until the third one has begun."""
-    trace = f"{folder}/held {nodes}"
-    status, out, err = called(HOLDER, "held", nodes, bodies)
-    tell(status == 0, f"held {nodes}: {status} {err}")
-    with open(trace, "w") as it:
+def held_lines(folder, call, kind, nodes, bodies, value, number):
+    """The lines of the trace of a run whose second body is held, which has a value on a number."""
+    name = f"{kind} {nodes}"
+    status, out, err = call(HOLDER, kind, nodes, bodies)
+    tell(status == 0, f"{name}: {status} {err}")
+    with open(f"{folder}/{name}", "w") as it:
         it.write(out)
     lines = out.splitlines()
-    tell(lines[-1:] == ["# value 2"] and replayed(trace, 2, "3"), f"held {nodes}: not the value 2")
+    tell(lines[-1:] == [f"# value {value}"] and replayed(f"{folder}/{name}", value, number), f"{name}: not the value {value}")
+    return lines
+
+
+def held(folder, nodes, bodies):
+    """A run in which the second body is held until the third one has begun."""
+    lines = held_lines(folder, called, "held", nodes, bodies, 2, "3")
     begun = sum(int(line.split()[2]) for line in lines if line.startswith("# bodies "))
     places = [line.split()[1] for line in lines if line.startswith("exec ")]
     tell(max(3, len(places)) <= begun, f"held {nodes}: {len(places)} frames and {begun} bodies")
@@ -210,13 +216,7 @@ def held(folder, nodes, bodies):
 def held_faulty(folder, nodes, bodies):
     """A run in which the second body is held while each node crashes or leaves. One in some forty beside other work doesn't end: nothing
     frees the body where this happened before it began, as slow threads may bring about. So it is made again."""
-    trace = f"{folder}/faulty {nodes}"
-    status, out, err = called_again(HOLDER, "faulty", nodes, bodies)
-    tell(status == 0, f"faulty {nodes}: {status} {err}")
-    with open(trace, "w") as it:
-        it.write(out)
-    lines = out.splitlines()
-    tell(lines[-1:] == ["# value 144"] and replayed(trace, 144, "12"), f"faulty {nodes}: not the value 144")
+    lines = held_lines(folder, called_again, "faulty", nodes, bodies, 144, "12")
     words = [line.split()[:2] for line in lines]
     gone = [index for index, word in enumerate(words) if word[0] in ("crash", "depart")]
     tell({word[1] for word in words if word[0] in ("crash", "depart")} == {str(place) for place in range(int(nodes))},

@@ -31,15 +31,12 @@ pub struct HouseActor<'a, D: Disk> {
 }
 
 impl<'a, D: Disk> Model for HouseActor<'a, D> {
-    ghost use Rattle.std.specs.Coded.{codes as known};
-    ghost use Rattle.task_tree.specs.contracts.tree.Expr as expr;
-    ghost use Rattle.task_tree.specs.contracts.tree.Block as block;
-    ghost use Rattle.task_tree.specs.contracts.tree.End as end;
+    ghost use Rattle.task_tree.specs.Codes.{program_codes};
     ghost use Rattle.actors.specs.Actors.{HouseActorOf};
 
     ghost Value = { HouseActorOf D };
 
-    ghost coded = { Prim.hlevel (known, expr.the_row.coded, block.the_row.coded, end.the_row.coded) };
+    ghost coded = { Prim.hlevel program_codes };
 
     ghost view = { λ a. record { on = a.house; waits = a.outbox } };
 }

@@ -21,15 +21,12 @@ pub struct Board {
 
 impl Model for Board {
     ghost use Rattle.once_cell.specs.Once.{cell_name};
-    ghost use Rattle.std.specs.Coded.{codes as known};
-    ghost use Rattle.task_tree.specs.contracts.tree.Expr as expr;
-    ghost use Rattle.task_tree.specs.contracts.tree.Block as block;
-    ghost use Rattle.task_tree.specs.contracts.tree.End as end;
+    ghost use Rattle.task_tree.specs.Codes.{program_codes};
     ghost use Rattle.board.specs.Boards.{BoardOf};
 
     ghost Value = { BoardOf };
 
-    ghost coded = { Prim.hlevel (known, expr.the_row.coded, block.the_row.coded, end.the_row.coded) };
+    ghost coded = { Prim.hlevel program_codes };
 
     ghost view = { λ b. record { board = cell_name b.cell; job = b.job.value; saved = b.saved.value } };
 }

@@ -21,15 +21,12 @@ pub struct Done {
 }
 
 impl Model for Done {
-    ghost use Rattle.std.specs.Coded.{codes};
-    ghost use Rattle.task_tree.specs.contracts.tree.Expr as expr;
-    ghost use Rattle.task_tree.specs.contracts.tree.Block as block;
-    ghost use Rattle.task_tree.specs.contracts.tree.End as end;
+    ghost use Rattle.task_tree.specs.Codes.{program_codes};
     ghost use Rattle.body_eval.specs.Done.{DoneOf};
 
     ghost Value = { DoneOf };
 
-    ghost coded = { Prim.hlevel (codes, expr.the_row.coded, block.the_row.coded, end.the_row.coded) };
+    ghost coded = { Prim.hlevel program_codes };
 
     ghost use Rattle.body_eval.specs.Done.{IsEvaluated};
 

@@ -16,15 +16,12 @@ pub struct Beginning<D: SteadyDisk + Drop = MemDisk> {
 }
 
 impl<D: SteadyDisk + Drop> Model for Beginning<D> {
-    ghost use Rattle.std.specs.Coded.{codes as known};
-    ghost use Rattle.task_tree.specs.contracts.tree.Expr as expr;
-    ghost use Rattle.task_tree.specs.contracts.tree.Block as block;
-    ghost use Rattle.task_tree.specs.contracts.tree.End as end;
+    ghost use Rattle.task_tree.specs.Codes.{program_codes};
     ghost use Rattle.chronicle.specs.History.{BeginningOf, beginning};
 
     ghost Value = { BeginningOf };
 
-    ghost coded = { Prim.hlevel (known, expr.the_row.coded, block.the_row.coded, end.the_row.coded) };
+    ghost coded = { Prim.hlevel program_codes };
 
     ghost view = { λ b. beginning b.job.value (D.device b.disk.value) };
 }

@@ -110,16 +110,13 @@ pub struct Chronicle<'a, D: SteadyDisk + Drop = MemDisk> {
 
 impl<'a, D: SteadyDisk + Drop> Model for Chronicle<'a, D> {
     ghost use Rattle.std.specs.Prelude.{◌≡◌};
-    ghost use Rattle.std.specs.Coded.{codes as known};
-    ghost use Rattle.task_tree.specs.contracts.tree.Expr as expr;
-    ghost use Rattle.task_tree.specs.contracts.tree.Block as block;
-    ghost use Rattle.task_tree.specs.contracts.tree.End as end;
+    ghost use Rattle.task_tree.specs.Codes.{program_codes};
     ghost use Rattle.chronicle.specs.Kept.{IsLeftBy};
     ghost use Rattle.chronicle.specs.Seats.{ChronicleOf, chronicle_of};
 
     ghost Value = { ChronicleOf };
 
-    ghost coded = { Prim.hlevel (known, expr.the_row.coded, block.the_row.coded, end.the_row.coded) };
+    ghost coded = { Prim.hlevel program_codes };
 
     ghost view = { λ c. chronicle_of c.lock };
 

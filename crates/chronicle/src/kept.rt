@@ -68,15 +68,12 @@ pub struct Kept<'a, D: SteadyDisk + Drop = MemDisk> {
 }
 
 impl<'a, D: SteadyDisk + Drop> Model for Kept<'a, D> {
-    ghost use Rattle.std.specs.Coded.{codes as known};
-    ghost use Rattle.task_tree.specs.contracts.tree.Expr as expr;
-    ghost use Rattle.task_tree.specs.contracts.tree.Block as block;
-    ghost use Rattle.task_tree.specs.contracts.tree.End as end;
+    ghost use Rattle.task_tree.specs.Codes.{program_codes};
     ghost use Rattle.chronicle.specs.Kept.{KeptOf, Reaches};
 
     ghost Value = { KeptOf };
 
-    ghost coded = { Prim.hlevel (known, expr.the_row.coded, block.the_row.coded, end.the_row.coded) };
+    ghost coded = { Prim.hlevel program_codes };
 
     ghost view = { λ k. record {
       on = k.world.value;

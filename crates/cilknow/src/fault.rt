@@ -1,5 +1,5 @@
 ghost use Rattle.std.specs.Prelude.{◌≡◌};
-ghost use Rattle.cilknow.specs.Faults.{number_of_fault, of_job, of_run};
+ghost use Rattle.cilknow.specs.Faults.{of_job, of_run};
 
 use jobs::JobFault;
 use one_node::RunFault;
@@ -7,22 +7,22 @@ use thiserror::Error;
 
 /// Why a run gives no outcome.
 #[derive(Clone, Copy, Debug, PartialEq, Eq, Error)]
+#[error("E{number}", number = self.number())]
 pub enum SoloFault {
     /// E2 to E6, E10 to E18, E21: the text and the input are no job.
     #[error(transparent)]
     Job(JobFault),
     /// E95: more turns would be needed.
-    #[error("E{number}", number = self.number())]
     TurnsSpent,
     /// E62: no frame numbers are left.
-    #[error("E{number}", number = self.number())]
     NumbersSpent,
     /// E9: there is no memory.
-    #[error("E{number}", number = self.number())]
     Memory,
 }
 
 impl SoloFault {
+    ghost use Rattle.cilknow.specs.Faults.{number_of_fault};
+
     /// The number of the fault.
     pub fn number(self) -> u8
         ensures { result ≡ number_of_fault self }

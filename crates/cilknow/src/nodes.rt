@@ -26,7 +26,7 @@ impl<'p> Gate for Noting<'p> {
     }
 
     fn passed(&self, events: u64, packets: u64) {
-        self.progress.notes(events, packets);
+        self.progress.note(events, packets);
     }
 }
 
@@ -81,7 +81,7 @@ fn ran_noted<'a, R: Threads + AllocGlobal + Wait + Clock + Sync>(
     progress: &RunProgress,
 ) -> Result<Ended, RunError> {
     let ran = ran_under(rt, job, config, disk, &Noting { progress });
-    progress.ends();
+    progress.end();
     ran
 }
 

@@ -8,30 +8,23 @@ use thiserror::Error;
 /// Why a call of the clearinghouse is refused. It changes nothing then, except that E72 and E9 stop
 /// the clearinghouse.
 #[derive(Clone, Copy, PartialEq, Eq, Debug, Error)]
+#[error("E{number}", number = self.number())]
 pub enum HouseError {
     /// E30 to E36: the bytes are no packet.
-    #[error("{0}")]
     Bytes(Fault),
     /// E62: an epoch, a commit or a grant can't be counted any more.
-    #[error("E{number}", number = self.number())]
     Spent,
     /// E70: the checkpoint is of another job.
-    #[error("E{number}", number = self.number())]
     JobMismatch,
     /// E71: the file is no checkpoint.
-    #[error("E{number}", number = self.number())]
     Damaged,
     /// E72: a call of the device failed.
-    #[error("E{number}", number = self.number())]
     Device,
     /// E73: the checkpoint is of another version.
-    #[error("E{number}", number = self.number())]
     Version,
     /// E80: 4,096 members are listed.
-    #[error("E{number}", number = self.number())]
     RosterFull,
     /// E9: there is no memory.
-    #[error("E{number}", number = self.number())]
     Memory,
 }
 

@@ -34,15 +34,12 @@ pub struct House<'a, D: Disk> {
 }
 
 impl<'a, D: Disk> Model for House<'a, D> {
-    ghost use Rattle.std.specs.Coded.{codes as known};
-    ghost use Rattle.task_tree.specs.contracts.tree.Expr as expr;
-    ghost use Rattle.task_tree.specs.contracts.tree.Block as block;
-    ghost use Rattle.task_tree.specs.contracts.tree.End as end;
+    ghost use Rattle.task_tree.specs.Codes.{program_codes};
     ghost use Rattle.clearinghouse.specs.Meeting.{HouseOn, IsHouseOn, state_of};
 
     ghost Value = { HouseOn D };
 
-    ghost coded = { Prim.hlevel (known, expr.the_row.coded, block.the_row.coded, end.the_row.coded) };
+    ghost coded = { Prim.hlevel program_codes };
 
     ghost view = { λ h. record { job = h.job.now; state = state_of h.book h.stop; store = h.store } };
 

@@ -13,12 +13,11 @@ use thiserror::Error;
 
 /// Why a packet isn't written.
 #[derive(Clone, Copy, Debug, PartialEq, Eq, Error)]
+#[error("E{number}", number = self.number())]
 pub enum EncodeError {
     /// Its spelling has more than 1,048,576 bytes.
-    #[error("E{number}", number = self.number())]
     TooBig,
     /// There is no memory.
-    #[error("E{number}", number = self.number())]
     Memory,
 }
 

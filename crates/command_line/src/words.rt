@@ -3,8 +3,8 @@ use crate::misuse::{Misuse, NoCommand, is_command};
 use crate::named::Place;
 use clap::{Arg, ArgAction, ArgMatches, Command, Error, value_parser};
 use replaying::{
-    ReplayWords, WordsFault, explain_word, file_word, help_of, input_of, input_word, names_word,
-    number_word, packets_word, replay_words_of, with_replay_words,
+    ReplayWords, WordsFault, explain_word, file_word, flag, help_of, input_of, input_word,
+    names_word, number_word, packets_word, replay_words_of, with_replay_words,
 };
 use std::alloc::{AllocError, Global};
 use std::convert::AsStr;
@@ -186,10 +186,11 @@ const GRAIN: u64 = 100_000;
 
 /// The option that asks for what is counted of a run.
 fn stats_word<'a>(alloc: Global) -> Arg<'a> {
-    Arg::new(alloc, "stats")
-        .long("stats")
-        .action(ArgAction::SetTrue)
-        .help("Tells on standard error what was counted: turns, steals, packets, frames")
+    flag(
+        alloc,
+        "stats",
+        "Tells on standard error what was counted: turns, steals, packets, frames",
+    )
 }
 
 /// A subcommand that takes a job: a file, the turns, the job's number and the input.
@@ -348,12 +349,7 @@ fn draw_words<'a>(alloc: Global) -> Result<Command<'a>, AllocError> {
         .after_help(helps::DRAW);
     with_replay_words(alloc, command)?
         .arg(explain_word(alloc))?
-        .arg(
-            Arg::new(alloc, "work")
-                .long("work")
-                .action(ArgAction::SetTrue)
-                .help("Leaves out Joins, Rosters and Beats"),
-        )?
+        .arg(flag(alloc, "work", "Leaves out Joins, Rosters and Beats"))?
         .arg(out_word(
             alloc,
             "The file to which the picture is written; standard output where it isn't given",

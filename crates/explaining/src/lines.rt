@@ -114,18 +114,25 @@ pub(crate) fn mistake_in(script: &[u8], number: u64) -> Option<Mistake> {
 
 /// Where a line begins, from 1 on.
 fn start_of(script: &[u8], number: u64) -> usize {
-    let mut line = 1u64;
-    let mut start = 0usize;
-    for (index, byte) in script.iter().enumerate() {
-        if line >= number {
+    let lines = usize::try_from(number.saturating_sub(1)).unwrap_or(usize::MAX);
+    behind(script, b'\n', lines).0
+}
+
+/// The offset behind so many of the bytes that end a part, or behind all of them where there are
+/// fewer; and how many there are before it.
+fn behind(text: &[u8], end: u8, count: usize) -> (usize, usize) {
+    let mut at = 0usize;
+    let mut passed = 0usize;
+    for (index, byte) in text.iter().enumerate() {
+        if passed >= count {
             break;
         }
-        if *byte == b'\n' {
-            line = line.saturating_add(1);
-            start = index.saturating_add(1);
+        if *byte == end {
+            passed = passed.saturating_add(1);
+            at = index.saturating_add(1);
         }
     }
-    start
+    (at, passed)
 }
 
 /// The bytes from an offset on, up to the next one that ends them.
@@ -230,17 +237,7 @@ impl<'a> Word<'a> {
 
 /// The word of an index, if the line has it.
 fn word_of(line: &[u8], index: usize) -> Option<Word<'_>> {
-    let mut at = 0usize;
-    let mut passed = 0usize;
-    for (place, byte) in line.iter().enumerate() {
-        if passed >= index {
-            break;
-        }
-        if *byte == b' ' {
-            passed = passed.saturating_add(1);
-            at = place.saturating_add(1);
-        }
-    }
+    let (at, passed) = behind(line, b' ', index);
     if passed < index {
         return None;
     }

@@ -3,4 +3,4 @@
 
 mod store;
 
-pub use store::{Filled, Frames};
+pub use store::{Filled, Frames, is_full};

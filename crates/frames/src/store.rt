@@ -1,4 +1,4 @@
-ghost use Rattle.std.specs.Prelude.{◌≡◌, OnOk, OnErr, IsTrue, Some, IfSome, is_some, option_copied, length, slice_get, if◌then◌else◌, [], ◌++◌, refl};
+ghost use Rattle.std.specs.Prelude.{◌≡◌, ◌==◌, OnOk, OnErr, IsTrue, Some, IfSome, is_some, option_copied, length, slice_get, if◌then◌else◌, [], ◌++◌, refl};
 ghost use Rattle.ids.specs.Naming.{name_of_frame};
 ghost use Rattle.ids.specs.Ordered.{AreInOrder};
 ghost use Rattle.frames.specs.Frames.{frame_in, put_frame, without_frame, missing_of, missing_in, is_empty_of, is_vacant, fill_of, filling, if_ready, with_slot, readiness, readiness_of, AreBelow, AreNumbered};
@@ -206,6 +206,13 @@ fn state_of(frame: &Frame) -> Filled
     } else {
         Filled::Still
     }
+}
+
+/// Whether no slot is empty.
+pub fn is_full(slots: &[Option<i64>]) -> bool
+    ensures { result ≡ (missing_in slots.now == 0) }
+{
+    empty_slots(slots) == 0
 }
 
 /// How many slots are empty.

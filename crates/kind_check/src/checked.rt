@@ -2,7 +2,7 @@ ghost use Rattle.std.specs.Prelude.{◌≡◌, ◌<◌, [], length};
 ghost use Rattle.kind_check.specs.Code.{Follows, IsBody};
 ghost use Rattle.kind_check.specs.Total.{IsTotal};
 ghost use Rattle.kind_check.specs.Holes.{HolesUsedOnce};
-ghost use Rattle.kind_check.specs.Faults.{faults, number_of_fault};
+ghost use Rattle.kind_check.specs.Faults.{faults};
 
 use crate::code::BlockCode;
 use ids::Listed;
@@ -37,6 +37,8 @@ pub enum KindFault {
 }
 
 impl KindFault {
+    ghost use Rattle.kind_check.specs.Faults.{number_of_fault};
+
     /// The number of the refusal, 10 to 18.
     pub fn number(self) -> u8
         ensures { result ≡ number_of_fault self }
@@ -88,15 +90,12 @@ pub struct Checked {
 }
 
 impl Model for Checked {
-    ghost use Rattle.std.specs.Coded.{codes};
-    ghost use Rattle.task_tree.specs.contracts.tree.Expr as expr;
-    ghost use Rattle.task_tree.specs.contracts.tree.Block as block;
-    ghost use Rattle.task_tree.specs.contracts.tree.End as end;
+    ghost use Rattle.task_tree.specs.Codes.{program_codes};
     ghost use Rattle.task_tree.specs.declared.tree.Program.{Program};
 
     ghost Value = { Program };
 
-    ghost coded = { Prim.hlevel (codes, expr.the_row.coded, block.the_row.coded, end.the_row.coded) };
+    ghost coded = { Prim.hlevel program_codes };
 
     ghost use Rattle.kind_check.specs.Total.{IsAccepted};
     ghost use Rattle.kind_check.specs.Code.{Follows};

@@ -1,12 +1,11 @@
 //! What a node shows of itself.
-ghost use Rattle.std.specs.Prelude.{◌≡◌, ◌==◌, IfOk, IfErr, map};
-ghost use Rattle.frames.specs.Frames.{missing_in};
+ghost use Rattle.std.specs.Prelude.{◌≡◌, IfOk, IfErr, map};
 ghost use Rattle.node_core.specs.Views as views;
 ghost use Rattle.node_steps.specs.Ready.{work_at};
 ghost use Rattle.node_steps.specs.declared.error.NodeError.TheVariants.{Memory};
 
 use crate::node::Node;
-use frames::Frames;
+use frames::{Frames, is_full};
 use ids::{FrameNo, GrantId, Hop, Incarnation, Listed, Outcome, Progress};
 use node_state::State;
 use node_steps::{NodeError, Work, work_in};
@@ -141,11 +140,4 @@ fn open_grants(alloc: Global, records: &Records) -> Result<Listed<GrantId>, Allo
         grants.push(record.grant)?;
     }
     Ok(grants)
-}
-
-/// Whether no slot is empty.
-fn is_full(slots: &[Option<i64>]) -> bool
-    ensures { result ≡ (missing_in slots.now == 0) }
-{
-    slots.iter().filter(|slot| slot.is_none()).count() == 0
 }

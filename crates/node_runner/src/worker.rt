@@ -39,16 +39,13 @@ struct WorkerRun<'r, 's, 'a, G: Gate + Sync, D: SteadyDisk + Drop> {
 
 impl<'r, 's, 'a, G: Gate + Sync, D: SteadyDisk + Drop> Model for WorkerRun<'r, 's, 'a, G, D> {
     ghost use Rattle.std.specs.Prelude.{◌≡◌};
-    ghost use Rattle.std.specs.Coded.{codes as known};
-    ghost use Rattle.task_tree.specs.contracts.tree.Expr as expr;
-    ghost use Rattle.task_tree.specs.contracts.tree.Block as block;
-    ghost use Rattle.task_tree.specs.contracts.tree.End as end;
+    ghost use Rattle.task_tree.specs.Codes.{program_codes};
     ghost use Rattle.chronicle.specs.Seats.{ChronicleOf};
     ghost use Rattle.runner_parts.specs.Lines.{IsLineOf};
 
     ghost Value = { ChronicleOf };
 
-    ghost coded = { Prim.hlevel (known, expr.the_row.coded, block.the_row.coded, end.the_row.coded) };
+    ghost coded = { Prim.hlevel program_codes };
 
     ghost view = { λ r. r.shared.now.chronicle.now };
 

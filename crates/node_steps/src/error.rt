@@ -9,41 +9,31 @@ use thiserror::Error;
 
 /// Why a call of a node is refused. It changes nothing then.
 #[derive(Clone, Copy, PartialEq, Eq, Debug, Error)]
+#[error("E{number}", number = self.number())]
 pub enum NodeError {
     /// E30 to E36: the bytes are no packet.
-    #[error("{0}")]
     Bytes(Fault),
     /// E40: the frame isn't ready here with that thread and those numbers.
-    #[error("E{number}", number = self.number())]
     Stale,
     /// E41: the frame's task takes more turns than were given, or gives nothing in the room below
     /// its place.
-    #[error("E{number}", number = self.number())]
     NoValue,
     /// E50: a request is pending.
-    #[error("E{number}", number = self.number())]
     Pending,
     /// E51: an Offer would have more than 1,073,741,824 bytes.
-    #[error("E{number}", number = self.number())]
     TooBig,
     /// E52: a subcomputation has moved as often as is counted.
-    #[error("E{number}", number = self.number())]
     HopSpent,
     /// E53: the heir isn't another live member.
-    #[error("E{number}", number = self.number())]
     NoHeir,
     /// E60: the node isn't joined or has ended, or the victim isn't shown live or is the node
     /// itself.
-    #[error("E{number}", number = self.number())]
     NotJoined,
     /// E61: a request is pending, or the node leaves.
-    #[error("E{number}", number = self.number())]
     Busy,
     /// E62: a count is spent.
-    #[error("E{number}", number = self.number())]
     Spent,
     /// E63: there is no memory.
-    #[error("E{number}", number = self.number())]
     Memory,
 }
 

@@ -23,15 +23,12 @@ pub struct JobNode<'a> {
 }
 
 impl<'a> Model for JobNode<'a> {
-    ghost use Rattle.std.specs.Coded.{codes as known};
-    ghost use Rattle.task_tree.specs.contracts.tree.Expr as expr;
-    ghost use Rattle.task_tree.specs.contracts.tree.Block as block;
-    ghost use Rattle.task_tree.specs.contracts.tree.End as end;
+    ghost use Rattle.task_tree.specs.Codes.{program_codes};
     ghost use Rattle.node_steps.specs.Meeting.{NodeOn, IsNode};
 
     ghost Value = { NodeOn };
 
-    ghost coded = { Prim.hlevel (known, expr.the_row.coded, block.the_row.coded, end.the_row.coded) };
+    ghost coded = { Prim.hlevel program_codes };
 
     ghost view = { λ n. record { job = n.job.now; node = n.parts.node; posts = n.parts.posts } };
 

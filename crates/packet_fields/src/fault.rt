@@ -5,27 +5,21 @@ use thiserror::Error;
 
 /// Why bytes are no packet: the first fault that a reader from the front meets.
 #[derive(Clone, Copy, Debug, PartialEq, Eq, Error)]
+#[error("E{number}", number = self.number())]
 pub enum Fault {
     /// There are more than 1,048,576 bytes.
-    #[error("E{number}", number = self.number())]
     TooBig,
     /// The bytes end inside a field.
-    #[error("E{number}", number = self.number())]
     Short,
     /// The first two bytes aren't 43 4E.
-    #[error("E{number}", number = self.number())]
     Magic,
     /// The version isn't 1.
-    #[error("E{number}", number = self.number())]
     Version,
     /// There is no such kind.
-    #[error("E{number}", number = self.number())]
     Kind,
     /// A field is outside its range, or out of order.
-    #[error("E{number}", number = self.number())]
     Field,
     /// Bytes stand after the last field.
-    #[error("E{number}", number = self.number())]
     Trailing,
 }
 
@@ -50,12 +44,11 @@ impl Fault {
 
 /// Why no value is read.
 #[derive(Clone, Copy, Debug, PartialEq, Eq, Error)]
+#[error("E{number}", number = self.number())]
 pub enum ReadError {
     /// The bytes have a fault.
-    #[error("{0}")]
     Fault(Fault),
     /// There is no memory.
-    #[error("E{number}", number = self.number())]
     Memory,
 }
 

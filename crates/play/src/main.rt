@@ -82,7 +82,7 @@ fn play_line(libraries: &mut Libraries, rt: &HostRuntime, text: &str, out: &mut 
 /// Prints what was gathered.
 fn print<O: Write>(out: &mut Answers, to: &mut O) {
     if let Err(error) = to.write_all(out.gathered()) {
-        out.fails(&error);
+        out.fail(&error);
     }
     out.clear();
 }
@@ -98,7 +98,7 @@ fn play_all<I: BufRead + Drop, O: Write>(
     for line in input.lines(rt.alloc()) {
         match line {
             Ok(line) => play_line(libraries, rt, line.as_str(), out),
-            Err(error) => out.fails(&error),
+            Err(error) => out.fail(&error),
         }
         if out.is_full() {
             print(out, to);
@@ -119,7 +119,7 @@ fn play_input(rt: &HostRuntime, out: &mut Answers) {
             play_all(&mut libraries, rt, input, out, &mut to);
             keep(libraries);
         }
-        Err(error) => out.fails(&error),
+        Err(error) => out.fail(&error),
     }
 }
 

@@ -69,6 +69,6 @@ impl<D: Disk + Drop> Bench<D> {
 /// there was no memory.
 pub fn go_on(is_planned: bool, out: &mut Answers) {
     if !is_planned {
-        out.lacks();
+        out.lack_memory();
     }
 }

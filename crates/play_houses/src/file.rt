@@ -58,7 +58,7 @@ fn content(alloc: Global, file: &File) -> io::Result<Vec<u8>> {
 /// Writes bytes into a file.
 fn put(file: &File, at: u64, bytes: &[u8], out: &mut Answers) {
     if let Err(error) = file.write_all_at(bytes, at) {
-        out.fails(&error);
+        out.fail(&error);
     }
 }
 
@@ -74,7 +74,7 @@ fn made<R: Env + Files<File = File> + AllocGlobal>(
             Some(file)
         }
         Err(error) => {
-            out.fails(&error);
+            out.fail(&error);
             None
         }
     }
@@ -84,7 +84,7 @@ fn made<R: Env + Files<File = File> + AllocGlobal>(
 fn read(alloc: Global, file: &File, out: &mut Answers) {
     match content(alloc, file) {
         Ok(bytes) => write_bytes(out, &bytes, MOST_SHOWN),
-        Err(error) => out.fails(&error),
+        Err(error) => out.fail(&error),
     }
 }
 

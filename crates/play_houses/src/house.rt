@@ -27,7 +27,7 @@ fn write_refused(refused: HouseError, is_planned: bool, out: &mut Answers) {
     out.refusal(&refused);
     match refused {
         HouseError::Device => go_on(is_planned, out),
-        HouseError::Memory => out.lacks(),
+        HouseError::Memory => out.lack_memory(),
         _ => {}
     }
 }
@@ -65,7 +65,7 @@ fn spelled(alloc: Global, packet: &Packet, out: &mut Answers) -> Option<Vec<u8>>
         Ok(bytes) => Some(bytes),
         Err(EncodeError::TooBig) => None,
         Err(EncodeError::Memory) => {
-            out.lacks();
+            out.lack_memory();
             None
         }
     }

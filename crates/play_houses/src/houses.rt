@@ -67,7 +67,7 @@ fn made<D: Drop>(answer: io::Result<D>, out: &mut Answers) -> Option<D> {
         }
         Err(error) => {
             if error.kind() == ErrorKind::OutOfMemory {
-                out.lacks();
+                out.lack_memory();
             } else {
                 out.line("failed");
             }
@@ -220,7 +220,7 @@ impl Houses {
                     self.move_to(Place::File(Bench::of(disk, false)));
                 }
             }
-            Err(error) => out.fails(&error),
+            Err(error) => out.fail(&error),
         }
         Some(())
     }

@@ -31,12 +31,7 @@ pub fn printed(alloc: Global, program: &Program, out: &mut Answers) -> Option<Ve
     for _ in 0..2 {
         match print(alloc, program) {
             Ok(text) => return Some(text),
-            Err(refused) => {
-                out.refusal(&refused);
-                if refused != PrintError::Memory {
-                    return None;
-                }
-            }
+            Err(refused) => out.try_again(&refused, refused == PrintError::Memory)?,
         }
     }
     None
@@ -80,12 +75,7 @@ pub fn meaning(alloc: Global, job: &Job, turns: u64, out: &mut Answers) -> Optio
     for _ in 0..2 {
         match serial(alloc, job, turns) {
             Ok(outcome) => return Some(outcome),
-            Err(refused) => {
-                out.refusal(&refused);
-                if refused != SerialError::Memory {
-                    return None;
-                }
-            }
+            Err(refused) => out.try_again(&refused, refused == SerialError::Memory)?,
         }
     }
     None

@@ -11,7 +11,7 @@ fn list<T>(alloc: Global, copied: Result<Listed<T>, AllocError>, out: &mut Answe
     match copied {
         Ok(list) => list,
         Err(_) => {
-            out.lacks();
+            out.lack_memory();
             Listed::new(alloc)
         }
     }

@@ -50,7 +50,7 @@ fn add(bytes: &mut Vec<u8>, written: &str, out: &mut Answers) -> bool {
         if let Some(ended) = ended
             && bytes.push(ended).is_err()
         {
-            out.lacks();
+            out.lack_memory();
         }
         before = next;
     }

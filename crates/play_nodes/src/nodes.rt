@@ -137,7 +137,7 @@ impl Nodes {
 
     fn add(&mut self, player: Player, out: &mut Answers) {
         if let Err(refused) = self.players.push(player) {
-            out.lacks();
+            out.lack_memory();
             keep(refused.value);
         }
     }

@@ -12,15 +12,10 @@ pub fn read(alloc: Global, bytes: &[u8], out: &mut Answers) -> Option<Packet> {
     for _ in 0..2 {
         match decode(alloc, bytes) {
             Ok(packet) => return Some(packet),
-            Err(refused) => {
-                out.refusal(&refused);
-                if refused != ReadError::Memory {
-                    return None;
-                }
-            }
+            Err(refused) => out.try_again(&refused, refused == ReadError::Memory)?,
         }
     }
-    out.lacks();
+    out.lack_memory();
     None
 }
 
@@ -91,15 +86,10 @@ fn by(alloc: Global, packet: &Packet, way: Way, out: &mut Answers) -> Option<Vec
     for _ in 0..2 {
         match in_way(alloc, packet, way)? {
             Ok(bytes) => return Some(bytes),
-            Err(refused) => {
-                out.refusal(&refused);
-                if refused == EncodeError::TooBig {
-                    return None;
-                }
-            }
+            Err(refused) => out.try_again(&refused, refused == EncodeError::Memory)?,
         }
     }
-    out.lacks();
+    out.lack_memory();
     None
 }
 

@@ -60,7 +60,7 @@ impl Mail {
             datagram,
         };
         if self.sent.push(sent).is_err() {
-            out.lacks();
+            out.lack_memory();
         }
         self.sent.len() as u64
     }
@@ -122,7 +122,7 @@ impl Mail {
                 self.write_packet_sent(from, &packet, datagram, out);
                 let_go(packet);
             }
-            Err(ReadError::Memory) => out.lacks(),
+            Err(ReadError::Memory) => out.lack_memory(),
             Err(ReadError::Fault(fault)) => out.refusal_number(fault.number()),
         }
     }

@@ -91,7 +91,7 @@ fn fault(alloc: Global, bytes: &[u8], out: &mut Answers) -> Option<Fault> {
             Err(ReadError::Memory) => out.line("E9"),
         }
     }
-    out.lacks();
+    out.lack_memory();
     None
 }
 

@@ -13,12 +13,7 @@ pub fn program_in(alloc: Global, text: &[u8], out: &mut Answers) -> Option<Progr
     for _ in 0..2 {
         match parse(alloc, text) {
             Ok(program) => return Some(program),
-            Err(refused) => {
-                out.refusal(&refused);
-                if refused != ParseError::Memory {
-                    return None;
-                }
-            }
+            Err(refused) => out.try_again(&refused, refused == ParseError::Memory)?,
         }
     }
     None
@@ -29,12 +24,7 @@ pub fn accepted_in(alloc: Global, text: &[u8], out: &mut Answers) -> Option<Chec
     for _ in 0..2 {
         match check(alloc, program_in(alloc, text, out)?) {
             Ok(checked) => return Some(checked),
-            Err(refused) => {
-                out.refusal(&refused);
-                if refused != KindError::Memory {
-                    return None;
-                }
-            }
+            Err(refused) => out.try_again(&refused, refused == KindError::Memory)?,
         }
     }
     None
@@ -60,7 +50,7 @@ fn kept(alloc: Global, job: Job, out: &mut Answers) -> Option<&'static Job> {
     match Box::new(alloc, job) {
         Ok(kept) => Some(Box::leak(kept)),
         Err(refused) => {
-            out.lacks();
+            out.lack_memory();
             keep(refused.value);
             None
         }

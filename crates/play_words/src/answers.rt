@@ -32,12 +32,12 @@ impl Answers {
     }
 
     /// There was no memory: nothing more is written.
-    pub fn lacks(&mut self) {
+    pub fn lack_memory(&mut self) {
         self.ended = Some(Ended::Memory);
     }
 
     /// A file failed: nothing more is written.
-    pub fn fails(&mut self, error: &io::Error) {
+    pub fn fail(&mut self, error: &io::Error) {
         self.ended = Some(match error.kind() {
             ErrorKind::OutOfMemory => Ended::Memory,
             _ => Ended::Output,
@@ -54,7 +54,7 @@ impl Answers {
         match made {
             Ok(it) => Some(it),
             Err(_) => {
-                self.lacks();
+                self.lack_memory();
                 None
             }
         }
@@ -63,14 +63,14 @@ impl Answers {
     /// An item was put somewhere, or there was no memory for it, which is kept in mind.
     pub fn put(&mut self, put: Result<(), AllocError>) {
         if put.is_err() {
-            self.lacks();
+            self.lack_memory();
         }
     }
 
     /// Adds bytes.
     pub fn bytes(&mut self, bytes: &[u8]) {
         if self.ended.is_none() && self.text.extend_from_slice(bytes).is_err() {
-            self.lacks();
+            self.lack_memory();
         }
     }
 
@@ -91,14 +91,14 @@ impl Answers {
     /// Adds what a value is shown as.
     pub fn shown<T: Display>(&mut self, value: &T) {
         if self.ended.is_none() && write!(self.text, "{value}").is_err() {
-            self.lacks();
+            self.lack_memory();
         }
     }
 
     /// Adds what a value is shown as to whoever seeks a fault.
     pub fn debugged<T: Debug>(&mut self, value: &T) {
         if self.ended.is_none() && write!(self.text, "{value:?}").is_err() {
-            self.lacks();
+            self.lack_memory();
         }
     }
 
@@ -152,6 +152,12 @@ impl Answers {
         self.text("> ");
         self.shown(refused);
         self.end();
+    }
+
+    /// Answers a refusal. Where it is for want of memory, the call may be made once more.
+    pub fn try_again<T: Display>(&mut self, refused: &T, is_for_memory: bool) -> Option<()> {
+        self.refusal(refused);
+        is_for_memory.then_some(())
     }
 
     /// Answers the number of a refusal.

@@ -56,7 +56,7 @@ fn add(bytes: &mut Vec<u8>, text: &str, out: &mut Answers) -> bool {
         if let Some(ended) = ended
             && bytes.push(ended).is_err()
         {
-            out.lacks();
+            out.lack_memory();
         }
         before = next;
     }

@@ -37,7 +37,7 @@ fn add_numbers(list: &mut Vec<i64>, words: &str, may_be_empty: bool, out: &mut A
         match signed64(word) {
             Some(number) => {
                 if list.push(number).is_err() {
-                    out.lacks();
+                    out.lack_memory();
                 }
             }
             None => are_numbers = are_numbers && may_be_empty && word.is_empty(),

@@ -37,13 +37,13 @@ impl RunProgress {
     }
 
     /// So many events were carried out, and so many packets sent.
-    pub fn notes(&self, events: u64, packets: u64) {
+    pub fn note(&self, events: u64, packets: u64) {
         self.events.store(events, SeqCst);
         self.packets.store(packets, SeqCst);
     }
 
     /// The run has ended: nothing more is told of it.
-    pub fn ends(&self) {
+    pub fn end(&self) {
         self.ended.store(1, SeqCst);
     }
 

@@ -1,6 +1,5 @@
-ghost use Rattle.std.specs.Prelude.{◌≡◌, ◌==◌, ◌++◌, IfOk, IfSome, map, [], ◌∷◌};
+ghost use Rattle.std.specs.Prelude.{◌≡◌, ◌++◌, IfOk, IfSome, map, [], ◌∷◌};
 ghost use Rattle.task_tree.specs.declared.tree.Program.{Program};
-ghost use Rattle.frames.specs.Frames.{missing_in};
 ghost use Rattle.sub_rules.specs.Changes.{readied_in};
 ghost use Rattle.subcomputation.specs.Fitting.{Fits};
 ghost use Rattle.subcomputation.specs.Recovering.{recovered};
@@ -10,6 +9,7 @@ ghost use Rattle.recovery.specs.Plans.{stop_of};
 ghost use Rattle.recovery.specs.Told.{ComesTold, IsWhole, all_in, those};
 
 use crate::plan::{Stopped, make_plan};
+use frames::is_full;
 use ids::{Listed, Member, Named, SortedMap};
 use std::alloc::{AllocError, Global};
 use sub_rules::Readied;
@@ -76,13 +76,6 @@ fn ready_of(alloc: Global, sub: &Sub) -> Result<Listed<Readied>, AllocError>
         }
     }
     Ok(ready)
-}
-
-/// Whether no slot is empty.
-fn is_full(slots: &[Option<i64>]) -> bool
-    ensures { result ≡ (missing_in slots.now == 0) }
-{
-    slots.iter().filter(|slot| slot.is_none()).count() == 0
 }
 
 /// Ready frames, and behind them those that are ready again.

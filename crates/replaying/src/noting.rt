@@ -23,7 +23,7 @@ struct Noting<'p> {
 impl<'p> Watch for Noting<'p> {
     fn see(&mut self, _alloc: Global, _event: &Event, _told: EventAnswer, world: &World<'_>) {
         self.events = self.events.saturating_add(1);
-        self.progress.notes(self.events, world.packets() as u64);
+        self.progress.note(self.events, world.packets() as u64);
     }
 }
 
@@ -45,7 +45,7 @@ fn replay_noted(
         events: 0,
     };
     let replayed = replay_asked(alloc, job, script, names, &mut noting);
-    progress.ends();
+    progress.end();
     replayed
 }
 

@@ -57,12 +57,17 @@ pub fn file_word<'a>(alloc: Global) -> Arg<'a> {
         .help("The file of the program's text")
 }
 
+/// An option that has no word of its own.
+pub fn flag<'a>(alloc: Global, name: &'a str, help: &'a str) -> Arg<'a> {
+    Arg::new(alloc, name)
+        .long(name)
+        .action(ArgAction::SetTrue)
+        .help(help)
+}
+
 /// The option that asks for more of a fault than its line.
 pub fn explain_word<'a>(alloc: Global) -> Arg<'a> {
-    Arg::new(alloc, "explain")
-        .long("explain")
-        .action(ArgAction::SetTrue)
-        .help("Explains a fault, behind its line")
+    flag(alloc, "explain", "Explains a fault, behind its line")
 }
 
 /// An option whose word is a number from 0 on, with the one that is meant where it isn't given.
@@ -77,18 +82,20 @@ pub fn number_word<'a>(alloc: Global, name: &'a str, usual: &'a str, help: &'a s
 
 /// The option that asks for a line for each event of a replay.
 pub fn packets_word<'a>(alloc: Global) -> Arg<'a> {
-    Arg::new(alloc, "packets")
-        .long("packets")
-        .action(ArgAction::SetTrue)
-        .help("Tells each event, a line each: what it runs and sends, and which slots it fills")
+    flag(
+        alloc,
+        "packets",
+        "Tells each event, a line each: what it runs and sends, and which slots it fills",
+    )
 }
 
 /// The option by which the packets have to have the names that a script tells.
 pub fn names_word<'a>(alloc: Global) -> Arg<'a> {
-    Arg::new(alloc, "names")
-        .long("names")
-        .action(ArgAction::SetTrue)
-        .help("Compares the packets with the names that the script of `cilknow merge` tells")
+    flag(
+        alloc,
+        "names",
+        "Compares the packets with the names that the script of `cilknow merge` tells",
+    )
 }
 
 /// The words INPUT, the numbers of a job's input.

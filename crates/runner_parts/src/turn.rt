@@ -39,15 +39,12 @@ pub struct Finished {
 }
 
 impl Model for Finished {
-    ghost use Rattle.std.specs.Coded.{codes as known};
-    ghost use Rattle.task_tree.specs.contracts.tree.Expr as expr;
-    ghost use Rattle.task_tree.specs.contracts.tree.Block as block;
-    ghost use Rattle.task_tree.specs.contracts.tree.End as end;
+    ghost use Rattle.task_tree.specs.Codes.{program_codes};
     ghost use Rattle.runner_parts.specs.Turns.{FinishedOf, IsFinished};
 
     ghost Value = { FinishedOf };
 
-    ghost coded = { Prim.hlevel (known, expr.the_row.coded, block.the_row.coded, end.the_row.coded) };
+    ghost coded = { Prim.hlevel program_codes };
 
     ghost view = { λ f. record { program = f.program.value; evaluated = f.evaluated } };
 

@@ -65,12 +65,11 @@ impl ParseError {
 
 /// Why a program isn't printed.
 #[derive(Clone, Copy, Debug, PartialEq, Eq, Error)]
+#[error("E{number}", number = self.number())]
 pub enum PrintError {
     /// E3: the printed text would be over 65,536 bytes.
-    #[error("E{number}", number = self.number())]
     TooLong,
     /// E9: there is no memory.
-    #[error("E{number}", number = self.number())]
     Memory,
 }
 

@@ -32,15 +32,12 @@ pub struct FirstDisk<'a, D: SteadyDisk + Drop = MemDisk> {
 }
 
 impl<'a, D: SteadyDisk + Drop> Model for FirstDisk<'a, D> {
-    ghost use Rattle.std.specs.Coded.{codes as known};
-    ghost use Rattle.task_tree.specs.contracts.tree.Expr as expr;
-    ghost use Rattle.task_tree.specs.contracts.tree.Block as block;
-    ghost use Rattle.task_tree.specs.contracts.tree.End as end;
+    ghost use Rattle.task_tree.specs.Codes.{program_codes};
     ghost use Rattle.world_steps.specs.First.{FirstOf, IsFirstWith};
 
     ghost Value = { FirstOf D };
 
-    ghost coded = { Prim.hlevel (known, expr.the_row.coded, block.the_row.coded, end.the_row.coded) };
+    ghost coded = { Prim.hlevel program_codes };
 
     ghost view = { λ f. record { job = f.job.now; disk = f.disk; saved = f.saved } };
 

@@ -49,15 +49,12 @@ pub struct HouseSlot<'a, D: SteadyDisk + Drop> {
 }
 
 impl<'a, D: SteadyDisk + Drop> Model for HouseSlot<'a, D> {
-    ghost use Rattle.std.specs.Coded.{codes as known};
-    ghost use Rattle.task_tree.specs.contracts.tree.Expr as expr;
-    ghost use Rattle.task_tree.specs.contracts.tree.Block as block;
-    ghost use Rattle.task_tree.specs.contracts.tree.End as end;
+    ghost use Rattle.task_tree.specs.Codes.{program_codes};
     ghost use Rattle.world_steps.specs.Seats.{IsSeat, HouseSlotOf, disk_of, house_at};
 
     ghost Value = { HouseSlotOf };
 
-    ghost coded = { Prim.hlevel (known, expr.the_row.coded, block.the_row.coded, end.the_row.coded) };
+    ghost coded = { Prim.hlevel program_codes };
 
     ghost view = { λ s. record { job = s.job.now; house = house_at s.stand; disk = disk_of D.device s.stand } };
 

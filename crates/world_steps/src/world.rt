@@ -52,16 +52,13 @@ pub struct World<'a, D: SteadyDisk + Drop = MemDisk> {
 
 impl<'a, D: SteadyDisk + Drop> Model for World<'a, D> {
     ghost use Rattle.std.specs.Prelude.{◌&&◌};
-    ghost use Rattle.std.specs.Coded.{codes as known};
-    ghost use Rattle.task_tree.specs.contracts.tree.Expr as expr;
-    ghost use Rattle.task_tree.specs.contracts.tree.Block as block;
-    ghost use Rattle.task_tree.specs.contracts.tree.End as end;
+    ghost use Rattle.task_tree.specs.Codes.{program_codes};
     ghost use Rattle.world_steps.specs.Calls.{WorldOn};
     ghost use Rattle.world_steps.specs.Places.{IsWorld, ups};
 
     ghost Value = { WorldOn };
 
-    ghost coded = { Prim.hlevel (known, expr.the_row.coded, block.the_row.coded, end.the_row.coded) };
+    ghost coded = { Prim.hlevel program_codes };
 
     ghost view = { λ w. record { job = w.job.now; world = record { nodes = ups w.nodes.items; house = w.seat.house; disk = w.seat.disk; net = w.net.all; fills = w.fills.all; used = w.used }; is_placed = w.net.is_placed && w.fills.is_placed } };
 
@@ -219,7 +216,7 @@ impl<'a, D: SteadyDisk + Drop> World<'a, D> {
         ensures out_of_memory { OnErr result (RanOutOfMemory event.now self.old self.new) }
     {
         let before = Before::of(event, self.nodes.as_slice());
-        let told = self.carry_out(alloc, event, turn, whole)?;
+        let told = self.carry_out(alloc, turn, whole, event)?;
         self.count(event, before, told);
         Ok(told)
     }
@@ -241,9 +238,9 @@ impl<'a, D: SteadyDisk + Drop> World<'a, D> {
     fn carry_out(
         &mut self,
         alloc: Global,
-        event: &Event,
         turn: Option<&Done>,
         whole: Option<&Whole>,
+        event: &Event,
     ) -> Result<EventAnswer, NoMemory>
         requires turn { IsOfJob self.old.job (option_copied turn) }
         requires whole { IsWholeOfJob self.old.job (option_copied whole) }
